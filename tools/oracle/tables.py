@@ -104,7 +104,7 @@ SHAPES = {
         lambda p: len(p) == 1,
         lambda p, q: (p[0] == 1) == (q[0] == 1),
         lambda p: b"\1" if p[0] == 1 else b"\0"),
-    "truth_of_four": lambda: (
+    "boolean_of_four": lambda: (
         lambda p: len(p) == 4,
         lambda p, q: (number(p) == 0) == (number(q) == 0),
         lambda p: p32(0 if number(p) == 0 else 1)),
@@ -119,7 +119,7 @@ SHAPES = {
         lambda p: len(p) >= m,
         lambda p, q: p[:m] == q[:m],
         lambda p: p[:m] + bytes(n - m)),
-    "id_and_truth": lambda: (
+    "id_and_boolean": lambda: (
         lambda p: len(p) >= 8,
         lambda p, q: p[:4] == q[:4] and (p[4:8] == ZERO4) == (q[4:8] == ZERO4),
         lambda p: p[:4] + p32(0 if p[4:8] == ZERO4 else 1)),
@@ -166,7 +166,7 @@ class FirstRow:
 
     def __init__(self, table, context=None):
         self.table, self.context = table, context
-        self.words = "list first_alone %s" % table.name
+        self.words = "list first_only %s" % table.name
 
     def __repr__(self):
         return self.words
@@ -234,7 +234,7 @@ def list_row(form, name, context):
     table = TABLES[name]
     if form in ("of_kind_one", "ports"):
         table.keeps = 1
-    if form == "first_alone":
+    if form == "first_only":
         return FirstRow(table, context)
     return ListRow(table, context, refuse_empty=form in ("non_empty", "ports"))
 

@@ -4,7 +4,7 @@ use Rattle.std.specs.Prelude.{◌&&◌, ◌||◌, is_some}
 use Rattle.netlink_packet_core_grammar.specs.Attributes.{Attribute, first_attribute, if_some}
 use Rattle.netlink_packet_core_grammar.specs.AttributeViews.{IsAttribute, viewed_attribute, viewed_payload, after_first}
 use Rattle.netlink_packet_core_grammar.specs.Laws.{FirstIsViewed, FirstIsWithin}
-use Rattle.netlink_packet_core.specs.Families.{family_row, may_want_memory, accepts}
+use Rattle.netlink_packet_core.specs.Families.{family_row, may_allocate, accepts}
 use Rattle.attribute_tables_grammar.specs.Lists.{Row, is_of_kind_one}
 use Rattle.attribute_tables_grammar.specs.Tables.{Table}
 use Rattle.attribute_tables.specs.Views.{is_accepted_by}
@@ -30,9 +30,9 @@ module _ (first : FirstIsViewed) where
   begins-accepted rows may b h a = ap (λ w. w && (is_accepted_by rows b || may b)) (begun b h) ∙ ap (λ x. x || may b) a
 
   -- reading the first attribute may run out of memory
-  pub begins-wanting : (rows : ℕ → Row) (may : List ℕ → Bool) (b : List ℕ) → IsAttribute b → may b ≡ true → begins_readable rows may b ≡ true
+  pub begins-allocating : (rows : ℕ → Row) (may : List ℕ → Bool) (b : List ℕ) → IsAttribute b → may b ≡ true → begins_readable rows may b ≡ true
   unfolding begins_readable
-  begins-wanting rows may b h m = ap (λ w. w && (is_accepted_by rows b || may b)) (begun b h) ∙ or_right (is_accepted_by rows b) (may b) m
+  begins-allocating rows may b h m = ap (λ w. w && (is_accepted_by rows b || may b)) (begun b h) ∙ or_right (is_accepted_by rows b) (may b) m
 
   -- either the attribute is accepted, or reading it may run out of memory
   pub accepted-begins : (rows : ℕ → Row) (b : List ℕ) → IsAttribute b → is_accepted_by rows b ≡ true → begins_accepted rows b ≡ true
@@ -40,7 +40,7 @@ module _ (first : FirstIsViewed) where
   accepted-begins rows b h a = ap (λ w. w && is_accepted_by rows b) (begun b h) ∙ a
 
 -- reading a family's attribute runs out of memory only if the attribute is accepted
-pub family-begins : (t : Table) (b : List ℕ) → begins_readable (family_row t) (may_want_memory t) b ≡ true → begins_accepted (family_row t) b ≡ true
+pub family-begins : (t : Table) (b : List ℕ) → begins_readable (family_row t) (may_allocate t) b ≡ true → begins_accepted (family_row t) b ≡ true
 unfolding begins_readable begins_accepted
 family-begins t b e = either_accepted (begins_with_attribute b) (accepts t b) _ e
 
@@ -82,8 +82,8 @@ module _ (within : FirstIsWithin) where
     pub entries-accepted : (r : Row) (may : List ℕ → Bool) (b : List ℕ) → IsAttribute b → is_of_kind_one (viewed_attribute b) ≡ true → r.rule.accepted (viewed_payload b) ≡ true → entries_begin_readable r may b ≡ true
     entries-accepted r may b h one a = entries-here r may b h one (ap (λ x. x || may (viewed_payload b)) a)
 
-    pub entries-wanting : (r : Row) (may : List ℕ → Bool) (b : List ℕ) → IsAttribute b → is_of_kind_one (viewed_attribute b) ≡ true → may (viewed_payload b) ≡ true → entries_begin_readable r may b ≡ true
-    entries-wanting r may b h one m = entries-here r may b h one (or_right (r.rule.accepted (viewed_payload b)) (may (viewed_payload b)) m)
+    pub entries-allocating : (r : Row) (may : List ℕ → Bool) (b : List ℕ) → IsAttribute b → is_of_kind_one (viewed_attribute b) ≡ true → may (viewed_payload b) ≡ true → entries_begin_readable r may b ≡ true
+    entries-allocating r may b h one m = entries-here r may b h one (or_right (r.rule.accepted (viewed_payload b)) (may (viewed_payload b)) m)
 
     -- the first attribute is of another kind
     pub entries-past : (r : Row) (may : List ℕ → Bool) (b : List ℕ) → IsAttribute b → is_of_kind_one (viewed_attribute b) ≡ false → entries_begin_readable r may (after_first b) ≡ true → entries_begin_readable r may b ≡ true

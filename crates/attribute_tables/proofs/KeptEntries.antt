@@ -7,7 +7,7 @@ use Rattle.netlink_packet_core.specs.Lists.{text_by, all_fit_by}
 use Rattle.attribute_tables_grammar.specs.Lists.{nothing, Row, raw_row, of_kind_one, is_of_kind_one, row_of, rewrite, without_context}
 use Rattle.attribute_tables_grammar.specs.LookUps.{rows_rule, only_one}
 use Rattle.attribute_tables_grammar.specs.Readings.{written_by, reading_as, SoFar}
-use Rattle.attribute_tables_grammar.specs.Laws.{ReadingsGoBySteps, ReadingsTellRules}
+use Rattle.attribute_tables_grammar.specs.Laws.{ReadingsUnfold, ReadingsDetermineRules}
 use Rattle.attribute_tables.specs.Written.{written_as}
 use Rattle.attribute_tables.proofs.Lists.{all_written, entries_written}
 
@@ -25,7 +25,7 @@ pub record EntriesDone {V : Type 0} (r : Row) (entry : V → Attribute) (inside 
   pub canonical : text_by entry vs ≡ (rows_rule of_kind_one (only_one r)).canonical bytes
   pub fits : all_fit_by entry inside vs ≡ (rows_rule of_kind_one (only_one r)).fits bytes
 
-module _ (steps : ReadingsGoBySteps) {V : Type 0} (r : Row) (entry : V → Attribute) (inside : V → Bool) (bytes : List ℕ) where
+module _ (steps : ReadingsUnfold) {V : Type 0} (r : Row) (entry : V → Attribute) (inside : V → Bool) (bytes : List ℕ) where
   pub entries_start : Entries r entry inside bytes [] bytes
   entries_start = record { so_far = steps.start of_kind_one (without_context (only_one r)) bytes }
 
@@ -48,25 +48,25 @@ module _ (steps : ReadingsGoBySteps) {V : Type 0} (r : Row) (entry : V → Attri
   entries_past vs rest h other s = record { so_far = steps.past of_kind_one (without_context (only_one r)) bytes (map (written_as entry inside) vs) nothing rest h other s.so_far }
 
   -- the results of the rule, once the loop ends
-  module _ (tell : ReadingsTellRules) where
+  module _ (determine : ReadingsDetermineRules) where
     pub entries_refused : (vs : List V) (rest : List ℕ) → IsAttribute rest → is_of_kind_one (viewed_attribute rest) ≡ true → r.rule.accepted (viewed_payload rest) ≡ false → Entries r entry inside bytes vs rest → (rows_rule of_kind_one (only_one r)).accepted bytes ≡ false
     entries_refused vs rest h one a s =
         let g = without_context (only_one r) in
         let e = viewed_attribute rest in
-        tell.denies_rows of_kind_one (only_one r) bytes (tell.of_entries g bytes
+        determine.rejects_rows of_kind_one (only_one r) bytes (determine.of_entries g bytes
         ∙ steps.refused of_kind_one g bytes (map (written_as entry inside) vs) nothing rest h one (ap (λ (x : Row). x.rule.accepted e.payload) (sym (is_row r e one)) ∙ a) s.so_far)
 
     pub entries_stopped : (vs : List V) (rest : List ℕ) → (IsAttribute rest → ⊥) → 0 < length rest → Entries r entry inside bytes vs rest → (rows_rule of_kind_one (only_one r)).accepted bytes ≡ false
     entries_stopped vs rest h l s =
         let g = without_context (only_one r) in
-        tell.denies_rows of_kind_one (only_one r) bytes (tell.of_entries g bytes ∙ steps.stopped of_kind_one g bytes (map (written_as entry inside) vs) nothing rest h l s.so_far)
+        determine.rejects_rows of_kind_one (only_one r) bytes (determine.of_entries g bytes ∙ steps.stopped of_kind_one g bytes (map (written_as entry inside) vs) nothing rest h l s.so_far)
 
     pub entries_done : (vs : List V) (rest : List ℕ) → length rest ≡ 0 → Entries r entry inside bytes vs rest → EntriesDone r entry inside bytes vs
     entries_done vs rest l s =
         let g = without_context (only_one r) in
         let ws = map (written_as entry inside) vs in
-        let d : reading_as of_kind_one g bytes ≡ Some ws = tell.of_entries g bytes ∙ steps.done of_kind_one g bytes ws nothing rest l s.so_far in
-        let t = tell.tells_rows of_kind_one (only_one r) bytes ws d in
+        let d : reading_as of_kind_one g bytes ≡ Some ws = determine.of_entries g bytes ∙ steps.done of_kind_one g bytes ws nothing rest l s.so_far in
+        let t = determine.determines_rows of_kind_one (only_one r) bytes ws d in
         record {
           read = d;
           accepted = t.accepted;

@@ -22,19 +22,19 @@ unfoldable pub begins_readable : (ℕ → Row) → (List ℕ → Bool) → List 
 begins_readable rows may b = begins_with_attribute b && (is_accepted_by rows b || may b)
 
 -- Reading a payload may run out of memory: bytes and text if they are accepted, a list if its first attribute is.
-abbrev pub payload_may_want_memory : Option Payload → List ℕ → Bool
-payload_may_want_memory None p = true
-payload_may_want_memory (Some (list form t)) p = begins_accepted (family_row t) p
-payload_may_want_memory (Some s) p = payload_holds_bytes s && (payload_rule bytes_peer s).accepted p
+abbrev pub payload_may_allocate : Option Payload → List ℕ → Bool
+payload_may_allocate None p = true
+payload_may_allocate (Some (list form t)) p = begins_accepted (family_row t) p
+payload_may_allocate (Some s) p = payload_holds_bytes s && (payload_rule bytes_peer s).accepted p
 
 -- Reading the payload of an entry may run out of memory; the payload of a kind without one is kept as bytes.
-abbrev pub line_may_want_memory : Option Line → List ℕ → Bool
-line_may_want_memory None p = true
-line_may_want_memory (Some l) p = payload_may_want_memory (Some l.payload) p
+abbrev pub line_may_allocate : Option Line → List ℕ → Bool
+line_may_allocate None p = true
+line_may_allocate (Some l) p = payload_may_allocate (Some l.payload) p
 
 -- Reading the first attribute by its row in the table may run out of memory.
-abbrev pub table_may_want_memory : Table → List ℕ → Bool
-table_may_want_memory t b = line_may_want_memory (line_at t (proper_kind (viewed_kind b))) (viewed_payload b)
+abbrev pub table_may_allocate : Table → List ℕ → Bool
+table_may_allocate t b = line_may_allocate (line_at t (proper_kind (viewed_kind b))) (viewed_payload b)
 
 -- ---- lists of which the attributes of kind 1 are kept
 

@@ -10,12 +10,12 @@ use Rattle.attribute_tables_grammar.specs.Rules.{Rule}
 use Rattle.attribute_tables.specs.Written.{written_as}
 
 -- Ok only if `holds` is true, and an error other than out of memory only if it is false.
-abbrev pub SucceedsWhere : {T : Type 0} → Result T DecodeError → Bool → Type 0
-SucceedsWhere result holds = MatchResult result (λ _. IsTrue holds) (λ e. is_memory e ≡ false → holds ≡ false)
+abbrev pub SucceedsIf : {T : Type 0} → Result T DecodeError → Bool → Type 0
+SucceedsIf result holds = MatchResult result (λ _. IsTrue holds) (λ e. is_memory e ≡ false → holds ≡ false)
 
 -- Ok if and only if `holds` is true.
-abbrev pub SucceedsExactlyWhere : {T : Type 0} → Result T DecodeError → Bool → Type 0
-SucceedsExactlyWhere result holds = MatchResult result (λ _. IsTrue holds) (λ _. holds ≡ false)
+abbrev pub SucceedsExactlyIf : {T : Type 0} → Result T DecodeError → Bool → Type 0
+SucceedsExactlyIf result holds = MatchResult result (λ _. IsTrue holds) (λ _. holds ≡ false)
 
 -- Ok or out of memory only if `holds` is true, and any other error only if it is false.
 abbrev pub IsRefusedUnless : {T : Type 0} → Result T DecodeError → Bool → Type 0

@@ -8,10 +8,10 @@ ghost use Rattle.attribute_tables_grammar.specs.Lists.{Row, of_kind_one, ports, 
 ghost use Rattle.attribute_tables_grammar.specs.LookUps.{rows_rule, only_one};
 ghost use Rattle.attribute_tables_grammar.specs.Readings.{reading_as};
 ghost use Rattle.attribute_tables.specs.Beginnings.{entries_begin_readable};
-ghost use Rattle.attribute_tables.specs.Outcomes.{IfMemory, IsRewrittenBy, ListIsReadAs, ListIsWrittenBy, SucceedsWhere};
+ghost use Rattle.attribute_tables.specs.Outcomes.{IfMemory, IsRewrittenBy, ListIsReadAs, ListIsWrittenBy, SucceedsIf};
 
 use attribute_tables_grammar::laws::{
-    ports_are_entries, readings_go_by_steps, readings_tell_rules,
+    ports_are_entries, readings_unfold, readings_determine_rules,
 };
 use netlink_packet_core::{DecodeError, Nla, NlaBuffer, skip_first};
 use netlink_packet_core_grammar::laws::{first_attributes_are_viewed, first_attributes_are_within};
@@ -28,27 +28,27 @@ pub trait EntryReader {
     ghost entry_row: { Self → Row };
 
     /// The value is the variant of its row.
-    ghost names_row: { Self → Self.Value → Type 0 };
+    ghost is_row_variant: { Self → Self.Value → Type 0 };
 
     /// Whether reading the payload of an entry may run out of memory.
-    ghost may_want_memory: { Self → List ℕ → Bool };
+    ghost may_allocate: { Self → List ℕ → Bool };
 
     /// Reads one entry.
     ///
     /// # Errors
     ///
-    /// Out of memory only if `may_want_memory` holds; any other [`DecodeError`] only if the row
+    /// Out of memory only if `may_allocate` holds; any other [`DecodeError`] only if the row
     /// rejects the payload.
     fn read(&self, alloc: Global, buf: &NlaBuffer<&[u8]>) -> Result<Self::Value, DecodeError>
         requires whole { IsAttribute (storage buf.now).now }
         requires one { is_of_kind_one (viewed_attribute (storage buf.now).now) ≡ true }
-        ensures judged { SucceedsWhere result
+        ensures judged { SucceedsIf result
             ((entry_row self.now).rule.accepted (viewed_payload (storage buf.now).now)) }
         ensures written { IsRewrittenBy result Self.Value.entry Self.Value.inside_fits
             (entry_row self.now) (viewed_attribute (storage buf.now).now) }
-        ensures names_row { IfOk result (λ v. names_row self.now v) }
+        ensures is_row_variant { IfOk result (λ v. is_row_variant self.now v) }
         ensures memory { IfMemory result
-            (may_want_memory self.now (viewed_payload (storage buf.now).now) ≡ true) };
+            (may_allocate self.now (viewed_payload (storage buf.now).now) ≡ true) };
 }
 
 /// Reads a list of which the attributes of kind 1 are kept; every other attribute may hold any
@@ -64,20 +64,20 @@ pub fn parse_entries<R: EntryReader>(
     reader: &R,
     bytes: &[u8],
 ) -> Result<Vec<R::Value>, DecodeError>
-    ensures judged { SucceedsWhere result
+    ensures judged { SucceedsIf result
         ((rows_rule of_kind_one (only_one (R.entry_row reader.now))).accepted bytes.now) }
     ensures read { ListIsReadAs result R.Value.entry R.Value.inside_fits
         (reading_as of_kind_one (without_context (only_one (R.entry_row reader.now))) bytes.now) }
     ensures written { ListIsWrittenBy result R.Value.entry R.Value.inside_fits
         (rows_rule of_kind_one (only_one (R.entry_row reader.now))) bytes.now }
-    ensures names_row { IfOk result (λ v. All (R.names_row reader.now) v.items) }
+    ensures is_row_variant { IfOk result (λ v. All (R.is_row_variant reader.now) v.items) }
     ensures not_empty { IfErr result (λ _. 0 < length bytes.now) }
     ensures memory { IfMemory result
-        (entries_begin_readable (R.entry_row reader.now) (R.may_want_memory reader.now) bytes.now
+        (entries_begin_readable (R.entry_row reader.now) (R.may_allocate reader.now) bytes.now
         ≡ true) }
 {
-    readings_go_by_steps();
-    readings_tell_rules();
+    readings_unfold();
+    readings_determine_rules();
     first_attributes_are_viewed();
     first_attributes_are_within();
     let mut list = Vec::new(alloc);
@@ -103,16 +103,16 @@ pub fn parse_ports<R: EntryReader>(
     reader: &R,
     bytes: &[u8],
 ) -> Result<Vec<R::Value>, DecodeError>
-    ensures judged { SucceedsWhere result
+    ensures judged { SucceedsIf result
         ((rows_rule ports (only_one (R.entry_row reader.now))).accepted bytes.now) }
     ensures read { ListIsReadAs result R.Value.entry R.Value.inside_fits
         (reading_as ports (without_context (only_one (R.entry_row reader.now))) bytes.now) }
     ensures written { ListIsWrittenBy result R.Value.entry R.Value.inside_fits
         (rows_rule ports (only_one (R.entry_row reader.now))) bytes.now }
-    ensures names_row { IfOk result (λ v. All (R.names_row reader.now) v.items) }
+    ensures is_row_variant { IfOk result (λ v. All (R.is_row_variant reader.now) v.items) }
     ensures not_empty { IfMemory result (0 < length bytes.now) }
     ensures memory { IfMemory result
-        (entries_begin_readable (R.entry_row reader.now) (R.may_want_memory reader.now) bytes.now
+        (entries_begin_readable (R.entry_row reader.now) (R.may_allocate reader.now) bytes.now
         ≡ true) }
 {
     ports_are_entries();

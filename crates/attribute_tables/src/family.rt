@@ -4,17 +4,17 @@ ghost use Rattle.std.specs.Prelude.{◌≡◌, ◌<◌, true, length, IfOk, IfEr
 ghost use Rattle.std.specs.List.{All};
 ghost use Rattle.netlink_packet_core_grammar.specs.Attributes.{attribute_text};
 ghost use Rattle.netlink_packet_core_grammar.specs.Fits.{attribute_fits};
-ghost use Rattle.netlink_packet_core.specs.Families.{family_row, may_want_memory};
-ghost use Rattle.attribute_tables_grammar.specs.Lists.{any, first_alone, without_context};
+ghost use Rattle.netlink_packet_core.specs.Families.{family_row, may_allocate};
+ghost use Rattle.attribute_tables_grammar.specs.Lists.{any, first_only, without_context};
 ghost use Rattle.attribute_tables_grammar.specs.LookUps.{list_of};
 ghost use Rattle.attribute_tables_grammar.specs.Peers.{bytes_peer};
 ghost use Rattle.attribute_tables_grammar.specs.Readings.{reading_as};
 ghost use Rattle.attribute_tables.specs.Beginnings.{begins_accepted};
-ghost use Rattle.attribute_tables.specs.Outcomes.{IfMemory, IsRefusedUnless, IsWrittenBy, ListIsReadAs, ListIsWrittenBy, SucceedsWhere};
+ghost use Rattle.attribute_tables.specs.Outcomes.{IfMemory, IsRefusedUnless, IsWrittenBy, ListIsReadAs, ListIsWrittenBy, SucceedsIf};
 
 use super::reader::{Reader, parse_first_by, parse_list};
 use attribute_tables_grammar::laws::{
-    first_attributes_are_read_alone, readings_tell_rules, rows_are_looked_up,
+    single_first_attributes_are_read, readings_determine_rules, rows_are_looked_up,
     rows_without_lists_fit,
 };
 use netlink_packet_core::{DecodeError, Family, NlaBuffer, read_attribute};
@@ -40,9 +40,9 @@ impl<F: Family + Drop> Reader for FamilyReader<F> {
 
     ghost row_of = { λ _. family_row F.rows };
 
-    ghost names_row = { λ _. F.names_row };
+    ghost is_row_variant = { λ _. F.is_row_variant };
 
-    ghost may_want_memory = { λ _. may_want_memory F.rows };
+    ghost may_allocate = { λ _. may_allocate F.rows };
 
     #[tactic(auto, using(crate::proofs::Families::families))]
     fn read(&self, alloc: Global, buf: &NlaBuffer<&[u8]>) -> Result<F, DecodeError> {
@@ -59,12 +59,12 @@ impl<F: Family + Drop> Reader for FamilyReader<F> {
 /// other [`DecodeError`] only if the list isn't accepted.
 #[tactic(auto, using(crate::proofs::Families::family_lists))]
 pub fn parse_family<F: Family + Drop>(alloc: Global, bytes: &[u8]) -> Result<Vec<F>, DecodeError>
-    ensures judged { SucceedsWhere result ((list_of bytes_peer any F.rows).accepted bytes.now) }
+    ensures judged { SucceedsIf result ((list_of bytes_peer any F.rows).accepted bytes.now) }
     ensures read { ListIsReadAs result F.field_entry (λ _. true)
         (reading_as any (without_context (family_row F.rows)) bytes.now) }
     ensures written { ListIsWrittenBy result F.field_entry (λ _. true)
         (list_of bytes_peer any F.rows) bytes.now }
-    ensures names_row { IfOk result (λ v. All F.names_row v.items) }
+    ensures is_row_variant { IfOk result (λ v. All F.is_row_variant v.items) }
     ensures not_empty { IfErr result (λ _. 0 < length bytes.now) }
     ensures memory { IfMemory result (begins_accepted (family_row F.rows) bytes.now ≡ true) }
 {
@@ -81,16 +81,16 @@ pub fn parse_family<F: Family + Drop>(alloc: Global, bytes: &[u8]) -> Result<Vec
 /// allocation fails; any other [`DecodeError`] only if it isn't accepted.
 pub fn parse_first<F: Family + Drop>(alloc: Global, bytes: &[u8]) -> Result<F, DecodeError>
     ensures judged { IsRefusedUnless result
-        ((list_of bytes_peer first_alone F.rows).accepted bytes.now) }
+        ((list_of bytes_peer first_only F.rows).accepted bytes.now) }
     ensures written { IsWrittenBy result (λ v. attribute_text (F.field_entry v))
-        (λ v. attribute_fits (F.field_entry v)) (list_of bytes_peer first_alone F.rows) bytes.now }
-    ensures names_row { IfOk result (λ v. F.names_row v) }
+        (λ v. attribute_fits (F.field_entry v)) (list_of bytes_peer first_only F.rows) bytes.now }
+    ensures is_row_variant { IfOk result (λ v. F.is_row_variant v) }
     ensures not_empty { IfMemory result (0 < length bytes.now) }
-    ensures wants { IfMemory result (may_want_memory F.rows bytes.now ≡ true) }
+    ensures allocates { IfMemory result (may_allocate F.rows bytes.now ≡ true) }
     ensures memory { IfMemory result (begins_accepted (family_row F.rows) bytes.now ≡ true) }
 {
-    first_attributes_are_read_alone();
-    readings_tell_rules();
+    single_first_attributes_are_read();
+    readings_determine_rules();
     rows_are_looked_up();
     first_attributes_are_viewed();
     parse_first_by(alloc, &FamilyReader::<F>::new(), bytes)

@@ -6,15 +6,15 @@ ghost use Rattle.netlink_packet_core_grammar.specs.Attributes.{attribute_text};
 ghost use Rattle.netlink_packet_core_grammar.specs.AttributeViews.{viewed_attribute, IsAttribute};
 ghost use Rattle.netlink_packet_core_grammar.specs.Fits.{attribute_fits};
 ghost use Rattle.netlink_packet_core.specs.NlaBuffers.{storage};
-ghost use Rattle.attribute_tables_grammar.specs.Lists.{Row, any, first_alone, without_context};
+ghost use Rattle.attribute_tables_grammar.specs.Lists.{Row, any, first_only, without_context};
 ghost use Rattle.attribute_tables_grammar.specs.LookUps.{rows_rule};
 ghost use Rattle.attribute_tables_grammar.specs.Readings.{reading_as};
 ghost use Rattle.attribute_tables.specs.Views.{is_accepted_by, viewed_row};
 ghost use Rattle.attribute_tables.specs.Beginnings.{begins_readable};
-ghost use Rattle.attribute_tables.specs.Outcomes.{IfMemory, IsRewrittenBy, IsWrittenBy, ListIsReadAs, ListIsWrittenBy, SucceedsWhere};
+ghost use Rattle.attribute_tables.specs.Outcomes.{IfMemory, IsRewrittenBy, IsWrittenBy, ListIsReadAs, ListIsWrittenBy, SucceedsIf};
 
 use attribute_tables_grammar::laws::{
-    first_attributes_are_read_alone, readings_go_by_steps, readings_tell_rules,
+    single_first_attributes_are_read, readings_unfold, readings_determine_rules,
 };
 use netlink_packet_core::{DecodeError, Nla, NlaBuffer, skip_first};
 use netlink_packet_core_grammar::laws::first_attributes_are_viewed;
@@ -28,27 +28,27 @@ pub trait Reader {
     ghost row_of: { Self → ℕ → Row };
 
     /// The value is the variant of its row.
-    ghost names_row: { Self → Self.Value → Type 0 };
+    ghost is_row_variant: { Self → Self.Value → Type 0 };
 
     /// Whether reading an attribute may run out of memory.
-    ghost may_want_memory: { Self → List ℕ → Bool };
+    ghost may_allocate: { Self → List ℕ → Bool };
 
     /// Reads one attribute.
     ///
     /// # Errors
     ///
-    /// Out of memory only if `may_want_memory` holds; any other [`DecodeError`] only if the row
+    /// Out of memory only if `may_allocate` holds; any other [`DecodeError`] only if the row
     /// rejects the payload.
     fn read(&self, alloc: Global, buf: &NlaBuffer<&[u8]>) -> Result<Self::Value, DecodeError>
         requires { IsAttribute (storage buf.now).now }
-        ensures judged { SucceedsWhere result
+        ensures judged { SucceedsIf result
             (is_accepted_by (row_of self.now) (storage buf.now).now) }
         ensures written { IsRewrittenBy result Self.Value.entry Self.Value.inside_fits
             (viewed_row (row_of self.now) (storage buf.now).now)
             (viewed_attribute (storage buf.now).now) }
-        ensures names_row { IfOk result (λ v. names_row self.now v) }
+        ensures is_row_variant { IfOk result (λ v. is_row_variant self.now v) }
         ensures memory { IfMemory result
-            (may_want_memory self.now (storage buf.now).now ≡ true) };
+            (may_allocate self.now (storage buf.now).now ≡ true) };
 }
 
 /// Reads a list of attributes of one table. An empty list is accepted.
@@ -62,19 +62,19 @@ pub fn parse_list<R: Reader>(
     reader: &R,
     bytes: &[u8],
 ) -> Result<Vec<R::Value>, DecodeError>
-    ensures judged { SucceedsWhere result
+    ensures judged { SucceedsIf result
         ((rows_rule any (R.row_of reader.now)).accepted bytes.now) }
     ensures read { ListIsReadAs result R.Value.entry R.Value.inside_fits
         (reading_as any (without_context (R.row_of reader.now)) bytes.now) }
     ensures written { ListIsWrittenBy result R.Value.entry R.Value.inside_fits
         (rows_rule any (R.row_of reader.now)) bytes.now }
-    ensures names_row { IfOk result (λ v. All (R.names_row reader.now) v.items) }
+    ensures is_row_variant { IfOk result (λ v. All (R.is_row_variant reader.now) v.items) }
     ensures not_empty { IfErr result (λ _. 0 < length bytes.now) }
     ensures memory { IfMemory result
-        (begins_readable (R.row_of reader.now) (R.may_want_memory reader.now) bytes.now ≡ true) }
+        (begins_readable (R.row_of reader.now) (R.may_allocate reader.now) bytes.now ≡ true) }
 {
-    readings_go_by_steps();
-    readings_tell_rules();
+    readings_unfold();
+    readings_determine_rules();
     first_attributes_are_viewed();
     let mut list = Vec::new(alloc);
     let mut rest = bytes;
@@ -98,17 +98,17 @@ pub fn parse_first_by<R: Reader>(
     reader: &R,
     bytes: &[u8],
 ) -> Result<R::Value, DecodeError>
-    ensures judged { SucceedsWhere result
-        ((rows_rule first_alone (R.row_of reader.now)).accepted bytes.now) }
+    ensures judged { SucceedsIf result
+        ((rows_rule first_only (R.row_of reader.now)).accepted bytes.now) }
     ensures written { IsWrittenBy result (λ v. attribute_text (R.Value.entry v))
         (λ v. attribute_fits (R.Value.entry v) && R.Value.inside_fits v)
-        (rows_rule first_alone (R.row_of reader.now)) bytes.now }
-    ensures names_row { IfOk result (λ v. R.names_row reader.now v) }
+        (rows_rule first_only (R.row_of reader.now)) bytes.now }
+    ensures is_row_variant { IfOk result (λ v. R.is_row_variant reader.now v) }
     ensures whole { IfMemory result (IsAttribute bytes.now) }
-    ensures wants { IfMemory result (R.may_want_memory reader.now bytes.now ≡ true) }
+    ensures allocates { IfMemory result (R.may_allocate reader.now bytes.now ≡ true) }
 {
-    first_attributes_are_read_alone();
-    readings_tell_rules();
+    single_first_attributes_are_read();
+    readings_determine_rules();
     let buf = NlaBuffer::new_checked(bytes)?;
     let value = reader.read(alloc, &buf)?;
     Ok(value)

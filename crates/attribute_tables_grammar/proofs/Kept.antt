@@ -3,8 +3,8 @@ use Rattle.std.proofs.Common.{◌≡◌, ℕ, ◌<◌, Bool, true, false, cond, 
 use Rattle.std.specs.Prelude.{filter}
 use Rattle.netlink_packet_core_grammar.specs.Attributes.{Attribute, if_some, attributes_within, attributes_of}
 use Rattle.netlink_packet_core_grammar.proofs.Attributes.{attributes_cut}
-use Rattle.attribute_tables_grammar.specs.Lists.{ListForm, any, non_empty, of_kind_one, ports, first_alone, not_empty, read_as, is_of_kind_one, is_kept, kept}
-use Rattle.attribute_tables_grammar.specs.Walks.{IsWalked, WantsAttribute}
+use Rattle.attribute_tables_grammar.specs.Lists.{ListForm, any, non_empty, of_kind_one, ports, first_only, not_empty, read_as, is_of_kind_one, is_kept, kept}
+use Rattle.attribute_tables_grammar.specs.Walks.{IsWalked, RequiresAttribute}
 
 picked : (e : Attribute) (es : List Attribute) (b : Bool) → is_of_kind_one e ≡ b → filter is_of_kind_one (e ∷ es) ≡ cond b (e ∷ filter is_of_kind_one es) (filter is_of_kind_one es)
 picked e es b h = ap (λ b. cond b (e ∷ filter is_of_kind_one es) (filter is_of_kind_one es)) h
@@ -38,10 +38,10 @@ read_walked any bytes w = refl
 read_walked of_kind_one bytes w = refl
 read_walked non_empty bytes w = bytes_not_empty bytes w
 read_walked ports bytes w = bytes_not_empty bytes w
-read_walked first_alone bytes w = absurd w
+read_walked first_only bytes w = absurd w
 
 -- the empty list is rejected by a list kind that requires an attribute
-pub read_none : (form : ListForm) (bytes : List ℕ) → length bytes ≡ 0 → WantsAttribute form → read_as form bytes ≡ None
+pub read_none : (form : ListForm) (bytes : List ℕ) → length bytes ≡ 0 → RequiresAttribute form → read_as form bytes ≡ None
 unfolding attributes_within
 read_none non_empty [] l w = refl
 read_none ports [] l w = refl

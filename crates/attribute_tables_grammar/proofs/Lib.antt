@@ -6,13 +6,13 @@ pub mod Tables
 pub mod ShortTexts
 pub mod LookUps
 pub mod Peerless
-pub mod Renewed
+pub mod Migrated
 pub mod Together
-pub mod ReadAgain
+pub mod ReadBack
 pub mod Kept
 pub mod Readings
 pub mod Walks
 pub mod MeasureSteps
-pub mod OwnTexts
+pub mod AlreadyCanonical
 pub mod TextSteps
 pub mod SameSteps

@@ -7,9 +7,9 @@ use Rattle.netlink_packet_core_grammar.specs.Bytes.{AreBytes}
 use Rattle.netlink_packet_core_grammar.proofs.Attributes.{attributes_of_text, attributes_cut, got_is, sized, first_attribute_text, if_some-got, option_map-got}
 use Rattle.netlink_packet_core_grammar.proofs.Bytes.{AreBytes-first_attribute}
 use Rattle.netlink_packet_core_grammar.proofs.Sizes.{length-list_text}
-use Rattle.attribute_tables_grammar.specs.Rules.{Lawful, Renews}
-use Rattle.attribute_tables_grammar.specs.Lists.{Context, nothing, Row, Grammar, row_of, all_accepted, some_empty_ports, rewrite, rewritten, all_fit, attributes_inside, all_same, ListForm, any, non_empty, of_kind_one, ports, first_alone, not_empty, read_as, is_of_kind_one, kept, is_empty_ports, if_read, list_rule, LawfulGrammar}
-use Rattle.attribute_tables_grammar.proofs.Attributes.{proper_kind-written, RenewsRow, row_renews_itself, rewritten_again, accepted_again, fit_again, same_rewritten, rewritten_same, one_list}
+use Rattle.attribute_tables_grammar.specs.Rules.{Lawful, Migrates}
+use Rattle.attribute_tables_grammar.specs.Lists.{Context, nothing, Row, Grammar, row_of, all_accepted, some_empty_ports, rewrite, rewritten, all_fit, attributes_inside, all_same, ListForm, any, non_empty, of_kind_one, ports, first_only, not_empty, read_as, is_of_kind_one, kept, is_empty_ports, if_read, list_rule, LawfulGrammar}
+use Rattle.attribute_tables_grammar.proofs.Attributes.{proper_kind-written, MigratesRow, row_migrates_reflexive, rewritten_idempotent, accepts_canonical, all_fit_canonical, same_rewritten, rewritten_same, one_list}
 use Rattle.attribute_tables_grammar.proofs.Sizes.{weight, weight_within, weight-filter, weight-filter_le, AreAttributes, AreAttributes-cut, AreAttributes-filter, rewritten_small, counts, text_bytes}
 
 pub read_true : (f : List Attribute → Bool) (o : Option (List Attribute)) → if_read false f o ≡ true → (es : List Attribute) × (o ≡ Some es) × (f es ≡ true)
@@ -27,8 +27,8 @@ non_empty_attributes bytes es h =
     let s = if_some-got (attributes_of bytes) not_empty es h in
     s.1 ∙ ap Some (not_empty_is s.0 es s.2)
 
-first_alone_attribute : (bytes : List ℕ) (es : List Attribute) → read_as first_alone bytes ≡ Some es → (e : Attribute) × (rest : List ℕ) × (first_attribute bytes ≡ Some (e, rest)) × (es ≡ e ∷ [])
-first_alone_attribute bytes es h =
+first_only_attribute : (bytes : List ℕ) (es : List Attribute) → read_as first_only bytes ≡ Some es → (e : Attribute) × (rest : List ℕ) × (first_attribute bytes ≡ Some (e, rest)) × (es ≡ e ∷ [])
+first_only_attribute bytes es h =
     let s = option_map-got (λ (x : Attribute × List ℕ). x.0 ∷ []) (first_attribute bytes) es h in
     (s.0.0, s.0.1, s.1, sym s.2)
 
@@ -45,8 +45,8 @@ shown any bytes es h = all_shown bytes es h
 shown of_kind_one bytes es h = all_shown bytes es h
 shown non_empty bytes es h = all_shown bytes es (non_empty_attributes bytes es h)
 shown ports bytes es h = all_shown bytes es (non_empty_attributes bytes es h)
-shown first_alone bytes es h =
-    let l = first_alone_attribute bytes es h in
+shown first_only bytes es h =
+    let l = first_only_attribute bytes es h in
     record {
       size = rw l.3 (omega (arith, (sized bytes l.0 l.1 l.2).within));
       are_attributes = λ b. let f = AreBytes-first_attribute bytes l.0 l.1 l.2 b in rw l.3 (f.0, f.1, tt);
@@ -70,10 +70,10 @@ kept_count form es = omega arith
 -- ---- the encoding of the attributes that are kept
 
 module _ (g : Grammar) where
-  of_kind_one_again : (c : Context) (es : List Attribute) → filter is_of_kind_one (rewritten g c (filter is_of_kind_one es)) ≡ rewritten g c (filter is_of_kind_one es)
+  of_kind_one_canonical : (c : Context) (es : List Attribute) → filter is_of_kind_one (rewritten g c (filter is_of_kind_one es)) ≡ rewritten g c (filter is_of_kind_one es)
   unfolding rewritten
-  of_kind_one_again c [] = refl
-  of_kind_one_again c (e ∷ es) = go (is_of_kind_one e) refl (λ d. of_kind_one_again d es)
+  of_kind_one_canonical c [] = refl
+  of_kind_one_canonical c (e ∷ es) = go (is_of_kind_one e) refl (λ d. of_kind_one_canonical d es)
     where
       go : (t : Bool) → is_of_kind_one e ≡ t → ((d : Context) → filter is_of_kind_one (rewritten g d (filter is_of_kind_one es)) ≡ rewritten g d (filter is_of_kind_one es)) → filter is_of_kind_one (rewritten g c (cond t (e ∷ filter is_of_kind_one es) (filter is_of_kind_one es))) ≡ rewritten g c (cond t (e ∷ filter is_of_kind_one es) (filter is_of_kind_one es))
       go true is more =
@@ -101,30 +101,30 @@ module _ (g : Grammar) where
   read_non_empty rs h = ap (λ o. if_some o not_empty) (attributes_of_text rs) ∙ h
 
   -- the canonical encoding is read as the kept attributes in their canonical form, and keeps them all
-  pub read_again : (form : ListForm) (c : Context) (bytes : List ℕ) (es : List Attribute) → read_as form bytes ≡ Some es → is_empty_ports form (kept form es) ≡ false →
+  pub read_canonical : (form : ListForm) (c : Context) (bytes : List ℕ) (es : List Attribute) → read_as form bytes ≡ Some es → is_empty_ports form (kept form es) ≡ false →
       (read_as form (list_text (rewritten g c (kept form es))) ≡ Some (rewritten g c (kept form es))) × (kept form (rewritten g c (kept form es)) ≡ rewritten g c (kept form es))
   unfolding list_text rewritten
-  read_again any c bytes es h k = (attributes_of_text (rewritten g c es), refl)
-  read_again non_empty c bytes es h k = (read_non_empty (rewritten g c es) (rewritten_non_empty c es (non_empty_from_attributes bytes es h)), refl)
-  read_again of_kind_one c bytes es h k = (attributes_of_text (rewritten g c (filter is_of_kind_one es)), of_kind_one_again c es)
-  read_again ports c bytes es h k = (read_non_empty (rewritten g c (filter is_of_kind_one es)) (rewritten_non_empty c (filter is_of_kind_one es) (non_empty_from_kept (filter is_of_kind_one es) k)), of_kind_one_again c es)
-  read_again first_alone c bytes es h k =
-      let l = first_alone_attribute bytes es h in
+  read_canonical any c bytes es h k = (attributes_of_text (rewritten g c es), refl)
+  read_canonical non_empty c bytes es h k = (read_non_empty (rewritten g c es) (rewritten_non_empty c es (non_empty_from_attributes bytes es h)), refl)
+  read_canonical of_kind_one c bytes es h k = (attributes_of_text (rewritten g c (filter is_of_kind_one es)), of_kind_one_canonical c es)
+  read_canonical ports c bytes es h k = (read_non_empty (rewritten g c (filter is_of_kind_one es)) (rewritten_non_empty c (filter is_of_kind_one es) (non_empty_from_kept (filter is_of_kind_one es) k)), of_kind_one_canonical c es)
+  read_canonical first_only c bytes es h k =
+      let l = first_only_attribute bytes es h in
       let e' = rewrite (row_of g c l.0) l.0 in
-      let one : read_as first_alone (list_text (e' ∷ [])) ≡ Some (e' ∷ []) = ap (λ o. option_map (λ (x : Attribute × List ℕ). x.0 ∷ []) o) (first_attribute_text e' []) in
-      (subst (λ x. read_as first_alone (list_text (rewritten g c x)) ≡ Some (rewritten g c x)) (sym l.3) one, refl)
+      let one : read_as first_only (list_text (e' ∷ [])) ≡ Some (e' ∷ []) = ap (λ o. option_map (λ (x : Attribute × List ℕ). x.0 ∷ []) o) (first_attribute_text e' []) in
+      (subst (λ x. read_as first_only (list_text (rewritten g c x)) ≡ Some (rewritten g c x)) (sym l.3) one, refl)
 
-  pub keeps_again : (form : ListForm) (c : Context) (es : List Attribute) → is_empty_ports form (rewritten g c es) ≡ is_empty_ports form es
+  pub keeps_canonical : (form : ListForm) (c : Context) (es : List Attribute) → is_empty_ports form (rewritten g c es) ≡ is_empty_ports form es
   unfolding rewritten
-  keeps_again ports c [] = refl
-  keeps_again ports c (e ∷ es) = refl
-  keeps_again form c es = refl
+  keeps_canonical ports c [] = refl
+  keeps_canonical ports c (e ∷ es) = refl
+  keeps_canonical form c es = refl
 
   -- a list that keeps nothing and may not be empty
-  pub none_again : {A : Type 0} (d : A) (f : List Attribute → A) (form : ListForm) (c : Context) (es : List Attribute) → is_empty_ports form es ≡ true → (list_text (rewritten g c es) ≡ []) × (if_read d f (read_as form []) ≡ d)
+  pub none_canonical : {A : Type 0} (d : A) (f : List Attribute → A) (form : ListForm) (c : Context) (es : List Attribute) → is_empty_ports form es ≡ true → (list_text (rewritten g c es) ≡ []) × (if_read d f (read_as form []) ≡ d)
   unfolding list_text rewritten attributes_within
-  none_again d f ports c [] h = (refl, refl)
-  none_again d f form c es h = absurd cc
+  none_canonical d f ports c [] h = (refl, refl)
+  none_canonical d f form c es h = absurd cc
 
 -- the facts about accepted bytes
 pub record AcceptedList (form : ListForm) (g : Grammar) (bytes : List ℕ) : Type 0 where
@@ -140,7 +140,7 @@ accepted_list form g bytes a =
 
 -- ---- a list under other rows than those that wrote it
 
-module _ (form : ListForm) (g : Grammar) (lawful : LawfulGrammar g) (rows : Context → ℕ → Row) (renews : (c : Context) (k : ℕ) → RenewsRow (g.row c k) (rows c k)) where
+module _ (form : ListForm) (g : Grammar) (lawful : LawfulGrammar g) (rows : Context → ℕ → Row) (migrates : (c : Context) (k : ℕ) → MigratesRow (g.row c k) (rows c k)) where
   -- g with the other rows
   abbrev h : Grammar
   h = record { row = rows; next = g.next }
@@ -152,42 +152,42 @@ module _ (form : ListForm) (g : Grammar) (lawful : LawfulGrammar g) (rows : Cont
   canonical_by : (p : List ℕ) (k : AcceptedList form g p) → all_accepted h nothing (kept form k.es) ≡ true → (t : Bool) → is_empty_ports form (kept form k.es) ≡ t →
       (list_rule form h).canonical (list_text (rewritten g nothing (kept form k.es))) ≡ list_text (rewritten h nothing (kept form k.es))
   canonical_by p k b true t =
-      let m = none_again g [] (λ es. list_text (rewritten h nothing (kept form es))) form nothing (kept form k.es) t in
-      let n = none_again h [] (λ es. list_text (rewritten h nothing (kept form es))) form nothing (kept form k.es) t in
+      let m = none_canonical g [] (λ es. list_text (rewritten h nothing (kept form es))) form nothing (kept form k.es) t in
+      let n = none_canonical h [] (λ es. list_text (rewritten h nothing (kept form es))) form nothing (kept form k.es) t in
       ap (λ z. (list_rule form h).canonical z) m.0 ∙ n.1 ∙ sym n.0
   canonical_by p k b false t =
-      let s = read_again g form nothing p k.es k.reads t in
+      let s = read_canonical g form nothing p k.es k.reads t in
       ap (if_read [] (λ es. list_text (rewritten h nothing (kept form es)))) s.0
       ∙ ap (λ x. list_text (rewritten h nothing x)) s.1
-      ∙ ap list_text (rewritten_again g lawful rows renews nothing (kept form k.es) k.accepted b)
+      ∙ ap list_text (rewritten_idempotent g lawful rows migrates nothing (kept form k.es) k.accepted b)
 
   fits_by : (p : List ℕ) (k : AcceptedList form g p) → all_accepted h nothing (kept form k.es) ≡ true → (t : Bool) → all_fit h nothing (kept form k.es) ≡ true → is_empty_ports form (kept form k.es) ≡ t →
       (list_rule form h).fits (list_text (rewritten g nothing (kept form k.es))) ≡ true
   fits_by p k b true f is =
-      let n = none_again g true (λ es. all_fit h nothing (kept form es)) form nothing (kept form k.es) is in
+      let n = none_canonical g true (λ es. all_fit h nothing (kept form es)) form nothing (kept form k.es) is in
       ap (λ b. (list_rule form h).fits b) n.0 ∙ n.1
   fits_by p k b false f is =
-      let s = read_again g form nothing p k.es k.reads is in
-      ap (if_read true (λ es. all_fit h nothing (kept form es))) s.0 ∙ ap (all_fit h nothing) s.1 ∙ fit_again g lawful rows renews nothing (kept form k.es) k.accepted b f
+      let s = read_canonical g form nothing p k.es k.reads is in
+      ap (if_read true (λ es. all_fit h nothing (kept form es))) s.0 ∙ ap (all_fit h nothing) s.1 ∙ all_fit_canonical g lawful rows migrates nothing (kept form k.es) k.accepted b f
 
-  list_again : (p : List ℕ) → (list_rule form g).accepted p ≡ true → (list_rule form h).accepted p ≡ true → (list_rule form g).empty_ports p ≡ false →
+  list_canonical : (p : List ℕ) → (list_rule form g).accepted p ≡ true → (list_rule form h).accepted p ≡ true → (list_rule form g).empty_ports p ≡ false →
       ((list_rule form h).accepted ((list_rule form g).canonical p) ≡ true) × ((list_rule form h).empty_ports ((list_rule form g).canonical p) ≡ false)
-  list_again p a b m =
+  list_canonical p a b m =
       let k = accepted_list form g p a in
       let full : is_empty_ports form (kept form k.es) || some_empty_ports g nothing (kept form k.es) ≡ false =
       sym (ap (if_read false (λ es. is_empty_ports form (kept form es) || some_empty_ports g nothing (kept form es))) k.reads) ∙ m in
       let n = or_parts _ _ full in
-      let s = read_again g form nothing p k.es k.reads n.0 in
-      let o = accepted_again g lawful rows renews nothing (kept form k.es) k.accepted (accepted_too p k b) n.1 in (
+      let s = read_canonical g form nothing p k.es k.reads n.0 in
+      let o = accepts_canonical g lawful rows migrates nothing (kept form k.es) k.accepted (accepted_too p k b) n.1 in (
         ap (λ z. (list_rule form h).accepted z) k.canonical ∙ ap (if_read false (λ es. all_accepted h nothing (kept form es))) s.0 ∙ ap (all_accepted h nothing) s.1 ∙ o.0,
         ap (λ z. (list_rule form h).empty_ports z) k.canonical ∙ ap (if_read false (λ es. is_empty_ports form (kept form es) || some_empty_ports h nothing (kept form es))) s.0
-            ∙ ap (λ x. is_empty_ports form x || some_empty_ports h nothing x) s.1 ∙ or_from _ _ (keeps_again g form nothing (kept form k.es) ∙ n.0) o.1,
+            ∙ ap (λ x. is_empty_ports form x || some_empty_ports h nothing x) s.1 ∙ or_from _ _ (keeps_canonical g form nothing (kept form k.es) ∙ n.0) o.1,
       )
 
-  pub list_renews : Renews (list_rule form g) (list_rule form h)
-  list_renews = record {
-    accepted = λ p a b m. (list_again p a b m).0;
-    empty_ports = λ p a b m. (list_again p a b m).1;
+  pub list_migrates : Migrates (list_rule form g) (list_rule form h)
+  list_migrates = record {
+    accepted = λ p a b m. (list_canonical p a b m).0;
+    empty_ports = λ p a b m. (list_canonical p a b m).1;
     fits = λ p a b f.
         let k = accepted_list form g p a in
         let fit : all_fit h nothing (kept form k.es) ≡ true = sym (ap (if_read true (λ es. all_fit h nothing (kept form es))) k.reads) ∙ f in
@@ -199,8 +199,8 @@ module _ (form : ListForm) (g : Grammar) (lawful : LawfulGrammar g) (rows : Cont
   }
 
 module _ (form : ListForm) (g : Grammar) (lawful : LawfulGrammar g) where
-  itself : Renews (list_rule form g) (list_rule form g)
-  itself = list_renews form g lawful g.row (λ c k. row_renews_itself (g.row c k) (lawful.rows c k))
+  canonical_idempotent : Migrates (list_rule form g) (list_rule form g)
+  canonical_idempotent = list_migrates form g lawful g.row (λ c k. row_migrates_reflexive (g.row c k) (lawful.rows c k))
 
   -- a list's canonical encoding is at most 77 times as long
   pub list_small : (p : List ℕ) → (list_rule form g).accepted p ≡ true → length ((list_rule form g).canonical p) ≤ 77 * length p
@@ -212,16 +212,16 @@ module _ (form : ListForm) (g : Grammar) (lawful : LawfulGrammar g) where
 
   pub list_lawful : Lawful (list_rule form g)
   list_lawful = record {
-    again = λ p a m. (itself.accepted p a a m, itself.empty_ports p a a m);
-    fits_again = λ p a f. itself.fits p a a f;
-    itself = λ p a. itself.canonical p a a;
-    one_text = λ p q a b same.
+    canonical_accepted = λ p a m. (canonical_idempotent.accepted p a a m, canonical_idempotent.empty_ports p a a m);
+    canonical_fits = λ p a f. canonical_idempotent.fits p a a f;
+    canonical_idempotent = λ p a. canonical_idempotent.canonical p a a;
+    same_implies_equal_text = λ p q a b same.
         let k = accepted_list form g p a in
         let l = accepted_list form g q b in
         let h : all_same g nothing nothing (kept form k.es) (kept form l.es) ≡ true =
         sym (ap (if_read false (λ es. if_read false (λ fs. all_same g nothing nothing (kept form es) (kept form fs)) (read_as form q))) k.reads ∙ ap (if_read false (λ fs. all_same g nothing nothing (kept form k.es) (kept form fs))) l.reads) ∙ same in
         k.canonical ∙ ap list_text (same_rewritten g lawful nothing (kept form k.es) (kept form l.es) k.accepted l.accepted h) ∙ sym l.canonical;
-    one_meaning = λ p q a b e.
+    equal_text_implies_same = λ p q a b e.
         let k = accepted_list form g p a in
         let l = accepted_list form g q b in
         let lists = one_list (rewritten g nothing (kept form k.es)) (rewritten g nothing (kept form l.es)) (sym k.canonical ∙ e ∙ l.canonical) in

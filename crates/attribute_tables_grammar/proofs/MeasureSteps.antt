@@ -9,9 +9,9 @@ use Rattle.std.proofs.lemmas.Option.{cond_some}
 use Rattle.netlink_packet_core_grammar.specs.Attributes.{nla_align, list_text, Attribute, first_attribute, if_some, attributes_of}
 use Rattle.netlink_packet_core_grammar.proofs.Attributes.{sized}
 use Rattle.attribute_tables_grammar.specs.Rules.{Rule}
-use Rattle.attribute_tables_grammar.specs.Lists.{Context, nothing, Grammar, ListForm, any, non_empty, ports, first_alone, is_kept, kept, is_empty_ports, row_of, list_rule, if_read, all_accepted, rewritten, attributes_inside, all_fit, some_empty_ports}
-use Rattle.attribute_tables_grammar.specs.Walks.{Measure, measure, plus, none_yet, dropped, with_header, both, measures, walk, or_empty, walk_as, closed, IsWalked, WantsAttribute, IsMeasure}
-use Rattle.attribute_tables_grammar.specs.Laws.{MeasuresGoBySteps, MeasuresTellRules}
+use Rattle.attribute_tables_grammar.specs.Lists.{Context, nothing, Grammar, ListForm, any, non_empty, ports, first_only, is_kept, kept, is_empty_ports, row_of, list_rule, if_read, all_accepted, rewritten, attributes_inside, all_fit, some_empty_ports}
+use Rattle.attribute_tables_grammar.specs.Walks.{Measure, measure, plus, none_yet, dropped, with_header, both, measures, walk, or_empty, walk_as, closed, IsWalked, RequiresAttribute, IsMeasure}
+use Rattle.attribute_tables_grammar.specs.Laws.{MeasuresUnfold, MeasuresDetermineRules}
 use Rattle.attribute_tables_grammar.proofs.Kept.{kept_more, kept_past, bytes_not_empty, read_walked, read_none}
 use Rattle.attribute_tables_grammar.proofs.Walks.{both_assoc, walk_list, walk_end, walk_stop, walk_step}
 
@@ -90,8 +90,8 @@ ended form g bytes o w h = ap (option_map (closed form)) (sym h) ∙ whole_by fo
 
 -- ---- how a measure determines the results of the rule
 
-pub tells : (r : Rule) (p : List ℕ) (m : Measure) → Some m ≡ measure r p → IsMeasure r p m
-tells r p m h =
+pub determines : (r : Rule) (p : List ℕ) (m : Measure) → Some m ≡ measure r p → IsMeasure r p m
+determines r p m h =
     let k = cond_some (r.accepted p) (record { size = length (r.canonical p); attributes = r.attributes p; fits = r.fits p; empty_ports = r.empty_ports p }) m (sym h) in
     record {
       accepted = k.0;
@@ -101,35 +101,35 @@ tells r p m h =
       empty_ports = ap (λ (x : Measure). x.empty_ports) (sym k.1);
     }
 
-denies_by : (b : Bool) (m : Measure) → None ≡ cond b (Some m) None → b ≡ false
-denies_by true m h = absurd cc
-denies_by false m h = refl
+rejects_by : (b : Bool) (m : Measure) → None ≡ cond b (Some m) None → b ≡ false
+rejects_by true m h = absurd cc
+rejects_by false m h = refl
 
-pub denies : (r : Rule) (p : List ℕ) → None ≡ measure r p → r.accepted p ≡ false
-denies r p h = denies_by (r.accepted p) (record { size = length (r.canonical p); attributes = r.attributes p; fits = r.fits p; empty_ports = r.empty_ports p }) h
+pub rejects : (r : Rule) (p : List ℕ) → None ≡ measure r p → r.accepted p ≡ false
+rejects r p h = rejects_by (r.accepted p) (record { size = length (r.canonical p); attributes = r.attributes p; fits = r.fits p; empty_ports = r.empty_ports p }) h
 
 -- ---- the first attribute only, and list kinds that require one
 
-alone : (g : Grammar) → Option (Attribute × List ℕ) → Option Measure
-alone g o = if_some (option_map (λ x. x.0 ∷ []) o) (λ es. option_map (or_empty (is_empty_ports first_alone (kept first_alone es))) (measures first_alone g nothing es))
+single : (g : Grammar) → Option (Attribute × List ℕ) → Option Measure
+single g o = if_some (option_map (λ x. x.0 ∷ []) o) (λ es. option_map (or_empty (is_empty_ports first_only (kept first_only es))) (measures first_only g nothing es))
 
-alone_is : (g : Grammar) (bytes : List ℕ) (o : Option (Attribute × List ℕ)) → first_attribute bytes ≡ o → alone g o ≡ measure (list_rule first_alone g) bytes
-unfolding walk_as alone
-alone_is g bytes o f = ap (alone g) (sym f) ∙ walk_list first_alone g bytes
+single_is : (g : Grammar) (bytes : List ℕ) (o : Option (Attribute × List ℕ)) → first_attribute bytes ≡ o → single g o ≡ measure (list_rule first_only g) bytes
+unfolding walk_as single
+single_is g bytes o f = ap (single g) (sym f) ∙ walk_list first_only g bytes
 
-closed_alone : (q : Option Measure) → option_map with_header q ≡ option_map (or_empty false) (both (option_map with_header q) (Some none_yet))
-closed_alone None = refl
-closed_alone (Some m) = ap Some (sym (plus_end (with_header m)))
+closed_single : (q : Option Measure) → option_map with_header q ≡ option_map (or_empty false) (both (option_map with_header q) (Some none_yet))
+closed_single None = refl
+closed_single (Some m) = ap Some (sym (plus_end (with_header m)))
 
-pub first_some : (g : Grammar) (bytes : List ℕ) (e : Attribute) (after : List ℕ) (q : Option Measure) → first_attribute bytes ≡ Some (e, after) → q ≡ measure (row_of g nothing e).rule e.payload → option_map with_header q ≡ measure (list_rule first_alone g) bytes
-unfolding alone measures
-first_some g bytes e after q f is = ap (option_map with_header) is ∙ closed_alone (measure (row_of g nothing e).rule e.payload) ∙ alone_is g bytes (Some (e, after)) f
+pub first_some : (g : Grammar) (bytes : List ℕ) (e : Attribute) (after : List ℕ) (q : Option Measure) → first_attribute bytes ≡ Some (e, after) → q ≡ measure (row_of g nothing e).rule e.payload → option_map with_header q ≡ measure (list_rule first_only g) bytes
+unfolding single measures
+first_some g bytes e after q f is = ap (option_map with_header) is ∙ closed_single (measure (row_of g nothing e).rule e.payload) ∙ single_is g bytes (Some (e, after)) f
 
-pub first_none : (g : Grammar) (bytes : List ℕ) → first_attribute bytes ≡ None → None ≡ measure (list_rule first_alone g) bytes
-unfolding alone
-first_none g bytes f = alone_is g bytes None f
+pub first_none : (g : Grammar) (bytes : List ℕ) → first_attribute bytes ≡ None → None ≡ measure (list_rule first_only g) bytes
+unfolding single
+first_none g bytes f = single_is g bytes None f
 
-none_there : (form : ListForm) (g : Grammar) (bytes : List ℕ) → length bytes ≡ 0 → WantsAttribute form → None ≡ measure (list_rule form g) bytes
+none_there : (form : ListForm) (g : Grammar) (bytes : List ℕ) → length bytes ≡ 0 → RequiresAttribute form → None ≡ measure (list_rule form g) bytes
 unfolding walk_as
 none_there form g bytes l w =
     sym (ap (λ o. if_some o (λ es. option_map (or_empty (is_empty_ports form (kept form es))) (measures form g nothing es))) (read_none form bytes l w)) ∙ walk_list form g bytes
@@ -151,8 +151,8 @@ non_empty_any g bytes l = ap (whole_of g) (bytes_not_empty bytes l)
 
 -- ---- the laws
 
-pub measures_go_by_steps : MeasuresGoBySteps
-measures_go_by_steps = record {
+pub measures_unfold : MeasuresUnfold
+measures_unfold = record {
   start = λ form g bytes. record { whole = sym (both_start (walk form g nothing bytes)) };
   more = λ form g bytes rest c e after so_far m f k is h. record {
     whole = h.whole
@@ -168,7 +168,7 @@ measures_go_by_steps = record {
   done = λ form g bytes rest c so_far w l h. ended form g bytes (Some so_far) w (h.whole ∙ ap (both (Some so_far)) (walk_end form g c rest l) ∙ ap Some (plus_end so_far));
   small = λ r lawful rest e after m f is.
       let s = sized rest e after f in
-      let t = tells r e.payload m is in
+      let t = determines r e.payload m is in
       record {
         within = omega (arith, s.within, s.rest_length, t.size, lawful.bounded e.payload t.accepted);
         few = omega (arith, s.within, s.rest_length, t.attributes, lawful.counted e.payload t.accepted);
@@ -176,11 +176,11 @@ measures_go_by_steps = record {
       };
 }
 
-pub measures_tell_rules : MeasuresTellRules
-measures_tell_rules = record {
+pub measures_determine_rules : MeasuresDetermineRules
+measures_determine_rules = record {
   walked = walk_list;
-  tells = tells;
-  denies = denies;
+  determines = determines;
+  rejects = rejects;
   first_some = first_some;
   first_none = first_none;
   no_bytes = none_there;

@@ -10,9 +10,9 @@ use Rattle.netlink_packet_core_grammar.proofs.FirstAttribute.{first_attribute_is
 use Rattle.netlink_packet_core_grammar.proofs.Sizes.{length-list_text}
 use Rattle.attribute_tables_grammar.specs.Lists.{Context, nothing, Grammar, without_context, row_of, rewritten, all_accepted, some_empty_ports, all_fit, attributes_inside, ListForm, any, non_empty, of_kind_one, ports, not_empty, read_as, is_kept, kept, is_empty_ports, if_read, list_rule}
 use Rattle.attribute_tables_grammar.specs.LookUps.{rows_rule}
-use Rattle.attribute_tables_grammar.specs.Laws.{ReadingsGoBySteps, ReadingsTellRules, FirstAloneIsRead, PortsAreEntries}
-use Rattle.attribute_tables_grammar.specs.Walks.{WantsAttribute}
-use Rattle.attribute_tables_grammar.specs.Readings.{Written, written_by, written_list, reading, reading_as, all_written_fit, followed_by, Tells}
+use Rattle.attribute_tables_grammar.specs.Laws.{ReadingsUnfold, ReadingsDetermineRules, FirstOnlyIsRead, PortsAreEntries}
+use Rattle.attribute_tables_grammar.specs.Walks.{RequiresAttribute}
+use Rattle.attribute_tables_grammar.specs.Readings.{Written, written_by, written_list, reading, reading_as, all_written_fit, followed_by, Determines}
 use Rattle.attribute_tables_grammar.proofs.Kept.{kept_more, kept_past, kept_none, bytes_not_empty, read_none}
 
 -- ---- the steps
@@ -67,8 +67,8 @@ followed_twice : (us vs : List Written) (o : Option (List Written)) → followed
 followed_twice us vs None = refl
 followed_twice us vs (Some ws) = ap Some (sym (append_assoc us vs ws))
 
-pub readings_go_by_steps : ReadingsGoBySteps
-readings_go_by_steps = record {
+pub readings_unfold : ReadingsUnfold
+readings_unfold = record {
   start = λ form g bytes. record { whole = sym (followed_nil (reading form g nothing bytes)) };
   more = λ form g bytes ws c rest w h k a is s.
       let e = viewed_attribute rest in
@@ -113,7 +113,7 @@ ports_alike : (g : Grammar) (bytes : List ℕ) → 0 < length bytes → AlikeOn 
 ports_alike g bytes l = alike_by ports of_kind_one g bytes (bytes_not_empty bytes l) (λ es. refl)
 
 -- a list kind that requires an attribute rejects the empty list
-refuses : (form : ListForm) (g : Grammar) (bytes : List ℕ) → WantsAttribute form → length bytes ≡ 0 → (list_rule form g).accepted bytes ≡ false
+refuses : (form : ListForm) (g : Grammar) (bytes : List ℕ) → RequiresAttribute form → length bytes ≡ 0 → (list_rule form g).accepted bytes ≡ false
 refuses form g bytes w l = ap (if_read false (λ es. all_accepted g nothing (kept form es))) (read_none form bytes l w)
 
 pub non_empty_refuses : (g : Grammar) (bytes : List ℕ) → length bytes ≡ 0 → (list_rule non_empty g).accepted bytes ≡ false
@@ -126,28 +126,28 @@ no_text g c [] = refl
 no_text g c (e ∷ es) = sym (ne_eqb (length (list_text (rewritten g c (e ∷ es)))) 0 (λ z. absurd (omega (arith, z, length-list_text (rewritten g c (e ∷ es))))))
 
 -- legal ports are empty if and only if their encoding is, or a list of ports inside is
-ports_told : (g : Grammar) (o : Option (List Attribute)) → if_read false (λ es. all_accepted g nothing (kept ports es)) (if_some o not_empty) ≡ true →
+ports_empty : (g : Grammar) (o : Option (List Attribute)) → if_read false (λ es. all_accepted g nothing (kept ports es)) (if_some o not_empty) ≡ true →
     if_read false (λ es. is_empty_ports ports (kept ports es) || some_empty_ports g nothing (kept ports es)) (if_some o not_empty)
     ≡ ((length (if_read [] (λ es. list_text (rewritten g nothing (kept of_kind_one es))) o) == 0) || if_read false (λ es. is_empty_ports of_kind_one (kept of_kind_one es) || some_empty_ports g nothing (kept of_kind_one es)) o)
-ports_told g None h = absurd cc
-ports_told g (Some []) h = absurd cc
-ports_told g (Some (e ∷ es)) h = let ks = kept ports (e ∷ es) in ap (λ b. b || some_empty_ports g nothing ks) (no_text g nothing ks)
+ports_empty g None h = absurd cc
+ports_empty g (Some []) h = absurd cc
+ports_empty g (Some (e ∷ es)) h = let ks = kept ports (e ∷ es) in ap (λ b. b || some_empty_ports g nothing ks) (no_text g nothing ks)
 
 -- ---- one attribute, followed by any bytes
 
-pub first_attributes_are_read_alone : FirstAloneIsRead
+pub single_first_attributes_are_read : FirstOnlyIsRead
 unfolding reading_as written_list
-first_attributes_are_read_alone = record {
+single_first_attributes_are_read = record {
   read = λ g bytes w h a is.
       let e = viewed_attribute bytes in
-      alone g (first_attribute_is bytes h) ∙ ap (λ b. cond b (Some (written_by (row_of g nothing e) e ∷ [])) None) a ∙ ap (λ x. Some (x ∷ [])) (sym is);
-  refused = λ g bytes h a. let e = viewed_attribute bytes in alone g (first_attribute_is bytes h) ∙ ap (λ b. cond b (Some (written_by (row_of g nothing e) e ∷ [])) None) a;
-  missing = λ g bytes h. alone g (first_attribute_none bytes h);
+      single g (first_attribute_is bytes h) ∙ ap (λ b. cond b (Some (written_by (row_of g nothing e) e ∷ [])) None) a ∙ ap (λ x. Some (x ∷ [])) (sym is);
+  refused = λ g bytes h a. let e = viewed_attribute bytes in single g (first_attribute_is bytes h) ∙ ap (λ b. cond b (Some (written_by (row_of g nothing e) e ∷ [])) None) a;
+  missing = λ g bytes h. single g (first_attribute_none bytes h);
 }
   where
-    alone : (g : Grammar) {o p : Option (Attribute × List ℕ)} → o ≡ p →
+    single : (g : Grammar) {o p : Option (Attribute × List ℕ)} → o ≡ p →
         if_some (option_map (λ (x : Attribute × List ℕ). x.0 ∷ []) o) (λ es. written_list g nothing es) ≡ if_some (option_map (λ (x : Attribute × List ℕ). x.0 ∷ []) p) (λ es. written_list g nothing es)
-    alone g = ap (λ o. if_some (option_map (λ (x : Attribute × List ℕ). x.0 ∷ []) o) (λ es. written_list g nothing es))
+    single g = ap (λ o. if_some (option_map (λ (x : Attribute × List ℕ). x.0 ∷ []) o) (λ es. written_list g nothing es))
 
 -- ---- how a reading determines the results of the rule
 
@@ -185,51 +185,51 @@ list_or : Option (List Written) → List Written
 list_or None = []
 list_or (Some ws) = ws
 
-tells_by : (g : Grammar) (es : List Attribute) (ws : List Written) (b : Bool) → all_accepted g nothing es ≡ b → cond b (Some (written_all g nothing es)) None ≡ some_list ws → (all_accepted g nothing es ≡ true) × (written_all g nothing es ≡ ws)
+determines_by : (g : Grammar) (es : List Attribute) (ws : List Written) (b : Bool) → all_accepted g nothing es ≡ b → cond b (Some (written_all g nothing es)) None ≡ some_list ws → (all_accepted g nothing es ≡ true) × (written_all g nothing es ≡ ws)
 unfolding list_or some_list
-tells_by g es ws true a h = (a, ap list_or h)
-tells_by g es ws false a h = absurd cc
+determines_by g es ws true a h = (a, ap list_or h)
+determines_by g es ws false a h = absurd cc
 
-tells_in : (form : ListForm) (g : Grammar) (o : Option (List Attribute)) (ws : List Written) → if_some o (λ es. written_list g nothing (kept form es)) ≡ some_list ws →
+determines_in : (form : ListForm) (g : Grammar) (o : Option (List Attribute)) (ws : List Written) → if_some o (λ es. written_list g nothing (kept form es)) ≡ some_list ws →
     (if_read false (λ es. all_accepted g nothing (kept form es)) o ≡ true) × (if_read [] (λ es. list_text (rewritten g nothing (kept form es))) o ≡ list_text (map (λ (w : Written). w.entry) ws)) × (if_read true (λ es. all_fit g nothing (kept form es)) o ≡ all_written_fit ws)
 unfolding some_list
-tells_in form g None ws h = absurd cc
-tells_in form g (Some es) ws h =
+determines_in form g None ws h = absurd cc
+determines_in form g (Some es) ws h =
     let ks = kept form es in
-    let t = tells_by g ks ws (all_accepted g nothing ks) refl (sym (found g nothing ks) ∙ h) in
+    let t = determines_by g ks ws (all_accepted g nothing ks) refl (sym (found g nothing ks) ∙ h) in
     (t.0, ap list_text (sym (entries_of g nothing ks) ∙ ap (map (λ (w : Written). w.entry)) t.1), sym (fits_of g nothing ks) ∙ ap all_written_fit t.1)
 
-tells : (form : ListForm) (g : Grammar) (bytes : List ℕ) (ws : List Written) → reading_as form g bytes ≡ Some ws → Tells (list_rule form g) bytes ws
+determines : (form : ListForm) (g : Grammar) (bytes : List ℕ) (ws : List Written) → reading_as form g bytes ≡ Some ws → Determines (list_rule form g) bytes ws
 unfolding reading_as some_list
-tells form g bytes ws h =
-    let t = tells_in form g (read_as form bytes) ws h in
+determines form g bytes ws h =
+    let t = determines_in form g (read_as form bytes) ws h in
     record { accepted = t.0; canonical = t.1; fits = t.2 }
 
-denies_by : (b : Bool) (ws : List Written) → cond b (some_list ws) None ≡ None → b ≡ false
+rejects_by : (b : Bool) (ws : List Written) → cond b (some_list ws) None ≡ None → b ≡ false
 unfolding some_list
-denies_by true ws h = absurd cc
-denies_by false ws h = refl
+rejects_by true ws h = absurd cc
+rejects_by false ws h = refl
 
-denies_in : (form : ListForm) (g : Grammar) (o : Option (List Attribute)) → if_some o (λ es. written_list g nothing (kept form es)) ≡ None → if_read false (λ es. all_accepted g nothing (kept form es)) o ≡ false
+rejects_in : (form : ListForm) (g : Grammar) (o : Option (List Attribute)) → if_some o (λ es. written_list g nothing (kept form es)) ≡ None → if_read false (λ es. all_accepted g nothing (kept form es)) o ≡ false
 unfolding some_list
-denies_in form g None h = refl
-denies_in form g (Some es) h = let ks = kept form es in denies_by (all_accepted g nothing ks) (written_all g nothing ks) (sym (found g nothing ks) ∙ h)
+rejects_in form g None h = refl
+rejects_in form g (Some es) h = let ks = kept form es in rejects_by (all_accepted g nothing ks) (written_all g nothing ks) (sym (found g nothing ks) ∙ h)
 
-denies : (form : ListForm) (g : Grammar) (bytes : List ℕ) → reading_as form g bytes ≡ None → (list_rule form g).accepted bytes ≡ false
+rejects : (form : ListForm) (g : Grammar) (bytes : List ℕ) → reading_as form g bytes ≡ None → (list_rule form g).accepted bytes ≡ false
 unfolding reading_as
-denies form g bytes h = denies_in form g (read_as form bytes) h
+rejects form g bytes h = rejects_in form g (read_as form bytes) h
 
 -- ---- the laws
 
-pub readings_tell_rules : ReadingsTellRules
+pub readings_determine_rules : ReadingsDetermineRules
 unfolding reading_as reading rows_rule
-readings_tell_rules = record {
+readings_determine_rules = record {
   of_any = λ g bytes. refl;
   of_entries = λ g bytes. refl;
-  tells = tells;
-  denies = denies;
-  tells_rows = λ form f bytes ws h. let t = tells form (without_context f) bytes ws h in record { accepted = t.accepted; canonical = t.canonical; fits = t.fits };
-  denies_rows = λ form f. denies form (without_context f);
+  determines = determines;
+  rejects = rejects;
+  determines_rows = λ form f bytes ws h. let t = determines form (without_context f) bytes ws h in record { accepted = t.accepted; canonical = t.canonical; fits = t.fits };
+  rejects_rows = λ form f. rejects form (without_context f);
 }
 
 pub ports_are_entries : PortsAreEntries
@@ -241,5 +241,5 @@ ports_are_entries = record {
   attributes = λ f bytes l. (ports_alike (without_context f) bytes l).attributes;
   read = λ f bytes l. (ports_alike (without_context f) bytes l).read;
   empty = λ f bytes. refuses ports (without_context f) bytes tt;
-  empty_ports = λ f bytes. ports_told (without_context f) (attributes_of bytes);
+  empty_ports = λ f bytes. ports_empty (without_context f) (attributes_of bytes);
 }

@@ -8,32 +8,32 @@ use Rattle.netlink_packet_core_grammar.specs.Attributes.{Attribute, proper_kind,
 use Rattle.netlink_packet_core_grammar.specs.Texts.{without_nul}
 use Rattle.netlink_packet_core_grammar.proofs.FirstAttribute.{attributes_step, attributes_stop}
 use Rattle.attribute_tables_grammar.specs.Rules.{Rule}
-use Rattle.attribute_tables_grammar.specs.Lists.{Context, nothing, Row, Grammar, row_of, row_at, same_kind, same_attribute, all_same, ListForm, non_empty, ports, first_alone, read_as, is_kept, kept, if_read}
+use Rattle.attribute_tables_grammar.specs.Lists.{Context, nothing, Row, Grammar, row_of, row_at, same_kind, same_attribute, all_same, ListForm, non_empty, ports, first_only, read_as, is_kept, kept, if_read}
 use Rattle.attribute_tables_grammar.specs.Tables.{info_row, info_next, names_grammar}
 use Rattle.attribute_tables_grammar.specs.Sameness.{kept_of, same_kept, same_walk, same_kinds}
-use Rattle.attribute_tables_grammar.specs.Laws.{KeptBySteps, SamenessGoesBySteps, AttributesAreCompared}
+use Rattle.attribute_tables_grammar.specs.Laws.{KeptAttributesUnfold, SamenessUnfolds, AttributesAreCompared}
 use Rattle.attribute_tables_grammar.proofs.Kept.{kept_more, kept_past, kept_none, bytes_not_empty, read_walked, read_none}
 
 -- ---- the attributes that a list keeps
 
-kept_front : (form : ListForm) (e : Attribute) → is_kept form e ≡ true → (o : Option (List Attribute)) → option_map (kept form) (option_map (λ es. e ∷ es) o) ≡ option_map (λ es. e ∷ es) (option_map (kept form) o)
-kept_front form e k None = refl
-kept_front form e k (Some es) = ap Some (kept_more form e es k)
+kept_first : (form : ListForm) (e : Attribute) → is_kept form e ≡ true → (o : Option (List Attribute)) → option_map (kept form) (option_map (λ es. e ∷ es) o) ≡ option_map (λ es. e ∷ es) (option_map (kept form) o)
+kept_first form e k None = refl
+kept_first form e k (Some es) = ap Some (kept_more form e es k)
 
-dropped_front : (form : ListForm) (e : Attribute) → is_kept form e ≡ false → (o : Option (List Attribute)) → option_map (kept form) (option_map (λ es. e ∷ es) o) ≡ option_map (kept form) o
-dropped_front form e k None = refl
-dropped_front form e k (Some es) = ap Some (kept_past form e es k)
+dropped_first : (form : ListForm) (e : Attribute) → is_kept form e ≡ false → (o : Option (List Attribute)) → option_map (kept form) (option_map (λ es. e ∷ es) o) ≡ option_map (kept form) o
+dropped_first form e k None = refl
+dropped_first form e k (Some es) = ap Some (kept_past form e es k)
 
 none_kept : (form : ListForm) (rest : List ℕ) → length rest ≡ 0 → kept_of form rest ≡ Some []
 unfolding kept_of attributes_within
 none_kept form [] l = ap Some (kept_none form)
 none_kept form (b ∷ rest) l = absurd (omega arith)
 
-pub kept_by_steps : KeptBySteps
+pub kept_lists_unfold : KeptAttributesUnfold
 unfolding kept_of
-kept_by_steps = record {
-  more = λ form rest e after f k. ap (option_map (kept form)) (attributes_step rest e after f) ∙ kept_front form e k (attributes_of after);
-  past = λ form rest e after f k. ap (option_map (kept form)) (attributes_step rest e after f) ∙ dropped_front form e k (attributes_of after);
+kept_lists_unfold = record {
+  more = λ form rest e after f k. ap (option_map (kept form)) (attributes_step rest e after f) ∙ kept_first form e k (attributes_of after);
+  past = λ form rest e after f k. ap (option_map (kept form)) (attributes_step rest e after f) ∙ dropped_first form e k (attributes_of after);
   ended = none_kept;
   stopped = λ form rest f l. ap (option_map (kept form)) (attributes_stop rest f l);
 }
@@ -41,28 +41,28 @@ kept_by_steps = record {
 -- ---- two lists
 
 module _ (g : Grammar) (c : Context) where
-  front_same : (e f : Attribute) → same_attribute (row_of g c e) (row_of g c f) e f ≡ true → g.next c e ≡ g.next c f → (o p : Option (List Attribute)) →
+  first_attributes_equal : (e f : Attribute) → same_attribute (row_of g c e) (row_of g c f) e f ≡ true → g.next c e ≡ g.next c f → (o p : Option (List Attribute)) →
       same_kept g (g.next c e) (g.next c e) o p ≡ same_kept g c c (option_map (λ es. e ∷ es) o) (option_map (λ es. f ∷ es) p)
   unfolding same_kept all_same
-  front_same e f s n None p = refl
-  front_same e f s n (Some es) None = refl
-  front_same e f s n (Some es) (Some fs) = ap (λ d. all_same g (g.next c e) d es fs) n ∙ ap (λ b. b && all_same g (g.next c e) (g.next c f) es fs) (sym s)
+  first_attributes_equal e f s n None p = refl
+  first_attributes_equal e f s n (Some es) None = refl
+  first_attributes_equal e f s n (Some es) (Some fs) = ap (λ d. all_same g (g.next c e) d es fs) n ∙ ap (λ b. b && all_same g (g.next c e) (g.next c f) es fs) (sym s)
 
-  front_differs : (e f : Attribute) → same_attribute (row_of g c e) (row_of g c f) e f ≡ false → (o p : Option (List Attribute)) →
+  first_differs : (e f : Attribute) → same_attribute (row_of g c e) (row_of g c f) e f ≡ false → (o p : Option (List Attribute)) →
       false ≡ same_kept g c c (option_map (λ es. e ∷ es) o) (option_map (λ es. f ∷ es) p)
   unfolding same_kept all_same
-  front_differs e f s None p = refl
-  front_differs e f s (Some es) None = refl
-  front_differs e f s (Some es) (Some fs) = ap (λ b. b && all_same g (g.next c e) (g.next c f) es fs) (sym s)
+  first_differs e f s None p = refl
+  first_differs e f s (Some es) None = refl
+  first_differs e f s (Some es) (Some fs) = ap (λ b. b && all_same g (g.next c e) (g.next c f) es fs) (sym s)
 
 -- a test that fails for each list also fails for each with one more attribute at the start
 never : (f : List Attribute → Bool) → ((es : List Attribute) → false ≡ f es) → (o : Option (List Attribute)) → false ≡ if_read false f o
 never f h None = refl
 never f h (Some es) = h es
 
-never_behind : (f : List Attribute → Bool) (e : Attribute) → ((es : List Attribute) → false ≡ f (e ∷ es)) → (o : Option (List Attribute)) → false ≡ if_read false f (option_map (λ es. e ∷ es) o)
-never_behind f e h None = refl
-never_behind f e h (Some es) = h es
+never_following : (f : List Attribute → Bool) (e : Attribute) → ((es : List Attribute) → false ≡ f (e ∷ es)) → (o : Option (List Attribute)) → false ≡ if_read false f (option_map (λ es. e ∷ es) o)
+never_following f e h None = refl
+never_following f e h (Some es) = h es
 
 -- ---- whole lists, by their list kind
 
@@ -81,29 +81,29 @@ no_right_read g form = never (λ es. false) (λ es. refl)
 
 -- ---- the first attribute only
 
-alone : Option (Attribute × List ℕ) → Option (List Attribute)
-alone o = option_map (λ x. x.0 ∷ []) o
+single : Option (Attribute × List ℕ) → Option (List Attribute)
+single o = option_map (λ x. x.0 ∷ []) o
 
 and_end : (b : Bool) → b ≡ (b && true)
 and_end true = refl
 and_end false = refl
 
-pub sameness_goes_by_steps : SamenessGoesBySteps
-unfolding same_walk same_kept kept_of same_read alone all_same
-sameness_goes_by_steps = record {
+pub sameness_unfolds : SamenessUnfolds
+unfolding same_walk same_kept kept_of same_read single all_same
+sameness_unfolds = record {
   whole = λ form g a b w v. plain_whole form g (attributes_of a) (attributes_of b) ∙ (λ i. same_read g form (sym (read_walked form a w) i) (sym (read_walked form b v) i));
-  more = λ form g c a b e f x y h k s n. front_same g c e f s n (kept_of form x) (kept_of form y) ∙ (λ i. same_kept g c c (sym h i) (sym k i));
-  differs = λ form g c a b e f x y h k s. front_differs g c e f s (kept_of form x) (kept_of form y) ∙ (λ i. same_kept g c c (sym h i) (sym k i));
+  more = λ form g c a b e f x y h k s n. first_attributes_equal g c e f s n (kept_of form x) (kept_of form y) ∙ (λ i. same_kept g c c (sym h i) (sym k i));
+  differs = λ form g c a b e f x y h k s. first_differs g c e f s (kept_of form x) (kept_of form y) ∙ (λ i. same_kept g c c (sym h i) (sym k i));
   ended = λ form g c a b h k. λ i. same_kept g c c (sym h i) (sym k i);
-  left_ended = λ form g c a b f y h k. never_behind (λ fs. all_same g c c [] fs) f (λ fs. refl) (kept_of form y) ∙ (λ i. same_kept g c c (sym h i) (sym k i));
-  right_ended = λ form g c a b e x h k. never_behind (λ es. all_same g c c es []) e (λ es. refl) (kept_of form x) ∙ (λ i. same_kept g c c (sym h i) (sym k i));
+  left_ended = λ form g c a b f y h k. never_following (λ fs. all_same g c c [] fs) f (λ fs. refl) (kept_of form y) ∙ (λ i. same_kept g c c (sym h i) (sym k i));
+  right_ended = λ form g c a b e x h k. never_following (λ es. all_same g c c es []) e (λ es. refl) (kept_of form x) ∙ (λ i. same_kept g c c (sym h i) (sym k i));
   left_stopped = λ form g c a b h. ap (λ o. same_kept g c c o (kept_of form b)) (sym h);
   right_stopped = λ form g c a b k. never (λ es. false) (λ es. refl) (kept_of form a) ∙ ap (same_kept g c c (kept_of form a)) (sym k);
   no_left = λ form g a b l w. ap (λ o. same_read g form o (read_as form b)) (sym (read_none form a l w));
   no_right = λ form g a b l w. no_right_read g form (read_as form a) ∙ ap (same_read g form (read_as form a)) (sym (read_none form b l w));
-  first_both = λ g a b e f x y h k. and_end (same_attribute (row_of g nothing e) (row_of g nothing f) e f) ∙ (λ i. same_read g first_alone (alone (sym h i)) (alone (sym k i)));
-  no_first_left = λ g a b h. ap (λ o. same_read g first_alone (alone o) (alone (first_attribute b))) (sym h);
-  no_first_right = λ g a b k. no_right_read g first_alone (alone (first_attribute a)) ∙ ap (λ o. same_read g first_alone (alone (first_attribute a)) (alone o)) (sym k);
+  first_both = λ g a b e f x y h k. and_end (same_attribute (row_of g nothing e) (row_of g nothing f) e f) ∙ (λ i. same_read g first_only (single (sym h i)) (single (sym k i)));
+  no_first_left = λ g a b h. ap (λ o. same_read g first_only (single o) (single (first_attribute b))) (sym h);
+  no_first_right = λ g a b k. no_right_read g first_only (single (first_attribute a)) ∙ ap (λ o. same_read g first_only (single (first_attribute a)) (single o)) (sym k);
   non_empty = λ g a b l m. λ i. same_read g non_empty (sym (bytes_not_empty a l) i) (sym (bytes_not_empty b m) i);
   ports = λ g a b l m. λ i. same_read g ports (sym (bytes_not_empty a l) i) (sym (bytes_not_empty b m) i);
 }

@@ -16,11 +16,11 @@ use Rattle.attribute_tables_grammar.proofs.Lists.{list_lawful}
 
 pub peer_lawful : (p : Peer) → LawfulPeer p → Lawful (peer_rule p)
 peer_lawful p l = record {
-  again = λ b a e. (l.again b a, refl);
-  fits_again = λ b a f. refl;
-  itself = l.itself;
-  one_text = l.one_text;
-  one_meaning = l.one_meaning;
+  canonical_accepted = λ b a e. (l.canonical_accepted b a, refl);
+  canonical_fits = λ b a f. refl;
+  canonical_idempotent = l.canonical_idempotent;
+  same_implies_equal_text = l.same_implies_equal_text;
+  equal_text_implies_same = l.equal_text_implies_same;
   bounded = λ b a. omega (arith, l.bounded b a);
   counted = l.counted;
   bytes = λ b a f h. l.bytes b a h;
@@ -28,10 +28,10 @@ peer_lawful p l = record {
 
 pub bytes_peer_lawful : LawfulPeer bytes_peer
 bytes_peer_lawful = record {
-  again = λ b a. refl;
-  itself = λ b a. refl;
-  one_text = λ a b x y s. (bytes_eq-Decides a b).0 s;
-  one_meaning = λ a b x y e. (bytes_eq-Decides a b).1 e;
+  canonical_accepted = λ b a. refl;
+  canonical_idempotent = λ b a. refl;
+  same_implies_equal_text = λ a b x y s. (bytes_eq-Decides a b).0 s;
+  equal_text_implies_same = λ a b x y e. (bytes_eq-Decides a b).1 e;
   bounded = λ b a. omega arith;
   counted = λ b a. omega arith;
   bytes = λ b a h. h;
@@ -64,12 +64,12 @@ module _ (P : Rule → Type 0) where
 
 -- ---- link info
 
-same_words : (p q : List ℕ) → without_nul p ++ 0 ∷ [] ≡ without_nul q ++ 0 ∷ [] → without_nul p ≡ without_nul q
-same_words p q h = sym (without_nul-end (without_nul p)) ∙ ap without_nul h ∙ without_nul-end (without_nul q)
+same_names : (p q : List ℕ) → without_nul p ++ 0 ∷ [] ≡ without_nul q ++ 0 ∷ [] → without_nul p ≡ without_nul q
+same_names p q h = sym (without_nul-end (without_nul p)) ∙ ap without_nul h ∙ without_nul-end (without_nul q)
 
 info_steps : (data' ports : List ℕ → Rule) (c : Context) (k : ℕ) (p q : List ℕ) → (info_row data' ports c k).rule.canonical p ≡ (info_row data' ports c k).rule.canonical q → info_next c k p ≡ info_next c k q
-info_steps data' ports c (suc zero) p q h = ap (λ (n : List ℕ). record { kind = Some n; port_kind = c.port_kind }) (same_words p q h)
-info_steps data' ports c (suc (suc (suc (suc zero)))) p q h = ap (λ (n : List ℕ). record { kind = c.kind; port_kind = Some n }) (same_words p q h)
+info_steps data' ports c (suc zero) p q h = ap (λ (n : List ℕ). record { kind = Some n; port_kind = c.port_kind }) (same_names p q h)
+info_steps data' ports c (suc (suc (suc (suc zero)))) p q h = ap (λ (n : List ℕ). record { kind = c.kind; port_kind = Some n }) (same_names p q h)
 info_steps data' ports c (suc (suc (suc (suc (suc (suc k)))))) p q h = refl
 info_steps data' ports c k p q h = refl
 

@@ -33,23 +33,23 @@ both_none (Some m) = refl
 -- ---- the steps of a walk
 
 -- the measure with that of the first attribute added
-in_front : (form : ListForm) (g : Grammar) (c : Context) (e : Attribute) → Option Measure → Option Measure → Option Measure
-in_front form g c e more past = cond (is_kept form e) (both (option_map with_header (measure (row_of g c e).rule e.payload)) more) (both (Some dropped) past)
+with_first : (form : ListForm) (g : Grammar) (c : Context) (e : Attribute) → Option Measure → Option Measure → Option Measure
+with_first form g c e more past = cond (is_kept form e) (both (option_map with_header (measure (row_of g c e).rule e.payload)) more) (both (Some dropped) past)
 
-in_front_none : (form : ListForm) (g : Grammar) (c : Context) (e : Attribute) (b : Bool) → is_kept form e ≡ b → None ≡ in_front form g c e None None
-unfolding in_front
-in_front_none form g c e true h = sym (ap (λ b. cond b (both (option_map with_header (measure (row_of g c e).rule e.payload)) None) None) h ∙ both_none (option_map with_header (measure (row_of g c e).rule e.payload)))
-in_front_none form g c e false h = sym (ap (λ b. cond b (both (option_map with_header (measure (row_of g c e).rule e.payload)) None) None) h)
+with_first_none : (form : ListForm) (g : Grammar) (c : Context) (e : Attribute) (b : Bool) → is_kept form e ≡ b → None ≡ with_first form g c e None None
+unfolding with_first
+with_first_none form g c e true h = sym (ap (λ b. cond b (both (option_map with_header (measure (row_of g c e).rule e.payload)) None) None) h ∙ both_none (option_map with_header (measure (row_of g c e).rule e.payload)))
+with_first_none form g c e false h = sym (ap (λ b. cond b (both (option_map with_header (measure (row_of g c e).rule e.payload)) None) None) h)
 
-if_some_map : (form : ListForm) (o : Option (List Attribute)) (g : Grammar) (c : Context) (e : Attribute) → if_some (option_map (λ es. e ∷ es) o) (measures form g c) ≡ in_front form g c e (if_some o (measures form g (g.next c e))) (if_some o (measures form g c))
-unfolding measures in_front
-if_some_map form None g c e = in_front_none form g c e (is_kept form e) refl
+if_some_map : (form : ListForm) (o : Option (List Attribute)) (g : Grammar) (c : Context) (e : Attribute) → if_some (option_map (λ es. e ∷ es) o) (measures form g c) ≡ with_first form g c e (if_some o (measures form g (g.next c e))) (if_some o (measures form g c))
+unfolding measures with_first
+if_some_map form None g c e = with_first_none form g c e (is_kept form e) refl
 if_some_map form (Some es) g c e = refl
 
 -- by whether the first attribute is kept
 pub walk_step : (form : ListForm) (g : Grammar) (c : Context) (bytes : List ℕ) (e : Attribute) (rest : List ℕ) (b : Bool) → first_attribute bytes ≡ Some (e, rest) → is_kept form e ≡ b →
     walk form g c bytes ≡ cond b (both (option_map with_header (measure (row_of g c e).rule e.payload)) (walk form g (g.next c e) rest)) (both (Some dropped) (walk form g c rest))
-unfolding walk in_front
+unfolding walk with_first
 walk_step form g c bytes e rest b f k =
     ap (λ o. if_some o (measures form g c)) (attributes_step bytes e rest f)
     ∙ if_some_map form (attributes_of rest) g c e

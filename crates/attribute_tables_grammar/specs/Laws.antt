@@ -2,16 +2,16 @@
 use Rattle.std.specs.Prelude.{◌≡◌, ℕ, ◌+◌, ◌-◌, ◌==◌, ◌<◌, ◌≤◌, ◌&&◌, ◌||◌, ◌↔◌, Bool, true, false, List, [], ◌∷◌, ◌++◌, length, take, drop, get_or, Option, Some, None, option_map}
 use Rattle.netlink_packet_core_grammar.specs.Attributes.{nla_align, zeros, Attribute, attribute_length, attribute_text, first_attribute, attributes_of}
 use Rattle.netlink_packet_core_grammar.specs.AttributeViews.{IsAttribute, viewed_attribute, after_first}
-use Rattle.attribute_tables_grammar.specs.Rules.{Rule, Lawful, Renews}
-use Rattle.attribute_tables_grammar.specs.Lists.{Grammar, Context, Row, nothing, rewrite, rewritten, written_kind, row_of, row_at, same_attribute, without_context, ListForm, any, non_empty, of_kind_one, ports, first_alone, read_as, is_kept, kept, list_rule, all_accepted, all_same, context_after, LawfulGrammar}
+use Rattle.attribute_tables_grammar.specs.Rules.{Rule, Lawful, Migrates}
+use Rattle.attribute_tables_grammar.specs.Lists.{Grammar, Context, Row, nothing, rewrite, rewritten, written_kind, row_of, row_at, same_attribute, without_context, ListForm, any, non_empty, of_kind_one, ports, first_only, read_as, is_kept, kept, list_rule, all_accepted, all_same, context_after, LawfulGrammar}
 use Rattle.attribute_tables_grammar.specs.Peers.{Peer, LawfulPeer, bytes_peer}
 use Rattle.attribute_tables_grammar.specs.Tables.{Payload, Payload.list, Table, Table.end, Table.row, Names, rule, named, names_grammar, grammar, payload_bounded, rows_bounded, holds_no_peers, holds_no_peers_but}
 use Rattle.attribute_tables_grammar.specs.LookUps.{list_of, payload_rule, row_of_line, rows_rule, table_row, only_one, holds_no_lists, payload_at, rule_or_raw}
-use Rattle.attribute_tables_grammar.specs.Readings.{Written, written_by, reading, reading_as, SoFar, Tells}
-use Rattle.attribute_tables_grammar.specs.Walks.{Measure, measure, plus, none_yet, dropped, with_header, walk_as, MeasuredSoFar, closed, IsWalked, WantsAttribute, IsSmall, IsMeasure}
-use Rattle.attribute_tables_grammar.specs.OwnTexts.{OwnSoFar}
+use Rattle.attribute_tables_grammar.specs.Readings.{Written, written_by, reading, reading_as, SoFar, Determines}
+use Rattle.attribute_tables_grammar.specs.Walks.{Measure, measure, plus, none_yet, dropped, with_header, walk_as, MeasuredSoFar, closed, IsWalked, RequiresAttribute, IsSmall, IsMeasure}
+use Rattle.attribute_tables_grammar.specs.AlreadyCanonical.{CanonicalSoFar}
 use Rattle.attribute_tables_grammar.specs.Writing.{IsWritable, WrittenSoFar}
-use Rattle.attribute_tables_grammar.specs.Sameness.{kept_of, same_walk, goes_on, same_kinds}
+use Rattle.attribute_tables_grammar.specs.Sameness.{kept_of, same_walk, continues, same_kinds}
 
 -- The canonical encoding of a list is cut into the attributes that the list keeps, each in its canonical form.
 abbrev pub CanonicalIsCut : Type 0
@@ -26,12 +26,12 @@ abbrev pub BytesAreLawful : Type 0
 BytesAreLawful = LawfulPeer bytes_peer
 
 -- Two accepted payloads are equivalent if and only if their canonical payloads are equal.
-abbrev pub OneTextEach : Rule → Type 0
-OneTextEach r = (a b : List ℕ) → r.accepted a ≡ true → r.accepted b ≡ true → (r.same a b ≡ true) ↔ (r.canonical a ≡ r.canonical b)
+abbrev pub TextsDecideMeaning : Rule → Type 0
+TextsDecideMeaning r = (a b : List ℕ) → r.accepted a ≡ true → r.accepted b ≡ true → (r.same a b ≡ true) ↔ (r.canonical a ≡ r.canonical b)
 
 -- Under every payload of a table without large rows, canonical payloads decide equivalence.
-abbrev pub TextsTellMeanings : Type 0
-TextsTellMeanings = (p : Peer) → LawfulPeer p → (s : Payload) → payload_bounded s ≡ true → OneTextEach (rule p s)
+abbrev pub TextsDetermineMeanings : Type 0
+TextsDetermineMeanings = (p : Peer) → LawfulPeer p → (s : Payload) → payload_bounded s ≡ true → TextsDecideMeaning (rule p s)
 
 -- A payload is equivalent to its canonical payload, if no list of ports inside it keeps nothing.
 abbrev pub KeepsMeaning : Rule → Type 0
@@ -56,8 +56,8 @@ pub record RulesWithoutPeersAreOne : Type 0 where
 
 -- Canonical payloads that were written while peers were bytes are migrated by every rule of peers: a payload that this
 -- rule accepts too stays acceptable in its old canonical form, and has the same new one.
-abbrev pub OldTextsAreRenewed : Type 0
-OldTextsAreRenewed = (p : Peer) → (s : Payload) → payload_bounded s ≡ true → Renews (rule bytes_peer s) (rule p s)
+abbrev pub OldTextsAreMigrated : Type 0
+OldTextsAreMigrated = (p : Peer) → (s : Payload) → payload_bounded s ≡ true → Migrates (rule bytes_peer s) (rule p s)
 
 -- Equivalent lists leave the same kinds in force, so that one context is enough to compare two lists.
 abbrev pub OneContext : Type 0
@@ -85,7 +85,7 @@ NamesAreLookedUp = (p : Peer) (names : Names) (n : List ℕ) → named p names n
 -- Reading a list unfolds attribute by attribute: a kept attribute adds its canonical form by its row, a dropped one
 -- adds nothing; nothing is read if a row rejects a kept attribute, or if the rest begins with no attribute; at the end,
 -- what was read is the whole list.
-pub record ReadingsGoBySteps : Type 0 where
+pub record ReadingsUnfold : Type 0 where
   pub start : (form : ListForm) (g : Grammar) (bytes : List ℕ) → SoFar form g bytes [] nothing bytes
   pub more : (form : ListForm) (g : Grammar) (bytes : List ℕ) (ws : List Written) (c : Context) (rest : List ℕ) (w : Written) → IsAttribute rest → is_kept form (viewed_attribute rest) ≡ true →
       (row_of g c (viewed_attribute rest)).rule.accepted (viewed_attribute rest).payload ≡ true → w ≡ written_by (row_of g c (viewed_attribute rest)) (viewed_attribute rest) →
@@ -102,21 +102,21 @@ pub record ReadingsGoBySteps : Type 0 where
 -- The reading of a list determines the results of its rule: if there is one, the rule accepts the bytes, with its
 -- encoding as the canonical one; otherwise the rule rejects them. For lists of any attributes and lists of entries of
 -- kind 1, the reading is that of all attributes from the first byte on.
-pub record ReadingsTellRules : Type 0 where
+pub record ReadingsDetermineRules : Type 0 where
   pub of_any : (g : Grammar) (bytes : List ℕ) → reading_as any g bytes ≡ reading any g nothing bytes
   pub of_entries : (g : Grammar) (bytes : List ℕ) → reading_as of_kind_one g bytes ≡ reading of_kind_one g nothing bytes
-  pub tells : (form : ListForm) (g : Grammar) (bytes : List ℕ) (ws : List Written) → reading_as form g bytes ≡ Some ws → Tells (list_rule form g) bytes ws
-  pub denies : (form : ListForm) (g : Grammar) (bytes : List ℕ) → reading_as form g bytes ≡ None → (list_rule form g).accepted bytes ≡ false
-  pub tells_rows : (form : ListForm) (f : ℕ → Row) (bytes : List ℕ) (ws : List Written) → reading_as form (without_context f) bytes ≡ Some ws → Tells (rows_rule form f) bytes ws
-  pub denies_rows : (form : ListForm) (f : ℕ → Row) (bytes : List ℕ) → reading_as form (without_context f) bytes ≡ None → (rows_rule form f).accepted bytes ≡ false
+  pub determines : (form : ListForm) (g : Grammar) (bytes : List ℕ) (ws : List Written) → reading_as form g bytes ≡ Some ws → Determines (list_rule form g) bytes ws
+  pub rejects : (form : ListForm) (g : Grammar) (bytes : List ℕ) → reading_as form g bytes ≡ None → (list_rule form g).accepted bytes ≡ false
+  pub determines_rows : (form : ListForm) (f : ℕ → Row) (bytes : List ℕ) (ws : List Written) → reading_as form (without_context f) bytes ≡ Some ws → Determines (rows_rule form f) bytes ws
+  pub rejects_rows : (form : ListForm) (f : ℕ → Row) (bytes : List ℕ) → reading_as form (without_context f) bytes ≡ None → (rows_rule form f).accepted bytes ≡ false
 
 -- A list of only its first attribute is read as that attribute's canonical form; there is no reading if its row rejects
 -- it, or if the bytes begin with no attribute.
-pub record FirstAloneIsRead : Type 0 where
+pub record FirstOnlyIsRead : Type 0 where
   pub read : (g : Grammar) (bytes : List ℕ) (w : Written) → IsAttribute bytes → (row_of g nothing (viewed_attribute bytes)).rule.accepted (viewed_attribute bytes).payload ≡ true →
-      w ≡ written_by (row_of g nothing (viewed_attribute bytes)) (viewed_attribute bytes) → reading_as first_alone g bytes ≡ Some (w ∷ [])
-  pub refused : (g : Grammar) (bytes : List ℕ) → IsAttribute bytes → (row_of g nothing (viewed_attribute bytes)).rule.accepted (viewed_attribute bytes).payload ≡ false → reading_as first_alone g bytes ≡ None
-  pub missing : (g : Grammar) (bytes : List ℕ) → (IsAttribute bytes → ⊥) → reading_as first_alone g bytes ≡ None
+      w ≡ written_by (row_of g nothing (viewed_attribute bytes)) (viewed_attribute bytes) → reading_as first_only g bytes ≡ Some (w ∷ [])
+  pub refused : (g : Grammar) (bytes : List ℕ) → IsAttribute bytes → (row_of g nothing (viewed_attribute bytes)).rule.accepted (viewed_attribute bytes).payload ≡ false → reading_as first_only g bytes ≡ None
+  pub missing : (g : Grammar) (bytes : List ℕ) → (IsAttribute bytes → ⊥) → reading_as first_only g bytes ≡ None
 
 -- A non-empty list of ports has the rule of a list of entries of kind 1; an empty one is rejected.
 pub record PortsAreEntries : Type 0 where
@@ -133,13 +133,13 @@ pub record PortsAreEntries : Type 0 where
 
 -- A list of the kind `any` that is accepted and fits, and in which no ports are empty, is read from its canonical
 -- encoding as from its own bytes.
-abbrev pub ListsAreReadAgain : Type 0
-ListsAreReadAgain = (g : Grammar) → LawfulGrammar g → (b : List ℕ) → (list_rule any g).accepted b ≡ true → (list_rule any g).empty_ports b ≡ false → (list_rule any g).fits b ≡ true →
+abbrev pub ListsAreReadBack : Type 0
+ListsAreReadBack = (g : Grammar) → LawfulGrammar g → (b : List ℕ) → (list_rule any g).accepted b ≡ true → (list_rule any g).empty_ports b ≡ false → (list_rule any g).fits b ≡ true →
     reading_as any g ((list_rule any g).canonical b) ≡ reading_as any g b
 
 -- The context after a list unfolds attribute by attribute, and an attribute leaves in force what its canonical form
 -- does.
-pub record ContextsGoBySteps : Type 0 where
+pub record ContextsUnfold : Type 0 where
   pub more : (g : Grammar) (c : Context) (es : List Attribute) (e : Attribute) → context_after g c (es ++ e ∷ []) ≡ g.next (context_after g c es) e
   pub canonical : (g : Grammar) → LawfulGrammar g → (c : Context) (e : Attribute) → (row_of g c e).rule.accepted e.payload ≡ true → g.next c (rewrite (row_of g c e) e) ≡ g.next c e
 
@@ -150,7 +150,7 @@ TableRowsAreLawful = (p : Peer) → LawfulPeer p → (t : Table) → rows_bounde
 -- Measuring a list unfolds attribute by attribute: a kept attribute adds the measure of its payload, with a header; a
 -- dropped one counts only as an attribute; there is no measure if a row rejects a kept attribute, or if the rest begins
 -- with no attribute; at the end, the sum is the measure of the whole list.
-pub record MeasuresGoBySteps : Type 0 where
+pub record MeasuresUnfold : Type 0 where
   pub start : (form : ListForm) (g : Grammar) (bytes : List ℕ) → MeasuredSoFar form g bytes none_yet nothing bytes
   pub more : (form : ListForm) (g : Grammar) (bytes rest : List ℕ) (c : Context) (e : Attribute) (after : List ℕ) (so_far m : Measure) → first_attribute rest ≡ Some (e, after) → is_kept form e ≡ true →
       Some m ≡ measure (row_of g c e).rule e.payload → MeasuredSoFar form g bytes so_far c rest → MeasuredSoFar form g bytes (plus so_far (with_header m)) (g.next c e) after
@@ -168,33 +168,33 @@ pub record MeasuresGoBySteps : Type 0 where
 -- The measure of a walk over whole bytes is that of their rule, and determines the rule's results. A list of only its
 -- first attribute has the measure of that attribute. A list kind that requires an attribute rejects the empty list, and
 -- measures all others as `any` does.
-pub record MeasuresTellRules : Type 0 where
+pub record MeasuresDetermineRules : Type 0 where
   pub walked : (form : ListForm) (g : Grammar) (bytes : List ℕ) → walk_as form g bytes ≡ measure (list_rule form g) bytes
-  pub tells : (r : Rule) (p : List ℕ) (m : Measure) → Some m ≡ measure r p → IsMeasure r p m
-  pub denies : (r : Rule) (p : List ℕ) → None ≡ measure r p → r.accepted p ≡ false
+  pub determines : (r : Rule) (p : List ℕ) (m : Measure) → Some m ≡ measure r p → IsMeasure r p m
+  pub rejects : (r : Rule) (p : List ℕ) → None ≡ measure r p → r.accepted p ≡ false
   pub first_some : (g : Grammar) (bytes : List ℕ) (e : Attribute) (after : List ℕ) (o : Option Measure) → first_attribute bytes ≡ Some (e, after) → o ≡ measure (row_of g nothing e).rule e.payload →
-      option_map with_header o ≡ measure (list_rule first_alone g) bytes
-  pub first_none : (g : Grammar) (bytes : List ℕ) → first_attribute bytes ≡ None → None ≡ measure (list_rule first_alone g) bytes
-  pub no_bytes : (form : ListForm) (g : Grammar) (bytes : List ℕ) → length bytes ≡ 0 → WantsAttribute form → None ≡ measure (list_rule form g) bytes
+      option_map with_header o ≡ measure (list_rule first_only g) bytes
+  pub first_none : (g : Grammar) (bytes : List ℕ) → first_attribute bytes ≡ None → None ≡ measure (list_rule first_only g) bytes
+  pub no_bytes : (form : ListForm) (g : Grammar) (bytes : List ℕ) → length bytes ≡ 0 → RequiresAttribute form → None ≡ measure (list_rule form g) bytes
   pub non_empty : (g : Grammar) (bytes : List ℕ) → 0 < length bytes → measure (list_rule non_empty g) bytes ≡ measure (list_rule any g) bytes
 
 -- Bytes are already canonical if the list kind keeps each attribute, its kind and its payload are already canonical,
 -- and it is padded with zeros.
-pub record OwnTextsGoBySteps : Type 0 where
+pub record CanonicalListsUnfold : Type 0 where
   pub padded : (bytes : List ℕ) (e : Attribute) (after : List ℕ) → ((i : ℕ) → get_or bytes i 0 < 256) → first_attribute bytes ≡ Some (e, after) →
       take (nla_align (attribute_length e) - attribute_length e) (drop (attribute_length e) bytes) ≡ zeros (nla_align (attribute_length e) - attribute_length e) → bytes ≡ attribute_text e ++ after
-  pub start : (form : ListForm) (g : Grammar) (bytes : List ℕ) → OwnSoFar form g bytes nothing bytes
+  pub start : (form : ListForm) (g : Grammar) (bytes : List ℕ) → CanonicalSoFar form g bytes nothing bytes
   pub more : (form : ListForm) (g : Grammar) (bytes rest : List ℕ) (c : Context) (e : Attribute) (after : List ℕ) → first_attribute rest ≡ Some (e, after) → is_kept form e ≡ true →
-      written_kind (row_of g c e) e.kind ≡ e.kind → (row_of g c e).rule.canonical e.payload ≡ e.payload → rest ≡ attribute_text e ++ after → OwnSoFar form g bytes c rest → OwnSoFar form g bytes (g.next c e) after
-  pub done : (form : ListForm) (g : Grammar) (bytes rest : List ℕ) (c : Context) → IsWalked form bytes → length rest ≡ 0 → OwnSoFar form g bytes c rest → (list_rule form g).canonical bytes ≡ bytes
-  pub alone : (g : Grammar) (bytes : List ℕ) (e : Attribute) (after : List ℕ) → first_attribute bytes ≡ Some (e, after) → length after ≡ 0 → written_kind (row_of g nothing e) e.kind ≡ e.kind →
-      (row_of g nothing e).rule.canonical e.payload ≡ e.payload → bytes ≡ attribute_text e ++ after → (list_rule first_alone g).canonical bytes ≡ bytes
+      written_kind (row_of g c e) e.kind ≡ e.kind → (row_of g c e).rule.canonical e.payload ≡ e.payload → rest ≡ attribute_text e ++ after → CanonicalSoFar form g bytes c rest → CanonicalSoFar form g bytes (g.next c e) after
+  pub done : (form : ListForm) (g : Grammar) (bytes rest : List ℕ) (c : Context) → IsWalked form bytes → length rest ≡ 0 → CanonicalSoFar form g bytes c rest → (list_rule form g).canonical bytes ≡ bytes
+  pub single : (g : Grammar) (bytes : List ℕ) (e : Attribute) (after : List ℕ) → first_attribute bytes ≡ Some (e, after) → length after ≡ 0 → written_kind (row_of g nothing e) e.kind ≡ e.kind →
+      (row_of g nothing e).rule.canonical e.payload ≡ e.payload → bytes ≡ attribute_text e ++ after → (list_rule first_only g).canonical bytes ≡ bytes
 
 -- Writing an accepted list that fits unfolds attribute by attribute: the payload of a kept attribute is accepted and
 -- fits, and the remaining capacity is enough for it; a dropped one adds nothing; the rest never begins with no
 -- attribute; at the end, the canonical encoding is written. For a list of only its first attribute, that attribute is
 -- written.
-pub record TextsAreWrittenBySteps : Type 0 where
+pub record WritingUnfolds : Type 0 where
   pub start : (form : ListForm) (g : Grammar) (bytes old : List ℕ) → IsWalked form bytes → (list_rule form g).accepted bytes ≡ true → (list_rule form g).fits bytes ≡ true → WrittenSoFar form g bytes old old nothing bytes
   pub writable : (form : ListForm) (g : Grammar) (bytes old out rest : List ℕ) (c : Context) (e : Attribute) (after : List ℕ) → first_attribute rest ≡ Some (e, after) → is_kept form e ≡ true →
       WrittenSoFar form g bytes old out c rest → IsWritable (row_of g c e).rule e.payload (length old + length ((list_rule form g).canonical bytes) - length out)
@@ -204,14 +204,14 @@ pub record TextsAreWrittenBySteps : Type 0 where
       WrittenSoFar form g bytes old out c rest → WrittenSoFar form g bytes old out c after
   pub stopped : (form : ListForm) (g : Grammar) (bytes old out rest : List ℕ) (c : Context) → first_attribute rest ≡ None → 0 < length rest → WrittenSoFar form g bytes old out c rest → ⊥
   pub done : (form : ListForm) (g : Grammar) (bytes old out rest : List ℕ) (c : Context) → length rest ≡ 0 → WrittenSoFar form g bytes old out c rest → out ≡ old ++ (list_rule form g).canonical bytes
-  pub alone : (g : Grammar) (bytes : List ℕ) (e : Attribute) (after : List ℕ) → first_attribute bytes ≡ Some (e, after) → (list_rule first_alone g).accepted bytes ≡ true → (list_rule first_alone g).fits bytes ≡ true →
-      IsWritable (row_of g nothing e).rule e.payload (length ((list_rule first_alone g).canonical bytes)) × ((list_rule first_alone g).canonical bytes ≡ attribute_text (rewrite (row_of g nothing e) e))
-  pub none_alone : (g : Grammar) (bytes : List ℕ) → first_attribute bytes ≡ None → (list_rule first_alone g).accepted bytes ≡ true → ⊥
+  pub single : (g : Grammar) (bytes : List ℕ) (e : Attribute) (after : List ℕ) → first_attribute bytes ≡ Some (e, after) → (list_rule first_only g).accepted bytes ≡ true → (list_rule first_only g).fits bytes ≡ true →
+      IsWritable (row_of g nothing e).rule e.payload (length ((list_rule first_only g).canonical bytes)) × ((list_rule first_only g).canonical bytes ≡ attribute_text (rewrite (row_of g nothing e) e))
+  pub none_single : (g : Grammar) (bytes : List ℕ) → first_attribute bytes ≡ None → (list_rule first_only g).accepted bytes ≡ true → ⊥
 
 -- The attributes that a list keeps unfold attribute by attribute: a kept one comes first, followed by those of the
 -- rest; a dropped one adds nothing; the empty list keeps none, and bytes that begin with no attribute are no list.
-pub record KeptBySteps : Type 0 where
-  pub more : (form : ListForm) (rest : List ℕ) (e : Attribute) (after : List ℕ) → first_attribute rest ≡ Some (e, after) → is_kept form e ≡ true → kept_of form rest ≡ goes_on form e after
+pub record KeptAttributesUnfold : Type 0 where
+  pub more : (form : ListForm) (rest : List ℕ) (e : Attribute) (after : List ℕ) → first_attribute rest ≡ Some (e, after) → is_kept form e ≡ true → kept_of form rest ≡ continues form e after
   pub past : (form : ListForm) (rest : List ℕ) (e : Attribute) (after : List ℕ) → first_attribute rest ≡ Some (e, after) → is_kept form e ≡ false → kept_of form rest ≡ kept_of form after
   pub ended : (form : ListForm) (rest : List ℕ) → length rest ≡ 0 → kept_of form rest ≡ Some []
   pub stopped : (form : ListForm) (rest : List ℕ) → first_attribute rest ≡ None → 0 < length rest → kept_of form rest ≡ None
@@ -219,25 +219,25 @@ pub record KeptBySteps : Type 0 where
 -- Comparing two lists unfolds over the attributes that each keeps: they are equivalent if the next two attributes are,
 -- and the rests; if one list ends, then only if both do. This holds whether or not the lists are accepted. A list kind
 -- that requires an attribute rejects the empty list; a list of only its first attribute is compared by that one.
-pub record SamenessGoesBySteps : Type 0 where
+pub record SamenessUnfolds : Type 0 where
   pub whole : (form : ListForm) (g : Grammar) (a b : List ℕ) → IsWalked form a → IsWalked form b → same_walk form g nothing a b ≡ (list_rule form g).same a b
-  pub more : (form : ListForm) (g : Grammar) (c : Context) (a b : List ℕ) (e f : Attribute) (x y : List ℕ) → kept_of form a ≡ goes_on form e x → kept_of form b ≡ goes_on form f y →
+  pub more : (form : ListForm) (g : Grammar) (c : Context) (a b : List ℕ) (e f : Attribute) (x y : List ℕ) → kept_of form a ≡ continues form e x → kept_of form b ≡ continues form f y →
       same_attribute (row_of g c e) (row_of g c f) e f ≡ true → g.next c e ≡ g.next c f → same_walk form g (g.next c e) x y ≡ same_walk form g c a b
-  pub differs : (form : ListForm) (g : Grammar) (c : Context) (a b : List ℕ) (e f : Attribute) (x y : List ℕ) → kept_of form a ≡ goes_on form e x → kept_of form b ≡ goes_on form f y →
+  pub differs : (form : ListForm) (g : Grammar) (c : Context) (a b : List ℕ) (e f : Attribute) (x y : List ℕ) → kept_of form a ≡ continues form e x → kept_of form b ≡ continues form f y →
       same_attribute (row_of g c e) (row_of g c f) e f ≡ false → false ≡ same_walk form g c a b
   pub ended : (form : ListForm) (g : Grammar) (c : Context) (a b : List ℕ) → kept_of form a ≡ Some [] → kept_of form b ≡ Some [] → true ≡ same_walk form g c a b
-  pub left_ended : (form : ListForm) (g : Grammar) (c : Context) (a b : List ℕ) (f : Attribute) (y : List ℕ) → kept_of form a ≡ Some [] → kept_of form b ≡ goes_on form f y → false ≡ same_walk form g c a b
-  pub right_ended : (form : ListForm) (g : Grammar) (c : Context) (a b : List ℕ) (e : Attribute) (x : List ℕ) → kept_of form a ≡ goes_on form e x → kept_of form b ≡ Some [] → false ≡ same_walk form g c a b
+  pub left_ended : (form : ListForm) (g : Grammar) (c : Context) (a b : List ℕ) (f : Attribute) (y : List ℕ) → kept_of form a ≡ Some [] → kept_of form b ≡ continues form f y → false ≡ same_walk form g c a b
+  pub right_ended : (form : ListForm) (g : Grammar) (c : Context) (a b : List ℕ) (e : Attribute) (x : List ℕ) → kept_of form a ≡ continues form e x → kept_of form b ≡ Some [] → false ≡ same_walk form g c a b
   pub left_stopped : (form : ListForm) (g : Grammar) (c : Context) (a b : List ℕ) → kept_of form a ≡ None → false ≡ same_walk form g c a b
   pub right_stopped : (form : ListForm) (g : Grammar) (c : Context) (a b : List ℕ) → kept_of form b ≡ None → false ≡ same_walk form g c a b
-  pub no_left : (form : ListForm) (g : Grammar) (a b : List ℕ) → length a ≡ 0 → WantsAttribute form → false ≡ (list_rule form g).same a b
-  pub no_right : (form : ListForm) (g : Grammar) (a b : List ℕ) → length b ≡ 0 → WantsAttribute form → false ≡ (list_rule form g).same a b
+  pub no_left : (form : ListForm) (g : Grammar) (a b : List ℕ) → length a ≡ 0 → RequiresAttribute form → false ≡ (list_rule form g).same a b
+  pub no_right : (form : ListForm) (g : Grammar) (a b : List ℕ) → length b ≡ 0 → RequiresAttribute form → false ≡ (list_rule form g).same a b
   pub first_both : (g : Grammar) (a b : List ℕ) (e f : Attribute) (x y : List ℕ) → first_attribute a ≡ Some (e, x) → first_attribute b ≡ Some (f, y) →
-      same_attribute (row_of g nothing e) (row_of g nothing f) e f ≡ (list_rule first_alone g).same a b
-  pub no_first_left : (g : Grammar) (a b : List ℕ) → first_attribute a ≡ None → false ≡ (list_rule first_alone g).same a b
+      same_attribute (row_of g nothing e) (row_of g nothing f) e f ≡ (list_rule first_only g).same a b
+  pub no_first_left : (g : Grammar) (a b : List ℕ) → first_attribute a ≡ None → false ≡ (list_rule first_only g).same a b
   pub non_empty : (g : Grammar) (a b : List ℕ) → 0 < length a → 0 < length b → (list_rule any g).same a b ≡ (list_rule non_empty g).same a b
   pub ports : (g : Grammar) (a b : List ℕ) → 0 < length a → 0 < length b → (list_rule of_kind_one g).same a b ≡ (list_rule ports g).same a b
-  pub no_first_right : (g : Grammar) (a b : List ℕ) → first_attribute b ≡ None → false ≡ (list_rule first_alone g).same a b
+  pub no_first_right : (g : Grammar) (a b : List ℕ) → first_attribute b ≡ None → false ≡ (list_rule first_only g).same a b
 
 -- Two attributes under one look-up are equivalent if and only if their kinds are equal and their payloads are
 -- equivalent under the first one's row; equivalent attributes of link info leave the same kinds in force.

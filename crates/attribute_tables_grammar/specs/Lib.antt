@@ -7,7 +7,7 @@ pub mod Rows
 pub mod LookUps
 pub mod Readings
 pub mod Walks
-pub mod OwnTexts
+pub mod AlreadyCanonical
 pub mod Writing
 pub mod Sameness
 pub mod Laws

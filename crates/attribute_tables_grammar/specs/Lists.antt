@@ -100,7 +100,7 @@ pub data ListForm : Type 0 where
   non_empty : ListForm  -- at least one attribute
   of_kind_one : ListForm  -- any attributes, of which those of kind 1 are kept
   ports : ListForm  -- at least one attribute; those of kind 1 are kept, and if there is none, nothing is written
-  first_alone : ListForm  -- one attribute, followed by any bytes
+  first_only : ListForm  -- one attribute, followed by any bytes
 
 -- The list, unless it is empty.
 abbrev pub not_empty : List Attribute → Option (List Attribute)
@@ -113,7 +113,7 @@ read_as any b = attributes_of b
 read_as non_empty b = if_some (attributes_of b) not_empty
 read_as of_kind_one b = attributes_of b
 read_as ports b = if_some (attributes_of b) not_empty
-read_as first_alone b = option_map (λ x. x.0 ∷ []) (first_attribute b)
+read_as first_only b = option_map (λ x. x.0 ∷ []) (first_attribute b)
 
 -- The kind proper is 1.
 abbrev pub is_of_kind_one : Attribute → Bool
@@ -131,7 +131,7 @@ kept any es = es
 kept non_empty es = es
 kept of_kind_one es = filter is_of_kind_one es
 kept ports es = filter is_of_kind_one es
-kept first_alone es = es
+kept first_only es = es
 
 -- A list of ports that keeps no entry: nothing is written for it.
 abbrev pub is_empty_ports : ListForm → List Attribute → Bool

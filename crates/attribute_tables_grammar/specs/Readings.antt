@@ -43,12 +43,12 @@ pub record SoFar (form : ListForm) (g : Grammar) (bytes : List ℕ) (ws : List W
   pub whole : reading form g nothing bytes ≡ followed_by ws (reading form g c rest)
 
 -- The rule accepts the bytes, and the reading determines their canonical encoding and whether it fits.
-pub record Tells (r : Rule) (bytes : List ℕ) (ws : List Written) : Type 0 where
+pub record Determines (r : Rule) (bytes : List ℕ) (ws : List Written) : Type 0 where
   pub accepted : r.accepted bytes ≡ true
   pub canonical : r.canonical bytes ≡ list_text (map (λ (w : Written). w.entry) ws)
   pub fits : r.fits bytes ≡ all_written_fit ws
 
 -- Each value is the variant of its row, in the context after the values before it.
 abbrev pub all_named : {V : Type 0} → Grammar → (V → Attribute) → (Context → V → Type 0) → Context → List V → Type 0
-all_named g entry names_row c [] = Unit {0}
-all_named g entry names_row c (v ∷ vs) = names_row c v × all_named g entry names_row (g.next c (entry v)) vs
+all_named g entry is_row_variant c [] = Unit {0}
+all_named g entry is_row_variant c (v ∷ vs) = is_row_variant c v × all_named g entry is_row_variant (g.next c (entry v)) vs

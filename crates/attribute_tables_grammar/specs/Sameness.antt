@@ -16,8 +16,8 @@ unfoldable pub same_walk : ListForm → Grammar → Context → List ℕ → Lis
 same_walk form g c left right = same_kept g c c (kept_of form left) (kept_of form right)
 
 -- An attribute, followed by those that the rest of the list keeps.
-abbrev pub goes_on : ListForm → Attribute → List ℕ → Option (List Attribute)
-goes_on form e after = option_map (λ es. e ∷ es) (kept_of form after)
+abbrev pub continues : ListForm → Attribute → List ℕ → Option (List Attribute)
+continues form e after = option_map (λ es. e ∷ es) (kept_of form after)
 
 -- The kinds are equal; if the first one's row is typed, only the kinds proper have to be.
 abbrev pub same_kinds : Row → ℕ → ℕ → Bool

@@ -3,7 +3,7 @@
 use Rattle.std.specs.Prelude.{◌≡◌, ℕ, ◌+◌, ◌*◌, ◌==◌, ◌<◌, ◌≤◌, ◌&&◌, ◌||◌, nat_le, Bool, true, false, cond, List, [], ◌∷◌, length, Option, Some, None, option_map}
 use Rattle.netlink_packet_core_grammar.specs.Attributes.{nla_align, Attribute, if_some, attributes_of}
 use Rattle.attribute_tables_grammar.specs.Rules.{Rule}
-use Rattle.attribute_tables_grammar.specs.Lists.{Context, nothing, Grammar, row_of, ListForm, any, non_empty, of_kind_one, ports, first_alone, read_as, kept, is_kept, is_empty_ports}
+use Rattle.attribute_tables_grammar.specs.Lists.{Context, nothing, Grammar, row_of, ListForm, any, non_empty, of_kind_one, ports, first_only, read_as, kept, is_kept, is_empty_ports}
 
 -- The measure of an accepted payload.
 pub record Measure : Type 0 where
@@ -77,13 +77,13 @@ IsWalked any bytes = Unit {0}
 IsWalked non_empty bytes = 0 < length bytes
 IsWalked of_kind_one bytes = Unit {0}
 IsWalked ports bytes = 0 < length bytes
-IsWalked first_alone bytes = ⊥
+IsWalked first_only bytes = ⊥
 
 -- The list kind rejects the empty list.
-abbrev pub WantsAttribute : ListForm → Type 0
-WantsAttribute non_empty = Unit {0}
-WantsAttribute ports = Unit {0}
-WantsAttribute _ = ⊥
+abbrev pub RequiresAttribute : ListForm → Type 0
+RequiresAttribute non_empty = Unit {0}
+RequiresAttribute ports = Unit {0}
+RequiresAttribute _ = ⊥
 
 -- The attribute's canonical form is at most 77 times as long, it has at least 4 bytes for each attribute in it, and the
 -- rest is shorter than the bytes.

@@ -4,21 +4,21 @@ use Rattle.netlink_packet_core_grammar.specs.Attributes.{nla_align}
 use Rattle.attribute_tables_grammar.specs.Rules.{Rule}
 use Rattle.attribute_tables_grammar.specs.Lists.{Context, Grammar, ListForm, list_rule}
 use Rattle.attribute_tables_grammar.specs.Walks.{Measure, walk}
-use Rattle.attribute_tables_grammar.specs.OwnTexts.{text_from}
+use Rattle.attribute_tables_grammar.specs.AlreadyCanonical.{text_from}
 
 -- The payload is accepted and fits an attribute, for which the capacity is enough.
-pub record IsWritable (r : Rule) (p : List ℕ) (room : ℕ) : Type 0 where
+pub record IsWritable (r : Rule) (p : List ℕ) (capacity : ℕ) : Type 0 where
   pub accepted : r.accepted p ≡ true
   pub fits : r.fits p ≡ true
   pub short : 4 + length (r.canonical p) ≤ 65535
-  pub within : nla_align (4 + length (r.canonical p)) ≤ room
+  pub within : nla_align (4 + length (r.canonical p)) ≤ capacity
 
 -- What was written so far, followed by the encoding of the rest, is the old bytes followed by the encoding of the whole
 -- list.
 pub record WrittenSoFar (form : ListForm) (g : Grammar) (bytes old out : List ℕ) (c : Context) (rest : List ℕ) : Type 0 where
-  pub ahead : Measure
-  pub walked : walk form g c rest ≡ Some ahead
-  pub fits : ahead.fits ≡ true
+  pub rest_measure : Measure
+  pub walked : walk form g c rest ≡ Some rest_measure
+  pub fits : rest_measure.fits ≡ true
   pub text : List ℕ
-  pub still : text_from form g c rest ≡ Some text
+  pub rest_text : text_from form g c rest ≡ Some text
   pub whole : out ++ text ≡ old ++ (list_rule form g).canonical bytes

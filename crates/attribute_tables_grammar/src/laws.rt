@@ -1,18 +1,18 @@
 //! Laws of the definitions. No function here makes a call.
 #![tactic(auto, using(crate::proofs::Together::laws))]
 
-ghost use Rattle.attribute_tables_grammar.specs.Laws.{CanonicalIsCut, TablesAreLawful, BytesAreLawful, TextsTellMeanings};
-ghost use Rattle.attribute_tables_grammar.specs.Laws.{TextsKeepMeanings, ShortTextsFit, OldTextsAreRenewed, OneContext};
+ghost use Rattle.attribute_tables_grammar.specs.Laws.{CanonicalIsCut, TablesAreLawful, BytesAreLawful, TextsDetermineMeanings};
+ghost use Rattle.attribute_tables_grammar.specs.Laws.{TextsKeepMeanings, ShortTextsFit, OldTextsAreMigrated, OneContext};
 ghost use Rattle.attribute_tables_grammar.specs.Laws.{RulesWithoutPeersAreOne};
 ghost use Rattle.attribute_tables_grammar.specs.Laws.{TableGrammarsAreLawful, RowsAreLookedUp, NamesAreLookedUp};
-ghost use Rattle.attribute_tables_grammar.specs.Laws.{ReadingsGoBySteps, ReadingsTellRules, FirstAloneIsRead, PortsAreEntries};
-ghost use Rattle.attribute_tables_grammar.specs.Laws.{ContextsGoBySteps, ListsAreReadAgain, RowsWithoutListsFit};
-ghost use Rattle.attribute_tables_grammar.specs.Laws.{TableRowsAreLawful, MeasuresGoBySteps, MeasuresTellRules, OwnTextsGoBySteps};
-ghost use Rattle.attribute_tables_grammar.specs.Laws.{TextsAreWrittenBySteps, KeptBySteps, SamenessGoesBySteps, AttributesAreCompared};
+ghost use Rattle.attribute_tables_grammar.specs.Laws.{ReadingsUnfold, ReadingsDetermineRules, FirstOnlyIsRead, PortsAreEntries};
+ghost use Rattle.attribute_tables_grammar.specs.Laws.{ContextsUnfold, ListsAreReadBack, RowsWithoutListsFit};
+ghost use Rattle.attribute_tables_grammar.specs.Laws.{TableRowsAreLawful, MeasuresUnfold, MeasuresDetermineRules, CanonicalListsUnfold};
+ghost use Rattle.attribute_tables_grammar.specs.Laws.{WritingUnfolds, KeptAttributesUnfold, SamenessUnfolds, AttributesAreCompared};
 
 /// The canonical encoding of a list is cut into the attributes that the list keeps, each in its
 /// canonical form.
-pub fn canonical_texts_are_cut_again()
+pub fn canonical_lists_are_cut()
     ensures { CanonicalIsCut }
 {}
 
@@ -27,8 +27,8 @@ pub fn peers_that_are_bytes_are_lawful()
 {}
 
 /// Two accepted payloads are equivalent if and only if their canonical payloads are equal.
-pub fn texts_tell_meanings()
-    ensures { TextsTellMeanings }
+pub fn texts_determine_meanings()
+    ensures { TextsDetermineMeanings }
 {}
 
 /// A payload is equivalent to its canonical payload, if no list of ports inside it keeps nothing.
@@ -49,8 +49,8 @@ pub fn rules_without_peers_are_one()
 /// An encoding that was canonical while peers were bytes is accepted under any rule of peers that
 /// accepts the original bytes, and has their canonical encoding; it fits if they do, and has no
 /// empty ports.
-pub fn old_texts_are_renewed()
-    ensures { OldTextsAreRenewed }
+pub fn old_texts_are_migrated()
+    ensures { OldTextsAreMigrated }
 {}
 
 /// Equivalent lists leave the same kinds in force.
@@ -82,20 +82,20 @@ pub fn names_are_looked_up()
 /// Reading a list unfolds attribute by attribute: a kept attribute adds its canonical form, a
 /// dropped one adds nothing. Nothing is read if a row rejects a kept attribute, or if the rest
 /// begins with no attribute; at the end, what was read is the whole list.
-pub fn readings_go_by_steps()
-    ensures { ReadingsGoBySteps }
+pub fn readings_unfold()
+    ensures { ReadingsUnfold }
 {}
 
 /// The reading of a list determines the results of its rule: if there is one, the rule accepts the
 /// bytes, with its encoding as the canonical one; otherwise the rule rejects them.
-pub fn readings_tell_rules()
-    ensures { ReadingsTellRules }
+pub fn readings_determine_rules()
+    ensures { ReadingsDetermineRules }
 {}
 
 /// A list of only its first attribute is read as that attribute's canonical form; there is no
 /// reading if its row rejects it, or if the bytes begin with no attribute.
-pub fn first_attributes_are_read_alone()
-    ensures { FirstAloneIsRead }
+pub fn single_first_attributes_are_read()
+    ensures { FirstOnlyIsRead }
 {}
 
 /// A non-empty list of ports has the rule of a list of entries of kind 1; an empty one is rejected.
@@ -107,14 +107,14 @@ pub fn ports_are_entries()
 
 /// A list that is accepted and fits, and in which no ports are empty, is read from its canonical
 /// encoding as from its own bytes.
-pub fn lists_are_read_again()
-    ensures { ListsAreReadAgain }
+pub fn lists_are_read_back()
+    ensures { ListsAreReadBack }
 {}
 
 /// The context after a list unfolds attribute by attribute, and an attribute leaves in force what
 /// its canonical form does.
-pub fn contexts_go_by_steps()
-    ensures { ContextsGoBySteps }
+pub fn contexts_unfold()
+    ensures { ContextsUnfold }
 {}
 
 /// The row that looking up a kind finds is lawful, in a table without large rows.
@@ -126,40 +126,40 @@ pub fn table_rows_are_lawful()
 /// payload, with a header; a dropped one counts only as an attribute. There is no measure if a row
 /// rejects a kept attribute, or if the rest begins with no attribute; at the end, the sum is the
 /// measure of the whole list.
-pub fn measures_go_by_steps()
-    ensures { MeasuresGoBySteps }
+pub fn measures_unfold()
+    ensures { MeasuresUnfold }
 {}
 
 /// The measure of a walk over whole bytes is that of their rule, and determines the rule's results.
 /// A list of only its first attribute has the measure of that attribute. A list kind that requires
 /// an attribute rejects the empty list.
-pub fn measures_tell_rules()
-    ensures { MeasuresTellRules }
+pub fn measures_determine_rules()
+    ensures { MeasuresDetermineRules }
 {}
 
 /// Bytes are already canonical if each attribute is, and is padded with zeros.
-pub fn own_texts_go_by_steps()
-    ensures { OwnTextsGoBySteps }
+pub fn canonical_lists_unfold()
+    ensures { CanonicalListsUnfold }
 {}
 
 /// Writing an accepted list that fits unfolds attribute by attribute: the payload of a kept
 /// attribute fits, and the remaining capacity is enough for it. The rest never begins with no
 /// attribute.
-pub fn texts_are_written_by_steps()
-    ensures { TextsAreWrittenBySteps }
+pub fn writing_unfolds()
+    ensures { WritingUnfolds }
 {}
 
 /// The attributes that a list keeps unfold attribute by attribute: a kept one comes first, followed
 /// by those of the rest; a dropped one adds nothing. Bytes that begin with no attribute are no
 /// list.
-pub fn what_is_kept_goes_by_steps()
-    ensures { KeptBySteps }
+pub fn kept_attributes_unfold()
+    ensures { KeptAttributesUnfold }
 {}
 
 /// Comparing two lists unfolds over the attributes that each keeps, whether or not they are
 /// accepted: they are equivalent if the next two attributes are, and the rests.
-pub fn sameness_goes_by_steps()
-    ensures { SamenessGoesBySteps }
+pub fn sameness_unfolds()
+    ensures { SamenessUnfolds }
 {}
 
 /// Two attributes under one look-up are equivalent if and only if their kinds are equal and their

@@ -18,33 +18,33 @@ const ROUNDS: usize = 5;
 #[derive(Drop)]
 struct Timed {
     least: Duration,
-    well: usize,
+    ok_count: usize,
 }
 
 /// Measures a check of a capture.
 fn check_time(rt: &HostRuntime, capture: &[u8]) -> io::Result<Timed> {
     let mut least = Duration::MAX;
-    let mut well = 0usize;
+    let mut ok_count = 0usize;
     for _ in 0..ROUNDS {
         let start = Instant::now(rt)?;
         let is_legal = check(capture, DEFAULT_LIMIT).is_ok();
         least = least.min(start.elapsed(rt)?);
-        well = well.saturating_add(is_legal as usize);
+        ok_count = ok_count.saturating_add(is_legal as usize);
     }
-    Ok(Timed { least, well })
+    Ok(Timed { least, ok_count })
 }
 
 /// Measures a comparison of two captures.
 fn same_time(rt: &HostRuntime, capture: &[u8], other: &[u8]) -> io::Result<Timed> {
     let mut least = Duration::MAX;
-    let mut well = 0usize;
+    let mut ok_count = 0usize;
     for _ in 0..ROUNDS {
         let start = Instant::now(rt)?;
         let is_same = same(capture, other, DEFAULT_LIMIT) == Ok(true);
         least = least.min(start.elapsed(rt)?);
-        well = well.saturating_add(is_same as usize);
+        ok_count = ok_count.saturating_add(is_same as usize);
     }
-    Ok(Timed { least, well })
+    Ok(Timed { least, ok_count })
 }
 
 /// Prints the numbers of a capture, or its first fault.
@@ -59,9 +59,9 @@ fn print_numbers(rt: &HostRuntime, capture: &[u8]) -> io::Result<()> {
 }
 
 /// Prints how long a call took.
-fn tell(rt: &HostRuntime, call: &str, timed: Timed) -> io::Result<()> {
+fn print_duration(rt: &HostRuntime, call: &str, timed: Timed) -> io::Result<()> {
     let nanos = timed.least.as_nanos();
-    eprintln!(rt; "{call} {nanos} ns, well in {} of {ROUNDS}", timed.well)
+    eprintln!(rt; "{call} {nanos} ns, well in {} of {ROUNDS}", timed.ok_count)
 }
 
 /// Returns all bytes of a reader.
@@ -76,16 +76,16 @@ fn read<R: Read + Drop>(alloc: Global, reader: R) -> io::Result<Vec<u8>> {
 fn run(rt: &HostRuntime) -> io::Result<()> {
     let capture = read(rt.alloc(), rt.reader())?;
     print_numbers(rt, capture.as_slice())?;
-    tell(rt, "check", check_time(rt, capture.as_slice())?)?;
-    let words: Vec<String> = env::args(rt)?.collect(rt.alloc())?;
-    let timed = match words.get(1) {
+    print_duration(rt, "check", check_time(rt, capture.as_slice())?)?;
+    let arguments: Vec<String> = env::args(rt)?.collect(rt.alloc())?;
+    let timed = match arguments.get(1) {
         Some(name) => {
             let other = read(rt.alloc(), File::open(rt, name.as_str())?)?;
             same_time(rt, capture.as_slice(), other.as_slice())?
         }
         None => same_time(rt, capture.as_slice(), capture.as_slice())?,
     };
-    tell(rt, "same", timed)
+    print_duration(rt, "same", timed)
 }
 
 fn main(rt: HostRuntime) -> ExitCode {

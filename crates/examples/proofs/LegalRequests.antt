@@ -22,7 +22,7 @@ use Rattle.link_capture.specs.Routes.{reads_route, typed_text}
 use Rattle.examples.specs.Requests.{vxlan_attributes, vxlan_body, vxlan_info, vxlan_info_text, vxlan_settings}
 
 -- bytes that a rule accepts, that have no list of ports without an entry, that fit and are already canonical
-pub record IsOwnText (r : Rule) (b : List ℕ) : Type 0 where
+pub record IsCanonicalBody (r : Rule) (b : List ℕ) : Type 0 where
   pub accepted : r.accepted b ≡ true
   pub fits : r.fits b ≡ true
   pub empty_ports : r.empty_ports b ≡ false
@@ -30,22 +30,22 @@ pub record IsOwnText (r : Rule) (b : List ℕ) : Type 0 where
 
 -- ---- a list of attributes that are already canonical
 
-record OwnAttributes (g : Grammar) (es : List Attribute) : Type 0 where
+record CanonicalAttributes (g : Grammar) (es : List Attribute) : Type 0 where
   accepted : all_accepted g nothing es ≡ true
   fits : all_fit g nothing es ≡ true
   empty_ports : some_empty_ports g nothing es ≡ false
   written : rewritten g nothing es ≡ es
 
-own_list : TextIsCut → (g : Grammar) (es : List Attribute) → OwnAttributes g es → IsOwnText (list_rule any g) (list_text es)
-own_list cut g es o = record {
+canonical_list : TextIsCut → (g : Grammar) (es : List Attribute) → CanonicalAttributes g es → IsCanonicalBody (list_rule any g) (list_text es)
+canonical_list cut g es o = record {
   accepted = ap (if_read false (all_accepted g nothing)) (cut es).0 ∙ o.accepted;
   fits = ap (if_read true (all_fit g nothing)) (cut es).0 ∙ o.fits;
   empty_ports = ap (if_read false (some_empty_ports g nothing)) (cut es).0 ∙ o.empty_ports;
   canonical = ap (if_read [] (λ fs. list_text (rewritten g nothing fs))) (cut es).0 ∙ ap list_text o.written;
 }
 
-own_some : TextIsCut → (g : Grammar) (e : Attribute) (es : List Attribute) → OwnAttributes g (e ∷ es) → IsOwnText (list_rule non_empty g) (list_text (e ∷ es))
-own_some cut g e es o = record {
+canonical_some : TextIsCut → (g : Grammar) (e : Attribute) (es : List Attribute) → CanonicalAttributes g (e ∷ es) → IsCanonicalBody (list_rule non_empty g) (list_text (e ∷ es))
+canonical_some cut g e es o = record {
   accepted = ap (λ r. if_read false (all_accepted g nothing) (if_some r not_empty)) (cut (e ∷ es)).0 ∙ o.accepted;
   fits = ap (λ r. if_read true (all_fit g nothing) (if_some r not_empty)) (cut (e ∷ es)).0 ∙ o.fits;
   empty_ports = ap (λ r. if_read false (some_empty_ports g nothing) (if_some r not_empty)) (cut (e ∷ es)).0 ∙ o.empty_ports;
@@ -54,12 +54,12 @@ own_some cut g e es o = record {
 
 -- ---- the data
 
-settings : (vni : ℕ) → OwnAttributes (without_context (row_in link_peer vxlan)) (vxlan_settings vni)
+settings : (vni : ℕ) → CanonicalAttributes (without_context (row_in link_peer vxlan)) (vxlan_settings vni)
 unfolding all_accepted all_fit some_empty_ports rewritten le4 be2
 settings vni = record { accepted = refl; fits = refl; empty_ports = refl; written = refl }
 
-own_data : TextIsCut → (vni : ℕ) → IsOwnText (named link_peer kinds (codes "vxlan")) (list_text (vxlan_settings vni))
-own_data cut vni = own_list cut (without_context (row_in link_peer vxlan)) (vxlan_settings vni) (settings vni)
+canonical_data : TextIsCut → (vni : ℕ) → IsCanonicalBody (named link_peer kinds (codes "vxlan")) (list_text (vxlan_settings vni))
+canonical_data cut vni = canonical_list cut (without_context (row_in link_peer vxlan)) (vxlan_settings vni) (settings vni)
 
 data_size : (vni : ℕ) → nat_le (4 + length (list_text (vxlan_settings vni))) 65535 ≡ true
 unfolding list_text attribute_text le4 be2
@@ -67,21 +67,21 @@ data_size vni = refl
 
 -- ---- the link info
 
-infos : TextIsCut → (vni : ℕ) → OwnAttributes (names_grammar (named link_peer kinds) (named link_peer port_kinds)) (vxlan_info vni)
+infos : TextIsCut → (vni : ℕ) → CanonicalAttributes (names_grammar (named link_peer kinds) (named link_peer port_kinds)) (vxlan_info vni)
 unfolding all_accepted all_fit some_empty_ports rewritten is_utf8 chars encode
 infos cut vni =
     let r = named link_peer kinds (codes "vxlan") in
     let d = list_text (vxlan_settings vni) in
-    let own = own_data cut vni in
+    let canonical_proof = canonical_data cut vni in
     record {
-      accepted = ap (λ a. a && true) own.accepted;
-      fits = ap (λ x. (nat_le (4 + length x) 65535 && r.fits d) && true) own.canonical ∙ ap (λ f. (nat_le (4 + length d) 65535 && f) && true) own.fits ∙ ap (λ s. (s && true) && true) (data_size vni);
-      empty_ports = ap (λ a. a || false) own.empty_ports;
-      written = ap (λ p. attribute 1 (codes "vxlan" ++ 0 ∷ []) ∷ attribute 2 p ∷ []) own.canonical;
+      accepted = ap (λ a. a && true) canonical_proof.accepted;
+      fits = ap (λ x. (nat_le (4 + length x) 65535 && r.fits d) && true) canonical_proof.canonical ∙ ap (λ f. (nat_le (4 + length d) 65535 && f) && true) canonical_proof.fits ∙ ap (λ s. (s && true) && true) (data_size vni);
+      empty_ports = ap (λ a. a || false) canonical_proof.empty_ports;
+      written = ap (λ p. attribute 1 (codes "vxlan" ++ 0 ∷ []) ∷ attribute 2 p ∷ []) canonical_proof.canonical;
     }
 
-own_info : TextIsCut → (vni : ℕ) → IsOwnText (rule link_peer info) (vxlan_info_text vni)
-own_info cut vni = own_some cut (names_grammar (named link_peer kinds) (named link_peer port_kinds)) (attribute 1 (codes "vxlan" ++ 0 ∷ [])) (attribute 2 (list_text (vxlan_settings vni)) ∷ []) (infos cut vni)
+canonical_info : TextIsCut → (vni : ℕ) → IsCanonicalBody (rule link_peer info) (vxlan_info_text vni)
+canonical_info cut vni = canonical_some cut (names_grammar (named link_peer kinds) (named link_peer port_kinds)) (attribute 1 (codes "vxlan" ++ 0 ∷ [])) (attribute 2 (list_text (vxlan_settings vni)) ∷ []) (infos cut vni)
 
 info_size : (vni : ℕ) → nat_le (4 + length (vxlan_info_text vni)) 65535 ≡ true
 unfolding list_text attribute_text le4 be2
@@ -94,52 +94,52 @@ without_last [] = refl
 without_last (b ∷ []) = refl
 without_last (b ∷ c ∷ name) = ap (λ x. b ∷ x) (without_last (c ∷ name))
 
-attributes : TextIsCut → (name : List ℕ) (vni mtu : ℕ) → is_utf8 name ≡ true → length name ≤ 65530 → OwnAttributes (without_context (row_in link_peer (link_table unspec))) (vxlan_attributes name vni mtu)
+attributes : TextIsCut → (name : List ℕ) (vni mtu : ℕ) → is_utf8 name ≡ true → length name ≤ 65530 → CanonicalAttributes (without_context (row_in link_peer (link_table unspec))) (vxlan_attributes name vni mtu)
 unfolding all_accepted all_fit some_empty_ports rewritten le4
 attributes cut name vni mtu utf8 short =
     let r = rule link_peer info in
     let t = vxlan_info_text vni in
-    let own = own_info cut vni in
+    let canonical_proof = canonical_info cut vni in
     let same = without_last name in
     let fits : nat_le (4 + length (name ++ 0 ∷ [])) 65535 ≡ true = le-leb (4 + length (name ++ 0 ∷ [])) 65535 (omega (arith, length-append name (0 ∷ []))) in
     record {
-      accepted = ap (λ n. is_utf8 n && (r.accepted t && true)) same ∙ ap (λ u. u && (r.accepted t && true)) utf8 ∙ ap (λ a. a && true) own.accepted;
+      accepted = ap (λ n. is_utf8 n && (r.accepted t && true)) same ∙ ap (λ u. u && (r.accepted t && true)) utf8 ∙ ap (λ a. a && true) canonical_proof.accepted;
       fits =
           ap (λ n. (nat_le (4 + length (n ++ 0 ∷ [])) 65535 && true) && ((nat_le (4 + length (r.canonical t)) 65535 && r.fits t) && true)) same
           ∙ ap (λ s. (s && true) && ((nat_le (4 + length (r.canonical t)) 65535 && r.fits t) && true)) fits
-          ∙ ap (λ x. (nat_le (4 + length x) 65535 && r.fits t) && true) own.canonical
-          ∙ ap (λ f. (nat_le (4 + length t) 65535 && f) && true) own.fits
+          ∙ ap (λ x. (nat_le (4 + length x) 65535 && r.fits t) && true) canonical_proof.canonical
+          ∙ ap (λ f. (nat_le (4 + length t) 65535 && f) && true) canonical_proof.fits
           ∙ ap (λ s. (s && true) && true) (info_size vni);
-      empty_ports = ap (λ a. a || false) own.empty_ports;
+      empty_ports = ap (λ a. a || false) canonical_proof.empty_ports;
       written =
           ap (λ n. attribute 3 (n ++ 0 ∷ []) ∷ attribute 4 (le4 mtu) ∷ attribute 18 (r.canonical t) ∷ []) same
-          ∙ ap (λ x. attribute 3 (name ++ 0 ∷ []) ∷ attribute 4 (le4 mtu) ∷ attribute 18 x ∷ []) own.canonical;
+          ∙ ap (λ x. attribute 3 (name ++ 0 ∷ []) ∷ attribute 4 (le4 mtu) ∷ attribute 18 x ∷ []) canonical_proof.canonical;
     }
 
 -- ---- the body
 
-pub own_body : TextIsCut → (name : List ℕ) (vni mtu : ℕ) → is_utf8 name ≡ true → length name ≤ 65530 → IsOwnText link_body (vxlan_body name vni mtu)
+pub canonical_body : TextIsCut → (name : List ℕ) (vni mtu : ℕ) → is_utf8 name ≡ true → length name ≤ 65530 → IsCanonicalBody link_body (vxlan_body name vni mtu)
 unfolding list_rule_of body_rule is_listed
-own_body cut name vni mtu utf8 short =
+canonical_body cut name vni mtu utf8 short =
     let t = list_text (vxlan_attributes name vni mtu) in
-    let own = own_list cut (without_context (row_in link_peer (link_table unspec))) (vxlan_attributes name vni mtu) (attributes cut name vni mtu utf8 short) in
+    let canonical_proof = canonical_list cut (without_context (row_in link_peer (link_table unspec))) (vxlan_attributes name vni mtu) (attributes cut name vni mtu utf8 short) in
     let long : nat_le 16 (length (zeros 16 ++ t)) ≡ true = le-leb 16 (length (zeros 16 ++ t)) (omega (arith, length-append (zeros 16) t, length-replicate {A = ℕ} 16 0)) in
     record {
-      accepted = ap (λ a. a && (list_rule any (without_context (row_in link_peer (link_table unspec)))).accepted t) long ∙ own.accepted;
-      fits = own.fits;
-      empty_ports = own.empty_ports;
-      canonical = ap (λ x. zeros 16 ++ x) own.canonical;
+      accepted = ap (λ a. a && (list_rule any (without_context (row_in link_peer (link_table unspec)))).accepted t) long ∙ canonical_proof.accepted;
+      fits = canonical_proof.fits;
+      empty_ports = canonical_proof.empty_ports;
+      canonical = ap (λ x. zeros 16 ++ x) canonical_proof.canonical;
     }
 
 -- so the body is already canonical
-pub own_ruled : (r : Rule) (b : List ℕ) → IsOwnText r b → ruled_text r b ≡ Ok b
-own_ruled r b o = rw (o.accepted, o.empty_ports, o.fits) (ap Ok o.canonical)
+pub canonical_ruled : (r : Rule) (b : List ℕ) → IsCanonicalBody r b → ruled_text r b ≡ Ok b
+canonical_ruled r b o = rw (o.accepted, o.empty_ports, o.fits) (ap Ok o.canonical)
 
 -- ---- reading a body of RTM_NEWLINK that is already canonical
 
 read_as : (b : List ℕ) (x : TypedBody) → ruled_text link_body b ≡ Ok b → reads_route 16 b ≡ Some x → x ≡ (16, b)
 unfolding body_text_under
-read_as b x own h = let e = sym (ap (typed_text 16) own) ∙ h in cc
+read_as b x canonical_proof h = let e = sym (ap (typed_text 16) canonical_proof) ∙ h in cc
 
 pub read_back : (b bytes : List ℕ) (x : TypedBody) → bytes ≡ b → ruled_text link_body b ≡ Ok b → reads_route 16 bytes ≡ Some x → x ≡ (16, b)
-read_back b bytes x e own h = read_as b x own (ap (reads_route 16) (sym e) ∙ h)
+read_back b bytes x e canonical_proof h = read_as b x canonical_proof (ap (reads_route 16) (sym e) ∙ h)

@@ -28,7 +28,7 @@ use Rattle.link_message.specs.declared.message.LinkMessage.{LinkMessage}
 use Rattle.link_message.specs.LinkHeader.{LinkHeader}
 use Rattle.link_capture.specs.CaptureFault.{CaptureFault}
 use Rattle.link_capture.specs.Bodies.{body_text, body_text_under, ruled_text}
-use Rattle.link_capture.specs.Captures.{first_fault, raised, texts}
+use Rattle.link_capture.specs.Captures.{first_fault, shifted, texts}
 use Rattle.link_capture.specs.Laws.{CapturesAreCounted, FramesAreJudged}
 use Rattle.link_capture.specs.Routes.{route_entry}
 use Rattle.link_capture.specs.RouteLink.{RouteLink}
@@ -60,55 +60,55 @@ pub length-new_link_text : (s : ℕ) (b : List ℕ) → length (new_link_text s 
 unfolding header_text le4 le2
 length-new_link_text s b = omega arith
 
-tells_length : (s : ℕ) (b : List ℕ) → 16 + length b < 2 ^ 32 → frame_length (new_link_text s b) ≡ 16 + length b
+length_determined : (s : ℕ) (b : List ℕ) → 16 + length b < 2 ^ 32 → frame_length (new_link_text s b) ≡ 16 + length b
 unfolding u32_at header_text le4 le2
-tells_length s b h = from_le4 (16 + length b)
+length_determined s b h = from_le4 (16 + length b)
 
-tells_type : (s : ℕ) (b : List ℕ) → frame_type (new_link_text s b) ≡ 16
+type_determined : (s : ℕ) (b : List ℕ) → frame_type (new_link_text s b) ≡ 16
 unfolding u16_at header_text le4 le2
-tells_type s b = refl
+type_determined s b = refl
 
-behind_header : (s : ℕ) (b : List ℕ) → drop 16 (new_link_text s b) ≡ b
+after_header : (s : ℕ) (b : List ℕ) → drop 16 (new_link_text s b) ≡ b
 unfolding header_text le4 le2
-behind_header s b = refl
+after_header s b = refl
 
 has_body : (s : ℕ) (b : List ℕ) → 16 + length b < 2 ^ 32 → frame_body (new_link_text s b) ≡ b
 has_body s b h =
-    ap (λ n. take (n - 16) (drop 16 (new_link_text s b))) (tells_length s b h)
-    ∙ ap (λ x. take (16 + length b - 16) x) (behind_header s b)
+    ap (λ n. take (n - 16) (drop 16 (new_link_text s b))) (length_determined s b h)
+    ∙ ap (λ x. take (16 + length b - 16) x) (after_header s b)
     ∙ take_all (16 + length b - 16) b (omega arith)
 
 whole : (s : ℕ) (b : List ℕ) → 16 + length b < 2 ^ 32 → IsFrame (new_link_text s b)
 whole s b h =
     let l = length-new_link_text s b in
-    let t = tells_length s b h in
+    let t = length_determined s b h in
     record { has_header = omega arith; covers_header = omega arith; within = omega arith }
 
 -- a body whose size is a multiple of 4 needs no padding, so its frame is already canonical
-own_text : (s : ℕ) (b : List ℕ) → length b % 4 ≡ 0 → frame_text (new_link_text s b) b ≡ new_link_text s b
+canonical_new_link_frame : (s : ℕ) (b : List ℕ) → length b % 4 ≡ 0 → frame_text (new_link_text s b) b ≡ new_link_text s b
 unfolding frame_text header_text le4 le2
-own_text s b h =
-    let front = header_text (record { length = 16 + length b; message_type = 16; flags = 0x605; sequence_number = s; port_number = 0 }) in
+canonical_new_link_frame s b h =
+    let request_header = header_text (record { length = 16 + length b; message_type = 16; flags = 0x605; sequence_number = s; port_number = 0 }) in
     let none : nla_align (16 + length b) - (16 + length b) ≡ 0 = omega arith in
-    ap (λ n. front ++ (b ++ zeros n)) none ∙ ap (λ x. front ++ x) (append-nil b)
+    ap (λ n. request_header ++ (b ++ zeros n)) none ∙ ap (λ x. request_header ++ x) (append-nil b)
 
-not_raised : (o : Option CaptureFault) → raised 0 o ≡ None → o ≡ None
-not_raised None h = refl
-not_raised (Some fault) h = absurd cc
+not_shifted : (o : Option CaptureFault) → shifted 0 o ≡ None → o ≡ None
+not_shifted None h = refl
+not_shifted (Some fault) h = absurd cc
 
 -- the frame of a request is a legal capture of one frame
 pub normal : FramesAreJudged link_body → CapturesAreCounted link_body → NewLinksAreNormal
 unfolding body_text_under
-normal judged counted s limit b own aligned' small within =
+normal judged counted s limit b canonical aligned' small within =
     let c = new_link_text s b in
     let size = length-new_link_text s b in
     let under : 16 + length b ≤ limit = omega arith in
-    let told = tells_length s b small in
-    let body : body_text (frame_type c) (frame_body c) ≡ Ok b = ap (λ t. body_text t (frame_body c)) (tells_type s b) ∙ ap (body_text 16) (has_body s b small) ∙ own in
-    let first = judged.ok limit c b (whole s b small) (subst (λ n. n ≤ limit) (sym told) under) body under in
+    let length_is = length_determined s b small in
+    let body : body_text (frame_type c) (frame_body c) ≡ Ok b = ap (λ t. body_text t (frame_body c)) (type_determined s b) ∙ ap (body_text 16) (has_body s b small) ∙ canonical in
+    let first = judged.ok limit c b (whole s b small) (subst (λ n. n ≤ limit) (sym length_is) under) body under in
     let end : drop (nla_align (frame_length c)) c ≡ [] = drop_all (nla_align (frame_length c)) c (omega arith) in (
-      not_raised (first_fault limit c) (counted.next_fault limit 0 c (frame_length c, frame_text c b) first ∙ ap (λ r. raised (0 + nla_align (frame_length c)) (first_fault limit r)) end ∙ ap (raised (0 + nla_align (frame_length c))) (counted.no_fault limit)),
-      counted.next_text limit c (frame_length c, frame_text c b) first ∙ ap (λ r. frame_text c b ++ texts limit r) end ∙ ap (λ t. frame_text c b ++ t) (counted.no_text limit) ∙ append-nil (frame_text c b) ∙ own_text s b aligned',
+      not_shifted (first_fault limit c) (counted.next_fault limit 0 c (frame_length c, frame_text c b) first ∙ ap (λ r. shifted (0 + nla_align (frame_length c)) (first_fault limit r)) end ∙ ap (shifted (0 + nla_align (frame_length c))) (counted.no_fault limit)),
+      counted.next_text limit c (frame_length c, frame_text c b) first ∙ ap (λ r. frame_text c b ++ texts limit r) end ∙ ap (λ t. frame_text c b ++ t) (counted.no_text limit) ∙ append-nil (frame_text c b) ∙ canonical_new_link_frame s b aligned',
     )
 
 -- the body of a message
@@ -129,15 +129,15 @@ pub request_size : (p : NetlinkPayload RouteLink) (link : RouteLink) → p ≡ I
 request_size p link e = ap (λ q. 16 + length (payload_entry route_entry q).1) e
 
 -- a size, as `buffer_len` returns it, which fits 32 bits or doesn't
-pub told_small : (n : ℕ) → as_usize n ≤ 4294967295 → n ≡ as_usize n
-told_small n h =
+pub small_size_determined : (n : ℕ) → as_usize n ≤ 4294967295 → n ≡ as_usize n
+small_size_determined n h =
     elim (cases_lt 18446744073709551615 n) [
       | inl k ↦ absurd (let e : min n 18446744073709551615 ≡ 18446744073709551615 = min-eq_right (omega (arith, k)) in omega (arith, e, h))
       | inr k ↦ sym (min-eq_left k)
     ]
 
-pub told_large : (n : ℕ) → 4294967295 < as_usize n → 2 ^ 32 ≤ n
-told_large n h = let m = min-le_left n 18446744073709551615 in omega (arith, m, h)
+pub large_size_determined : (n : ℕ) → 4294967295 < as_usize n → 2 ^ 32 ≤ n
+large_size_determined n h = let m = min-le_left n 18446744073709551615 in omega (arith, m, h)
 
 -- ---- the result of a request
 
@@ -167,17 +167,17 @@ abbrev pub all_three : List ℕ → ℕ → List ℕ → Bool → Bool
 all_three name mtu info inside =
     (nat_le (4 + length (name ++ 0 ∷ [])) 65535 && true) && ((nat_le (4 + length (le4 mtu)) 65535 && true) && ((nat_le (4 + length info) 65535 && inside) && true))
 
-alone : (b : Bool) → (b && true) && true ≡ b
-alone true = refl
-alone false = refl
+and_true_true : (b : Bool) → (b && true) && true ≡ b
+and_true_true true = refl
+and_true_true false = refl
 
-name_alone : (name : List ℕ) (mtu vni : ℕ) → all_three name mtu (vxlan_info_text vni) true ≡ nat_le (4 + length (name ++ 0 ∷ [])) 65535
+name_only : (name : List ℕ) (mtu vni : ℕ) → all_three name mtu (vxlan_info_text vni) true ≡ nat_le (4 + length (name ++ 0 ∷ [])) 65535
 unfolding list_text attribute_text le4 be2
-name_alone name mtu vni = alone (nat_le (4 + length (name ++ 0 ∷ [])) 65535)
+name_only name mtu vni = and_true_true (nat_le (4 + length (name ++ 0 ∷ [])) 65535)
 
 pub name_fits : (name : List ℕ) (mtu vni : ℕ) → (all_three name mtu (vxlan_info_text vni) true ≡ true) ↔ (length name ≤ 65530)
 name_fits name mtu vni =
-    let e = name_alone name mtu vni in (
+    let e = name_only name mtu vni in (
       (λ h. let l = leb-true (4 + length (name ++ 0 ∷ [])) 65535 (sym e ∙ h) in omega (arith, length-append name (0 ∷ []))),
       (λ h. e ∙ le-leb (4 + length (name ++ 0 ∷ [])) 65535 (omega (arith, length-append name (0 ∷ [])))),
     )

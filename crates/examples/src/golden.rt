@@ -19,7 +19,7 @@ pub enum Finding {
 
 /// Compares a capture with a golden file, which is a capture or a normal text. `limit` is the
 /// greatest length in bytes of a message, as read and as written. Allocates nothing.
-pub fn hold_against(golden: &[u8], capture: &[u8], limit: u32) -> Finding
+pub fn compare_with_golden(golden: &[u8], capture: &[u8], limit: u32) -> Finding
     ensures finding { IsFinding limit golden.now capture.now result }
 {
     match same(golden, capture, limit) {

@@ -3,7 +3,7 @@
 ghost use Rattle.std.specs.Prelude.{◌≡◌, ◌≢◌, ◌≤◌, ℕ, List, length, true, Some, IfErr, OnOk, OnErr, MatchResult};
 ghost use Rattle.std.specs.BTreeMap.{IsUnchanged};
 ghost use Rattle.link_capture.specs.Captures.{first_fault, IsLegal};
-ghost use Rattle.examples.specs.Interfaces.{AreMessages, Learns, LearnsAll, is_new_link, name_told};
+ghost use Rattle.examples.specs.Interfaces.{AreMessages, Learns, LearnsAll, is_new_link, name_in_attributes};
 
 use link_capture::{CaptureFault, FaultKind, Messages, RouteLink};
 use link_message::{LinkAttribute, LinkFlags, LinkMessage};
@@ -26,7 +26,7 @@ pub type Interfaces = BTreeMap<u32, Interface>;
 /// Returns the name in a link message: that of its first IFLA_IFNAME, or an empty one if it has
 /// none.
 pub fn name(message: &LinkMessage) -> &str
-    ensures { result.now ≡ name_told message.now.attributes.items }
+    ensures { result.now ≡ name_in_attributes message.now.attributes.items }
 {
     for attribute in message.attributes.as_slice() {
         if let LinkAttribute::IfName(name) = attribute {
@@ -97,21 +97,21 @@ pub fn learn_all(
     ensures legal { OnOk result (IsLegal limit capture.now) }
     ensures fault { IfErr result (λ fault. fault.kind ≢ FaultKind.Memory
         → first_fault limit capture.now ≡ Some fault) }
-    ensures learned { (messages : List (NetlinkMessage RouteLink)) × (place : ℕ)
-        × AreMessages limit capture.now messages place
+    ensures learned { (messages : List (NetlinkMessage RouteLink)) × (offset : ℕ)
+        × AreMessages limit capture.now messages offset
         × LearnsAll messages interfaces.old interfaces.new
-        × MatchResult result (λ _. length capture.now ≤ place) (λ fault. fault.offset ≡ place) }
+        × MatchResult result (λ _. length capture.now ≤ offset) (λ fault. fault.offset ≡ offset) }
 {
     let mut messages = Messages::new(alloc, capture, limit);
-    let mut place = 0;
+    let mut offset = 0;
     while let Some(message) = messages.next() {
         let Ok(()) = learn_last(alloc, message?, interfaces) else {
             return Err(CaptureFault {
                 kind: FaultKind::Memory,
-                offset: place as u64,
+                offset: offset as u64,
             });
         };
-        place = messages.place();
+        offset = messages.offset();
     }
     Ok(())
 }

@@ -18,7 +18,7 @@ use link_message::laws::headers_are_sixteen_bytes;
 use link_message::{
     AddressFamily, Flags, LinkAttribute, LinkFlags, LinkHeader, LinkLayerType, LinkMessage,
 };
-use netlink_packet_core::laws::{finalized_messages_tell, texts_are_cut_again};
+use netlink_packet_core::laws::{finalized_headers_match, texts_are_cut};
 use netlink_packet_core::{
     Emitable, NLM_F_ACK, NLM_F_CREATE, NLM_F_EXCL, NLM_F_REQUEST, NetlinkDeserializable,
     NetlinkHeader, NetlinkMessage,
@@ -82,7 +82,7 @@ pub fn request(
     if size > u32::MAX as usize {
         return Err(RequestFault::TooLong);
     }
-    finalized_messages_tell(&message);
+    finalized_headers_match(&message);
     message.finalize();
     let Ok(mut bytes) = Vec::from_elem(alloc, 0u8, size) else {
         return Err(RequestFault::Memory);
@@ -99,7 +99,7 @@ fn new_links_are_normal()
     captures_are_counted();
     frames_are_judged();
     headers_are_sixteen_bytes();
-    texts_are_cut_again();
+    texts_are_cut();
 }
 
 /// Returns the frame of a request to make a link (rtnetlink.h, `RTM_NEWLINK`), which the kernel
@@ -181,11 +181,11 @@ fn vxlan_message(alloc: Global, name: &str, vni: u32, mtu: u32) -> Result<LinkMe
 
 /// The body of a request to make a vxlan whose name fits is legal and already canonical.
 fn vxlans_are_legal(name: &str, vni: u32, mtu: u32)
-    ensures own { length name.now ≤ 65530
+    ensures canonical { length name.now ≤ 65530
         → ruled_text link_body (vxlan_body name.now vni mtu) ≡ Ok (vxlan_body name.now vni mtu) }
     ensures aligned { length (vxlan_body name.now vni mtu) % 4 ≡ 0 }
 {
-    texts_are_cut_again();
+    texts_are_cut();
 }
 
 /// Returns the body of a request to make a vxlan whose name fits.

@@ -4,8 +4,8 @@ ghost use Rattle.std.specs.Prelude.{◌≡◌, ◌≢◌, ◌⊎◌, ℕ, List, 
 ghost use Rattle.link_capture.specs.Captures.{first_fault, texts, IsLegal, StopsAt};
 
 use link_capture::laws::{
-    captures_are_counted, faults_stand_at_frames, frames_stand_alone, sameness_goes_by_frames,
-    texts_tell_meanings,
+    captures_are_counted, faults_are_at_frames, frames_are_independent, sameness_unfolds_by_frames,
+    texts_determine_meanings,
 };
 use link_capture::{CaptureFault, FaultKind, check, normalize_bytes};
 use std::alloc::Global;
@@ -29,14 +29,14 @@ fn normal_text(alloc: Global, capture: &[u8], limit: u32) -> Result<Vec<u8>, Cap
     ensures memory { IfErr result (λ fault. fault.kind ≡ FaultKind.Memory
         → IsLegal limit capture.now × StopsAt limit capture.now fault.offset) }
 {
-    faults_stand_at_frames();
+    faults_are_at_frames();
     check(capture, limit)?;
     captures_are_counted();
     let mut text = Vec::new(alloc);
     // A message has at least 16 bytes, so under a smaller limit only the empty capture is legal.
     if !capture.is_empty() {
-        sameness_goes_by_frames();
-        frames_stand_alone();
+        sameness_unfolds_by_frames();
+        frames_are_independent();
         normalize_bytes(capture, limit, &mut text)?;
     }
     Ok(text)
@@ -94,13 +94,13 @@ impl<V> Store<V> {
             → first_fault (limit_of self.old) capture.now ≡ Some refused.fault) }
         ensures memory { IfErr result (λ refused. refused.fault.kind ≡ FaultKind.Memory
             → IsLegal (limit_of self.old) capture.now) }
-        ensures place { IfErr result (λ refused. refused.fault.kind ≡ FaultKind.Memory
+        ensures offset { IfErr result (λ refused. refused.fault.kind ≡ FaultKind.Memory
             → StopsAt (limit_of self.old) capture.now refused.fault.offset
             ⊎ (refused.fault.offset ≡ length capture.now)) }
         ensures unchanged { OnErr result (IsUnchanged self.old self.new) }
         ensures limit { limit_of self.new ≡ limit_of self.old }
     {
-        texts_tell_meanings();
+        texts_determine_meanings();
         let text = match normal_text(alloc, capture, self.limit) {
             Ok(text) => text,
             Err(fault) => return Err(NotStored { fault, value }),

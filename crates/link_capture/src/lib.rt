@@ -16,7 +16,7 @@ pub use link_capture_reader::{
     CaptureReader, DeviceFailed, FirstBytes, ReadSource, Sink, SliceSource, Source, VecSink,
     WriteSink, normalize, normalize_bytes, read_all, read_all_keeping_first, write_all,
 };
-pub use link_capture_refusals::laws::{refused_bodies_are_told, refused_frames_stand_alone};
+pub use link_capture_refusals::laws::{refused_bodies_have_refusals, refusals_are_independent};
 pub use link_capture_refusals::{Reason, Refusal, why, why_frame};
-pub use link_capture_spellings::{PlacedSpelling, Spelling, Spellings, spelling};
+pub use link_capture_quirks::{QuirkAt, Quirk, CaptureQuirks, quirks};
 pub use link_message::laws::equal_texts_mean_equal_messages;

@@ -7,7 +7,7 @@ use Rattle.netlink_packet_core_grammar.specs.Numbers.{u16_at}
 use Rattle.link_message_grammar.specs.Body.{link_body}
 use Rattle.link_capture_grammar.specs.declared.fault.FaultKind.{FaultKind}
 use Rattle.link_capture_grammar.specs.Bodies.{Refusal, body_text, body_text_under, done_text, error_text, is_link_type, ruled_text}
-use Rattle.link_capture_grammar.specs.Captures.{faulty}
+use Rattle.link_capture_grammar.specs.Captures.{text_or_fault}
 use Rattle.link_capture_grammar.specs.Same.{done_body, same_body, same_body_under}
 use Rattle.link_capture_grammar.proofs.Meanings.{type_at}
 use Rattle.link_capture_grammar.specs.Numbers.{body_attributes}
@@ -56,7 +56,7 @@ other t b n m k o = record {
 pub measured : (t : ℕ) (b : List ℕ) (judged : Result (List ℕ) Refusal) (inside : ℕ) → Judges t b judged inside → (r : Result MeasuredBody FaultKind) → IfOk r (λ m. IsBodyText b judged inside m) → IfOk r (λ m. IsBodyText b (body_text t b) (body_attributes t b) m)
 measured t b judged inside j r h = rw (j.text, j.attributes) h
 
-pub refused : (t : ℕ) (b : List ℕ) (judged : Result (List ℕ) Refusal) (inside : ℕ) → Judges t b judged inside → (r : Result MeasuredBody FaultKind) → IfErr r (λ kind. faulty judged ≡ Err kind) → IfErr r (λ kind. faulty (body_text t b) ≡ Err kind)
+pub refused : (t : ℕ) (b : List ℕ) (judged : Result (List ℕ) Refusal) (inside : ℕ) → Judges t b judged inside → (r : Result MeasuredBody FaultKind) → IfErr r (λ kind. text_or_fault judged ≡ Err kind) → IfErr r (λ kind. text_or_fault (body_text t b) ≡ Err kind)
 refused t b judged inside j r h = rw j.text h
 
 -- whether two bodies mean the same, type by type

@@ -3,7 +3,7 @@ use Rattle.std.specs.Prelude.{◌≡◌, ℕ, ◌+◌, ◌≤◌, ◌<◌, true,
 use Rattle.netlink_packet_core_grammar.specs.Attributes.{nla_align}
 use Rattle.netlink_packet_core_grammar.specs.Frames.{IsFrame, frame_type, frame_body, frame_text}
 use Rattle.link_message_grammar.specs.Body.{link_peer}
-use Rattle.link_message_checks.specs.Fronts.{IsBodyFront}
+use Rattle.link_message_checks.specs.Prefixes.{IsBodyPrefix}
 use Rattle.link_capture_grammar.specs.Bodies.{Refusal, body_text}
 use Rattle.link_capture_grammar.specs.Captures.{first_frame, texts}
 use Rattle.link_capture_grammar.specs.Numbers.{attributes, frame_attributes, frames}
@@ -17,7 +17,7 @@ pub record IsBodyText (body : List ℕ) (judged : Result (List ℕ) Refusal) (in
   pub is : judged ≡ Ok text
   pub len : m.len ≡ length text
   pub attributes : m.attributes ≡ inside
-  pub own : m.is_own ≡ true → text ≡ body
+  pub canonical : m.is_canonical ≡ true → text ≡ body
 
 -- The measure m is that of the first frame of c, which is accepted.
 pub record IsFrameText (limit : ℕ) (c : List ℕ) (m : MeasuredFrame) : Type 0 where
@@ -33,8 +33,8 @@ pub record IsFrameText (limit : ℕ) (c : List ℕ) (m : MeasuredFrame) : Type 0
   pub text_len : m.text_len ≡ length text
   pub aligned : m.text_len ≡ nla_align m.size
   pub attributes : m.attributes ≡ frame_attributes c
-  pub own : m.is_own ≡ true → body ≡ frame_body c
-  pub front : IsBodyFront link_peer (frame_body c) m.front
+  pub canonical : m.is_canonical ≡ true → body ≡ frame_body c
+  pub canonical_prefix : IsBodyPrefix link_peer (frame_body c) m.canonical_prefix
 
 -- The text of a body that has one.
 abbrev pub written : Result (List ℕ) Refusal → List ℕ
@@ -42,8 +42,8 @@ written (Ok text) = text
 written (Err why) = []
 
 -- The first frame is accepted, and the vector had less capacity than its text needs.
-abbrev pub LacksRoom : {Z : Type 0} → ℕ → List ℕ → Vec ℕ Z → Type 0
-LacksRoom limit c out = (n : ℕ) × (text : List ℕ) × (first_frame limit c ≡ Ok (n, text)) × (vec_capacity out < length out.items + length text)
+abbrev pub LacksCapacity : {Z : Type 0} → ℕ → List ℕ → Vec ℕ Z → Type 0
+LacksCapacity limit c out = (n : ℕ) × (text : List ℕ) × (first_frame limit c ≡ Ok (n, text)) × (vec_capacity out < length out.items + length text)
 
 -- The measure m is that of a capture up to its first fault.
 pub record IsMeasure (limit : ℕ) (c : List ℕ) (m : Measure) : Type 0 where

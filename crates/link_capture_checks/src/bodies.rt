@@ -2,15 +2,15 @@
 
 ghost use Rattle.std.specs.Prelude.{◌≡◌, ◌≤◌, ◌+◌, ◌++◌, true, length, is_ok, vec_capacity, IfOk, IfErr, Ok, Err};
 ghost use Rattle.link_message_grammar.specs.Body.{link_body, link_peer};
-ghost use Rattle.link_message_checks.specs.Fronts.{IsBodyFront};
+ghost use Rattle.link_message_checks.specs.Prefixes.{IsBodyPrefix};
 ghost use Rattle.link_capture_grammar.specs.Bodies.{body_text, done_text, error_text, ruled_text};
-ghost use Rattle.link_capture_grammar.specs.Captures.{faulty};
+ghost use Rattle.link_capture_grammar.specs.Captures.{text_or_fault};
 ghost use Rattle.link_capture_grammar.specs.Numbers.{body_attributes};
 ghost use Rattle.link_capture_grammar.specs.Same.{done_body};
 ghost use Rattle.link_capture_checks.specs.Measures.{IsBodyText, written};
 
 use crate::texts::MeasuredBody;
-use attribute_tables_grammar::laws::measures_tell_rules;
+use attribute_tables_grammar::laws::measures_determine_rules;
 use link_capture_grammar::fault::FaultKind;
 use link_capture_grammar::link_types::{RTM_NEWLINK, RTM_SETLINK};
 use link_interpreter::append;
@@ -33,21 +33,21 @@ pub(crate) fn with_code(body: &[u8]) -> &[u8]
 // Returns the measure of a body that is already canonical.
 fn kept(body: &[u8]) -> MeasuredBody
     ensures text { IsBodyText body.now (Ok body.now) 0 result }
-    ensures front { result.front ≡ 0 }
+    ensures canonical_prefix { result.canonical_prefix ≡ 0 }
 {
     MeasuredBody {
         len: body.len() as u128,
         attributes: 0,
-        is_own: true,
-        front: 0,
+        is_canonical: true,
+        canonical_prefix: 0,
     }
 }
 
 // Returns the measure of the body of an ERROR message: a code and more.
 fn measure_error(body: &[u8]) -> Result<MeasuredBody, FaultKind>
     ensures ok { IfOk result (λ m. IsBodyText body.now (error_text body.now) 0 m) }
-    ensures front { IfOk result (λ m. m.front ≡ 0) }
-    ensures err { IfErr result (λ kind. faulty (error_text body.now) ≡ Err kind) }
+    ensures canonical_prefix { IfOk result (λ m. m.canonical_prefix ≡ 0) }
+    ensures err { IfErr result (λ kind. text_or_fault (error_text body.now) ≡ Err kind) }
 {
     if body.len() < CODE_LEN {
         Err(FaultKind::Refused)
@@ -60,15 +60,15 @@ fn measure_error(body: &[u8]) -> Result<MeasuredBody, FaultKind>
 // 0.
 fn measure_done(body: &[u8]) -> Result<MeasuredBody, FaultKind>
     ensures ok { IfOk result (λ m. IsBodyText body.now (done_text body.now) 0 m) }
-    ensures front { IfOk result (λ m. m.front ≡ 0) }
-    ensures err { IfErr result (λ kind. faulty (done_text body.now) ≡ Err kind) }
+    ensures canonical_prefix { IfOk result (λ m. m.canonical_prefix ≡ 0) }
+    ensures err { IfErr result (λ kind. text_or_fault (done_text body.now) ≡ Err kind) }
 {
     if body.is_empty() {
         return Ok(MeasuredBody {
             len: CODE_LEN as u128,
             attributes: 0,
-            is_own: false,
-            front: 0,
+            is_canonical: false,
+            canonical_prefix: 0,
         });
     }
     measure_error(body)
@@ -78,10 +78,10 @@ fn measure_done(body: &[u8]) -> Result<MeasuredBody, FaultKind>
 fn measure_link(body: &[u8]) -> Result<MeasuredBody, FaultKind>
     ensures ok { IfOk result
         (λ m. IsBodyText body.now (ruled_text link_body body.now) (link_body.attributes body.now) m) }
-    ensures front { IfOk result (λ m. IsBodyFront link_peer body.now m.front) }
-    ensures err { IfErr result (λ kind. faulty (ruled_text link_body body.now) ≡ Err kind) }
+    ensures canonical_prefix { IfOk result (λ m. IsBodyPrefix link_peer body.now m.canonical_prefix) }
+    ensures err { IfErr result (λ kind. text_or_fault (ruled_text link_body body.now) ≡ Err kind) }
 {
-    measures_tell_rules();
+    measures_determine_rules();
     let Some(found) = walk_body(body) else {
         return Err(FaultKind::Refused);
     };
@@ -94,8 +94,8 @@ fn measure_link(body: &[u8]) -> Result<MeasuredBody, FaultKind>
     Ok(MeasuredBody {
         len: found.text_len,
         attributes: found.attributes,
-        is_own: found.is_own,
-        front: found.front as usize,
+        is_canonical: found.is_canonical,
+        canonical_prefix: found.canonical_prefix as usize,
     })
 }
 
@@ -103,15 +103,15 @@ fn measure_link(body: &[u8]) -> Result<MeasuredBody, FaultKind>
 pub(crate) fn measure_body(message_type: u16, body: &[u8]) -> Result<MeasuredBody, FaultKind>
     ensures ok { IfOk result (λ m. IsBodyText body.now (body_text message_type body.now)
         (body_attributes message_type body.now) m) }
-    ensures front { IfOk result (λ m. IsBodyFront link_peer body.now m.front) }
-    ensures err { IfErr result (λ kind. faulty (body_text message_type body.now) ≡ Err kind) }
+    ensures canonical_prefix { IfOk result (λ m. IsBodyPrefix link_peer body.now m.canonical_prefix) }
+    ensures err { IfErr result (λ kind. text_or_fault (body_text message_type body.now) ≡ Err kind) }
 {
     match message_type {
         NLMSG_NOOP => Ok(MeasuredBody {
             len: 0,
             attributes: 0,
-            is_own: false,
-            front: 0,
+            is_canonical: false,
+            canonical_prefix: 0,
         }),
         NLMSG_ERROR => measure_error(body),
         NLMSG_DONE => measure_done(body),
@@ -121,30 +121,30 @@ pub(crate) fn measure_body(message_type: u16, body: &[u8]) -> Result<MeasuredBod
 }
 
 /// Appends the text of a body that has one, for which `out` must have capacity. Of a link message's
-/// body the first `front` bytes are known to be canonical already.
+/// body the first `canonical_prefix` bytes are known to be canonical already.
 pub(crate) fn write_frame_body(
     message_type: u16,
     body: &[u8],
-    is_own: bool,
-    front: usize,
+    is_canonical: bool,
+    canonical_prefix: usize,
     out: &mut Vec<u8>,
 )
     requires text { is_ok (body_text message_type body.now) ≡ true }
-    requires own { is_own ≡ true → body_text message_type body.now ≡ Ok body.now }
-    requires front { IsBodyFront link_peer body.now front }
-    requires room { length out.old.items + length (written (body_text message_type body.now))
+    requires canonical { is_canonical ≡ true → body_text message_type body.now ≡ Ok body.now }
+    requires canonical_prefix { IsBodyPrefix link_peer body.now canonical_prefix }
+    requires capacity { length out.old.items + length (written (body_text message_type body.now))
         ≤ vec_capacity out.old }
     ensures text { out.new.items ≡ out.old.items ++ written (body_text message_type body.now) }
-    ensures room { vec_capacity out.old ≤ vec_capacity out.new }
+    ensures capacity { vec_capacity out.old ≤ vec_capacity out.new }
 {
-    if is_own {
+    if is_canonical {
         return append(body, out);
     }
     match message_type {
         NLMSG_NOOP => {}
         NLMSG_ERROR => append(body, out),
         NLMSG_DONE => append(with_code(body), out),
-        RTM_NEWLINK..=RTM_SETLINK => write_body(body, front, out),
+        RTM_NEWLINK..=RTM_SETLINK => write_body(body, canonical_prefix, out),
         _ => append(body, out),
     }
 }

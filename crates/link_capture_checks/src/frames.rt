@@ -5,10 +5,10 @@ ghost use Rattle.std.specs.Prelude.{is_ok, vec_capacity, IfOk, IfErr, OnErr, Ok,
 ghost use Rattle.netlink_packet_core_grammar.specs.Attributes.{nla_align};
 ghost use Rattle.netlink_packet_core.specs.Frames.{IsFrame, frame_length, frame_type, frame_body, frame_text};
 ghost use Rattle.link_message_grammar.specs.Body.{link_peer};
-ghost use Rattle.link_message_checks.specs.Fronts.{IsBodyFront};
+ghost use Rattle.link_message_checks.specs.Prefixes.{IsBodyPrefix};
 ghost use Rattle.link_capture_grammar.specs.Bodies.{body_text};
-ghost use Rattle.link_capture_grammar.specs.Captures.{IsOfFrames, Judged, first_frame, tested};
-ghost use Rattle.link_capture_checks.specs.Measures.{IsFrameText, LacksRoom, written};
+ghost use Rattle.link_capture_grammar.specs.Captures.{IsOfFrames, Judged, first_frame, checked_header};
+ghost use Rattle.link_capture_checks.specs.Measures.{IsFrameText, LacksCapacity, written};
 
 use crate::bodies::{measure_body, write_frame_body};
 use crate::texts::{MeasuredBody, MeasuredFrame};
@@ -25,7 +25,7 @@ use netlink_packet_core::{NETLINK_HEADER_LEN, NetlinkBuffer, nla_align};
 pub fn frame_len(bytes: &[u8], limit: u32) -> Result<usize, FaultKind>
     ensures ok { IfOk result (λ n. (n ≡ frame_length bytes.now) × (n ≤ limit) × IsFrame bytes.now) }
     ensures err { IfErr result
-        (λ kind. (judged : Judged) → tested limit (length bytes.now) (frame_length bytes.now) judged
+        (λ kind. (judged : Judged) → checked_header limit (length bytes.now) (frame_length bytes.now) judged
         ≡ Err kind) }
     ensures of_frames { IfErr result (λ kind. IsOfFrames kind) }
 {
@@ -70,8 +70,8 @@ pub fn measure_frame(bytes: &[u8], limit: u32) -> Result<MeasuredFrame, FaultKin
     let MeasuredBody {
         len: body_len,
         attributes,
-        is_own,
-        front,
+        is_canonical,
+        canonical_prefix,
     } = measure_body(message_type, frame_body(bytes))?;
     if body_len > (limit as usize - NETLINK_HEADER_LEN) as u128 {
         return Err(FaultKind::TextOverLimit);
@@ -82,30 +82,30 @@ pub fn measure_frame(bytes: &[u8], limit: u32) -> Result<MeasuredFrame, FaultKin
         size,
         text_len: nla_align(size),
         attributes,
-        is_own,
-        front,
+        is_canonical,
+        canonical_prefix,
     })
 }
 
 // Appends the text of the first frame, whose body has one, with this size in its header. `out` must
 // have capacity for it.
-fn write_frame_text(bytes: &[u8], size: u32, is_own: bool, front: usize, out: &mut Vec<u8>)
+fn write_frame_text(bytes: &[u8], size: u32, is_canonical: bool, canonical_prefix: usize, out: &mut Vec<u8>)
     requires frame { IsFrame bytes.now }
     requires text { is_ok (body_text (frame_type bytes.now) (frame_body bytes.now)) ≡ true }
-    requires own { is_own ≡ true
+    requires canonical { is_canonical ≡ true
         → body_text (frame_type bytes.now) (frame_body bytes.now) ≡ Ok (frame_body bytes.now) }
-    requires front { IsBodyFront link_peer (frame_body bytes.now) front }
+    requires canonical_prefix { IsBodyPrefix link_peer (frame_body bytes.now) canonical_prefix }
     requires size { size
         ≡ 16 + length (written (body_text (frame_type bytes.now) (frame_body bytes.now))) }
-    requires room { length out.old.items + nla_align size ≤ vec_capacity out.old }
+    requires capacity { length out.old.items + nla_align size ≤ vec_capacity out.old }
     ensures text { out.new.items ≡ out.old.items
         ++ frame_text bytes.now (written (body_text (frame_type bytes.now) (frame_body bytes.now))) }
-    ensures room { vec_capacity out.old ≤ vec_capacity out.new }
+    ensures capacity { vec_capacity out.old ≤ vec_capacity out.new }
 {
     append(&size.to_le_bytes(), out);
     append(&bytes[4..NETLINK_HEADER_LEN], out);
     let message_type = NetlinkBuffer::new(bytes).message_type();
-    write_frame_body(message_type, frame_body(bytes), is_own, front, out);
+    write_frame_body(message_type, frame_body(bytes), is_canonical, canonical_prefix, out);
     let size = size as usize;
     append_zeros(nla_align(size) - size, out);
 }
@@ -126,20 +126,20 @@ pub fn push_frame(bytes: &[u8], limit: u32, out: &mut Vec<u8>) -> Result<usize, 
         (λ kind. kind ≢ FaultKind.Memory → first_frame limit bytes.now ≡ Err kind) }
     ensures err { OnErr result (out.new.items ≡ out.old.items) }
     ensures memory { IfErr result
-        (λ kind. kind ≡ FaultKind.Memory → LacksRoom limit bytes.now out.old) }
-    ensures room { vec_capacity out.old ≤ vec_capacity out.new }
+        (λ kind. kind ≡ FaultKind.Memory → LacksCapacity limit bytes.now out.old) }
+    ensures capacity { vec_capacity out.old ≤ vec_capacity out.new }
 {
     let MeasuredFrame {
         len,
         size,
         text_len,
-        is_own,
-        front,
+        is_canonical,
+        canonical_prefix,
         ..
     } = measure_frame(bytes, limit)?;
     let Ok(()) = out.reserve(text_len) else {
         return Err(FaultKind::Memory);
     };
-    write_frame_text(bytes, size as u32, is_own, front, out);
+    write_frame_text(bytes, size as u32, is_canonical, canonical_prefix, out);
     Ok(len)
 }

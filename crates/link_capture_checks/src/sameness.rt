@@ -7,7 +7,7 @@ ghost use Rattle.link_capture_grammar.specs.Bodies.{is_link_type};
 ghost use Rattle.link_capture_grammar.specs.Captures.{first_fault, texts, IsLegal};
 ghost use Rattle.link_capture_grammar.specs.Laws.{LegalFrame};
 ghost use Rattle.link_capture_grammar.specs.Same.{done_body, same_body, SameFrame, SameCapture};
-ghost use Rattle.link_capture_checks.specs.Partings.{IsAlike, Part};
+ghost use Rattle.link_capture_checks.specs.Partings.{IsAlike, HaveParted};
 ghost use Rattle.link_capture_checks.specs.Sides.{side_text};
 
 use crate::bodies::with_code;
@@ -16,7 +16,7 @@ use crate::frames::{frame_body, measure_frame};
 use arrayvec::ArrayString;
 use link_capture_grammar::fault::CaptureFault;
 use link_capture_grammar::laws::{
-    captures_are_counted, faults_stand_at_frames, sameness_goes_by_frames, texts_tell_meanings,
+    captures_are_counted, faults_are_at_frames, sameness_unfolds_by_frames, texts_determine_meanings,
 };
 use link_capture_grammar::link_types::{RTM_NEWLINK, RTM_SETLINK};
 use link_message_checks::same as same_link;
@@ -36,7 +36,7 @@ impl SideFault {
     /// nothing.
     pub fn text(self) -> ArrayString<128>
         ensures text { result.bytes ≡ side_text self }
-        ensures room { length result.bytes < 128 }
+        ensures fits { length result.bytes < 128 }
     {
         let mut text = ArrayString::new();
         text.push_str(if self.second { "second: " } else { "first: " });
@@ -57,7 +57,7 @@ impl fmt::Display for SideFault {
 }
 
 // Returns the bytes after the first frame and its padding.
-fn behind(bytes: &[u8]) -> &[u8]
+fn following(bytes: &[u8]) -> &[u8]
     requires { IsFrame bytes.now }
     ensures { result.now ≡ drop (nla_align (frame_length bytes.now)) bytes.now }
 {
@@ -96,7 +96,7 @@ fn is_same_frame(left: &[u8], right: &[u8], limit: u32) -> bool
     requires { LegalFrame limit left.now }
     ensures { (result ≡ true) ↔ (LegalFrame limit right.now × SameFrame left.now right.now) }
 {
-    sameness_goes_by_frames();
+    sameness_unfolds_by_frames();
     let len = NetlinkBuffer::new(left).length() as usize;
     if right.len() >= len && &left[..len] == &right[..len] {
         return true;
@@ -112,9 +112,9 @@ fn is_same_frame(left: &[u8], right: &[u8], limit: u32) -> bool
 fn parting<'a>(left: &'a [u8], right: &[u8], limit: u32) -> (&'a [u8], usize)
     requires { IsLegal limit left.now }
     ensures alike { IsAlike limit left.now right.now result.0.now result.1 }
-    ensures parts { Part limit result.0.now (drop result.1 right.now) }
+    ensures parts { HaveParted limit result.0.now (drop result.1 right.now) }
 {
-    sameness_goes_by_frames();
+    sameness_unfolds_by_frames();
     captures_are_counted();
     let mut rest = left;
     let mut at = 0;
@@ -124,7 +124,7 @@ fn parting<'a>(left: &'a [u8], right: &[u8], limit: u32) -> (&'a [u8], usize)
             return (rest, at);
         }
         at += nla_align(NetlinkBuffer::new(other).length() as usize);
-        rest = behind(rest);
+        rest = following(rest);
     }
     (rest, at)
 }
@@ -137,8 +137,8 @@ fn same_as(left: &[u8], right: &[u8], limit: u32) -> Result<bool, CaptureFault>
         (λ is_same. (is_same ≡ true) ↔ SameCapture limit left.now right.now) }
     ensures fault { IfErr result (λ fault. first_fault limit right.now ≡ Some fault) }
 {
-    sameness_goes_by_frames();
-    faults_stand_at_frames();
+    sameness_unfolds_by_frames();
+    faults_are_at_frames();
     let (rest, at) = parting(left, right, limit);
     if at >= right.len() {
         return Ok(rest.is_empty());
@@ -172,7 +172,7 @@ pub fn same(left: &[u8], right: &[u8], limit: u32) -> Result<bool, SideFault>
         (λ e. first_fault limit (cond e.second right.now left.now) ≡ Some e.fault) }
     ensures in_turn { IfErr result (λ e. e.second ≡ true → IsLegal limit left.now) }
 {
-    texts_tell_meanings();
+    texts_determine_meanings();
     if let Err(fault) = check(left, limit) {
         return Err(SideFault {
             second: false,

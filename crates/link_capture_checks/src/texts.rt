@@ -8,10 +8,10 @@ pub(crate) struct MeasuredBody {
     /// The number of attribute headers inside, at all depths.
     pub attributes: u64,
     /// Whether the body is known to be canonical already; it may be so even if this is false.
-    pub is_own: bool,
+    pub is_canonical: bool,
     /// How many bytes at the start of a link message's body are known to be canonical already; 0
     /// for other bodies.
-    pub front: usize,
+    pub canonical_prefix: usize,
 }
 
 /// The measure of a frame's text.
@@ -26,10 +26,10 @@ pub struct MeasuredFrame {
     /// The number of attribute headers inside, at all depths.
     pub attributes: u64,
     /// Whether the body is known to be canonical already; it may be so even if this is false.
-    pub is_own: bool,
+    pub is_canonical: bool,
     /// How many bytes at the start of a link message's body are known to be canonical already; 0
     /// for other messages.
-    pub front: usize,
+    pub canonical_prefix: usize,
 }
 
 /// The numbers of a legal capture.

@@ -6,15 +6,15 @@ use Rattle.link_capture_commands.specs.declared.command.Command.{Command}
 use Rattle.link_capture_commands.specs.declared.command.Command.TheVariants.{Norm, Same}
 
 -- The argument is one digit or more, which write a number from 16 to 4294967295, and nothing else.
-pub record IsLimitWord (word : List ℕ) : Type 0 where
-  pub numeral : IsNumeral 10 word
-  pub low : 16 ≤ digits_value 10 word
-  pub high : digits_value 10 word < 2 ^ 32
+pub record IsLimitArgument (argument : List ℕ) : Type 0 where
+  pub numeral : IsNumeral 10 argument
+  pub low : 16 ≤ digits_value 10 argument
+  pub high : digits_value 10 argument < 2 ^ 32
 
 -- The last arguments are this limit: 1 MiB if there are none.
 abbrev pub IsLimit : List (List ℕ) → ℕ → Type 0
 IsLimit [] limit = limit ≡ 1048576
-IsLimit (w ∷ []) limit = IsLimitWord w × (limit ≡ digits_value 10 w)
+IsLimit (w ∷ []) limit = IsLimitArgument w × (limit ≡ digits_value 10 w)
 IsLimit (w ∷ x ∷ more) limit = ⊥
 
 -- The arguments ask for a normal text under this limit.
@@ -25,12 +25,12 @@ IsNorm (w ∷ last) limit = (w ≡ codes "norm") × IsLimit last limit
 -- The arguments ask whether the files with these names mean the same under this limit.
 abbrev pub IsSame : List (List ℕ) → List ℕ → List ℕ → ℕ → Type 0
 IsSame (w ∷ a ∷ b ∷ last) first second limit = (w ≡ codes "same") × (first ≡ a) × (second ≡ b) × IsLimit last limit
-IsSame words first second limit = ⊥
+IsSame arguments first second limit = ⊥
 
 -- The arguments ask for this command.
 abbrev pub IsCommand : List (List ℕ) → Command → Type 0
-IsCommand words (Norm limit) = IsNorm words limit
-IsCommand words (Same first second limit) = IsSame words first.now second.now limit
+IsCommand arguments (Norm limit) = IsNorm arguments limit
+IsCommand arguments (Same first second limit) = IsSame arguments first.now second.now limit
 
 -- The exit status of a run of `norm`: 0 if it succeeded, 2 after a fault.
 abbrev pub status_of : {Fault : Type 0} → Result ⊤ Fault → ℕ

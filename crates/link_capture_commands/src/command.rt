@@ -2,7 +2,7 @@
 
 ghost use Rattle.std.specs.Prelude.{◌≡◌, ◌≢◌, ◌≤◌, ℕ, ⊤, [], map, IfSome, IfNone, string_bytes};
 ghost use Rattle.std.specs.Str.Parse.{digits_value};
-ghost use Rattle.link_capture_commands.specs.Commands.{IsLimitWord, IsLimit, IsCommand, HasLimit, status_of, status_of_same};
+ghost use Rattle.link_capture_commands.specs.Commands.{IsLimitArgument, IsLimit, IsCommand, HasLimit, status_of, status_of_same};
 
 use link_capture_checks::SideFault;
 use link_capture_grammar::fault::CaptureFault;
@@ -29,26 +29,26 @@ pub enum Command<'a> {
 
 /// Returns the limit that an argument writes: digits of a number from 16 to 4294967295, without a
 /// sign. Returns None for any other argument.
-pub fn read_limit(word: &str) -> Option<u32>
-    ensures some { IfSome result (λ n. IsLimitWord word.now × (n ≡ digits_value 10 word.now)) }
-    ensures none { IfNone result (IsLimitWord word.now → ⊥) }
+pub fn read_limit(argument: &str) -> Option<u32>
+    ensures some { IfSome result (λ n. IsLimitArgument argument.now × (n ≡ digits_value 10 argument.now)) }
+    ensures none { IfNone result (IsLimitArgument argument.now → ⊥) }
 {
-    let bytes = word.as_bytes();
+    let bytes = argument.as_bytes();
     if !bytes.is_empty() && bytes[0] == b'+' {
         return None;
     }
-    match word.parse::<u32>() {
+    match argument.parse::<u32>() {
         Ok(limit) if limit >= 16 => Some(limit),
         _ => None,
     }
 }
 
 /// Returns the limit in the last arguments: the only one, or `DEFAULT_LIMIT` if there is none.
-fn read_last(words: &[String]) -> Option<u32>
-    ensures some { IfSome result (λ n. IsLimit (map string_bytes words.now) n) }
-    ensures none { IfNone result ((n : ℕ) → IsLimit (map string_bytes words.now) n → ⊥) }
+fn read_last(arguments: &[String]) -> Option<u32>
+    ensures some { IfSome result (λ n. IsLimit (map string_bytes arguments.now) n) }
+    ensures none { IfNone result ((n : ℕ) → IsLimit (map string_bytes arguments.now) n → ⊥) }
 {
-    match words {
+    match arguments {
         [] => Some(DEFAULT_LIMIT),
         [limit] => read_limit(limit.as_str()),
         _ => None,
@@ -58,15 +58,15 @@ fn read_last(words: &[String]) -> Option<u32>
 /// Returns the command in the arguments after the program's name: `norm`, or `same` and the names
 /// of two files, followed by a limit or nothing. Returns None for any other arguments. Allocates
 /// nothing.
-pub fn read_words(words: &[String]) -> Option<Command<'_>>
-    ensures some { IfSome result (λ command. IsCommand (map string_bytes words.now) command) }
+pub fn read_words(arguments: &[String]) -> Option<Command<'_>>
+    ensures some { IfSome result (λ command. IsCommand (map string_bytes arguments.now) command) }
     ensures limit { IfSome result (λ command. HasLimit command) }
     // The limit if no argument is one.
     ensures default { IsLimit [] DEFAULT_LIMIT }
     ensures none { IfNone result ((command : Command)
-        → IsCommand (map string_bytes words.now) command → ⊥) }
+        → IsCommand (map string_bytes arguments.now) command → ⊥) }
 {
-    match words {
+    match arguments {
         [norm, last @ ..] if norm.as_str() == "norm" => Some(Command::Norm {
             limit: read_last(last)?,
         }),

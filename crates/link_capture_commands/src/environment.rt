@@ -6,11 +6,11 @@ use std::rt::Env;
 
 /// The environment of a process, with the arguments after the program's name.
 #[derive(Drop)]
-struct BehindName<'a> {
+struct ArgumentsAfterName<'a> {
     rt: &'a HostRuntime,
 }
 
-impl Env for BehindName<'_> {
+impl Env for ArgumentsAfterName<'_> {
     fn arg(&self, index: usize, buffer: &mut [u8]) -> Result<usize, FillError> {
         match index.checked_add(1) {
             Some(index) => self.rt.arg(index, buffer),
@@ -27,7 +27,7 @@ impl Env for BehindName<'_> {
     }
 }
 
-impl Alloc for BehindName<'_> {
+impl Alloc for ArgumentsAfterName<'_> {
     type A = Global;
 
     fn alloc(&self) -> Global {
@@ -37,6 +37,6 @@ impl Alloc for BehindName<'_> {
 
 /// Returns the arguments after the program's name, which itself needn't be UTF-8. Returns None if
 /// an argument isn't UTF-8, or if an allocation fails.
-pub fn words(rt: &HostRuntime) -> Option<Vec<String>> {
-    env::args(&BehindName { rt }).ok()?.collect(rt.alloc()).ok()
+pub fn arguments(rt: &HostRuntime) -> Option<Vec<String>> {
+    env::args(&ArgumentsAfterName { rt }).ok()?.collect(rt.alloc()).ok()
 }

@@ -5,4 +5,4 @@ mod command;
 mod environment;
 
 pub use command::{Command, DEFAULT_LIMIT, read_limit, read_words, status_norm, status_same};
-pub use environment::words;
+pub use environment::arguments;

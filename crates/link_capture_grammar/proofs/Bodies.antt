@@ -26,7 +26,7 @@ by_type r P noop error done link other t =
             | inr m ↦
                 elim (cases_Bool (eqb t 3)) [
                   | inl n ↦ subst At (sym (eqb-true t 3 n)) done
-                  | inr n ↦ subst (λ x. Told x (eqb t 2) (eqb t 3) (is_link_type t)) (sym k) (subst (λ y. Told false y (eqb t 3) (is_link_type t)) (sym m) (subst (λ z. Told false false z (is_link_type t)) (sym n) (last (is_link_type t))))
+                  | inr n ↦ subst (λ x. TypeTests x (eqb t 2) (eqb t 3) (is_link_type t)) (sym k) (subst (λ y. TypeTests false y (eqb t 3) (is_link_type t)) (sym m) (subst (λ z. TypeTests false false z (is_link_type t)) (sym n) (last (is_link_type t))))
                 ]
           ]
     ]
@@ -34,11 +34,11 @@ by_type r P noop error done link other t =
     At : ℕ → Type 0
     At t = P (body_text_under r t) (same_body_under r t) (body_attributes_under r t)
 
-    Told : (noop error done link : Bool) → Type 0
-    Told noop error done link =
+    TypeTests : (noop error done link : Bool) → Type 0
+    TypeTests noop error done link =
         P (λ b. cond noop (Ok []) (cond error (error_text b) (cond done (done_text b) (cond link (ruled_text r b) (Ok b)))))
         (λ a b. cond noop true (cond done (bytes_eq (done_body a) (done_body b)) (cond link (r.same a b) (bytes_eq a b)))) (λ b. cond link (r.attributes b) 0)
 
-    last : (link : Bool) → Told false false false link
+    last : (link : Bool) → TypeTests false false false link
     last true = link
     last false = other

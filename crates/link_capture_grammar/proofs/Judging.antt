@@ -6,17 +6,17 @@ use Rattle.attribute_tables_grammar.specs.Rules.{Rule}
 use Rattle.link_capture_grammar.specs.declared.fault.FaultKind.{FaultKind}
 use Rattle.link_capture_grammar.specs.declared.fault.FaultKind.TheVariants.{TextOverLimit}
 use Rattle.link_capture_grammar.specs.Bodies.{Refusal, body_text_under}
-use Rattle.link_capture_grammar.specs.Captures.{Judged, faulty, judged_text, tested, first_frame_under}
+use Rattle.link_capture_grammar.specs.Captures.{Judged, text_or_fault, judged_text, checked_header, first_frame_under}
 use Rattle.link_capture_grammar.specs.Laws.{FramesAreJudged}
 use Rattle.link_capture_grammar.proofs.Normal.{frame_text_size}
 
-faulty_text : (limit : ℕ) (c : List ℕ) (r : Result (List ℕ) Refusal) (kind : FaultKind) → faulty r ≡ Err kind → judged_text limit c r ≡ Err kind
-faulty_text limit c (Ok text) kind h = absurd cc
-faulty_text limit c (Err why) kind h = cc
+text_or_fault_is : (limit : ℕ) (c : List ℕ) (r : Result (List ℕ) Refusal) (kind : FaultKind) → text_or_fault r ≡ Err kind → judged_text limit c r ≡ Err kind
+text_or_fault_is limit c (Ok text) kind h = absurd cc
+text_or_fault_is limit c (Err why) kind h = cc
 
 module _ (r : Rule) where
   -- a fault of the header
-  header_fault : (limit : ℕ) (c : List ℕ) (kind : FaultKind) → ((j : Judged) → tested limit (length c) (frame_length c) j ≡ Err kind) → first_frame_under r limit c ≡ Err kind
+  header_fault : (limit : ℕ) (c : List ℕ) (kind : FaultKind) → ((j : Judged) → checked_header limit (length c) (frame_length c) j ≡ Err kind) → first_frame_under r limit c ≡ Err kind
   unfolding first_frame_under
   header_fault limit c kind h = h (judged_text limit c (body_text_under r (frame_type c) (frame_body c)))
 
@@ -25,8 +25,8 @@ module _ (r : Rule) where
   whole limit c f l = rw (le-ltb (length c) 16 f.has_header, le-ltb (frame_length c) 16 f.covers_header, le-ltb limit (frame_length c) l, le-ltb (length c) (frame_length c) f.within) refl
 
   -- a fault of the body
-  body_fault : (limit : ℕ) (c : List ℕ) (kind : FaultKind) → IsFrame c → frame_length c ≤ limit → faulty (body_text_under r (frame_type c) (frame_body c)) ≡ Err kind → first_frame_under r limit c ≡ Err kind
-  body_fault limit c kind f l h = whole limit c f l ∙ faulty_text limit c (body_text_under r (frame_type c) (frame_body c)) kind h
+  body_fault : (limit : ℕ) (c : List ℕ) (kind : FaultKind) → IsFrame c → frame_length c ≤ limit → text_or_fault (body_text_under r (frame_type c) (frame_body c)) ≡ Err kind → first_frame_under r limit c ≡ Err kind
+  body_fault limit c kind f l h = whole limit c f l ∙ text_or_fault_is limit c (body_text_under r (frame_type c) (frame_body c)) kind h
 
   -- a text over the limit
   text_fault : (limit : ℕ) (c text : List ℕ) → IsFrame c → frame_length c ≤ limit → body_text_under r (frame_type c) (frame_body c) ≡ Ok text → limit < 16 + length text → first_frame_under r limit c ≡ Err TextOverLimit

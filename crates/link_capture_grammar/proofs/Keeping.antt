@@ -13,8 +13,8 @@ use Rattle.link_capture_grammar.proofs.Same.{error_is}
 use Rattle.link_capture_grammar.proofs.SameFrames.{yes, no, link_ruled}
 
 -- the text of a frame with nothing appended
-unfollowed : (c body : List ℕ) → frame_text c body ++ [] ≡ frame_text c body
-unfollowed c body = append-nil (frame_text c body)
+frame_text_end : (c body : List ℕ) → frame_text c body ++ [] ≡ frame_text c body
+frame_text_end c body = append-nil (frame_text c body)
 
 module _ (r : Rule) where
   kept : (t : ℕ) (b text : List ℕ) → IsBodyKept t b → body_text_under r t b ≡ Ok text → b ≡ text
@@ -36,7 +36,7 @@ module _ (r : Rule) where
   header : (limit : ℕ) (c : List ℕ) (frame : ℕ × List ℕ) → first_frame_under r limit c ≡ Ok frame → take 12 (drop 4 frame.1) ≡ take 12 (drop 4 c)
   header limit c frame h =
       let t = texted r limit c frame h in
-      ap (λ x. take 12 (drop 4 x)) (t.text_is ∙ sym (unfollowed c t.body)) ∙ text_header c t.body [] (accepted r limit c frame h).header
+      ap (λ x. take 12 (drop 4 x)) (t.text_is ∙ sym (frame_text_end c t.body)) ∙ text_header c t.body [] (accepted r limit c frame h).header
 
   length' : (limit : ℕ) (c : List ℕ) (frame : ℕ × List ℕ) → IsLimit limit → IsBodyKept (frame_type c) (frame_body c) → first_frame_under r limit c ≡ Ok frame → frame_length frame.1 ≡ frame_length c
   length' limit c frame l k h =
@@ -44,13 +44,13 @@ module _ (r : Rule) where
       let a = accepted r limit c frame h in
       let e = ap length (kept (frame_type c) (frame_body c) t.body k t.body_is) in
       let n : length (frame_body c) ≡ min (frame_length c - 16) (length (drop 16 c)) = length-take (frame_length c - 16) (drop 16 c) in
-      ap frame_length (t.text_is ∙ sym (unfollowed c t.body)) ∙ text_length c t.body [] (omega (arith, t.fits, l)) ∙ omega (arith, e, n, length-drop 16 c, a.low, a.whole, a.is)
+      ap frame_length (t.text_is ∙ sym (frame_text_end c t.body)) ∙ text_length c t.body [] (omega (arith, t.fits, l)) ∙ omega (arith, e, n, length-drop 16 c, a.low, a.whole, a.is)
 
   -- the body of a frame's text is the body's text
   body_there : (limit : ℕ) (c : List ℕ) (frame : ℕ × List ℕ) → IsLimit limit → (h : first_frame_under r limit c ≡ Ok frame) → frame_body frame.1 ≡ (texted r limit c frame h).body
   body_there limit c frame l h =
       let t = texted r limit c frame h in
-      ap frame_body (t.text_is ∙ sym (unfollowed c t.body)) ∙ text_body c t.body [] (accepted r limit c frame h).header (omega (arith, t.fits, l))
+      ap frame_body (t.text_is ∙ sym (frame_text_end c t.body)) ∙ text_body c t.body [] (accepted r limit c frame h).header (omega (arith, t.fits, l))
 
   body : (limit : ℕ) (c : List ℕ) (frame : ℕ × List ℕ) → IsLimit limit → IsBodyKept (frame_type c) (frame_body c) → first_frame_under r limit c ≡ Ok frame → frame_body frame.1 ≡ frame_body c
   body limit c frame l k h =

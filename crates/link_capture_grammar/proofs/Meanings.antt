@@ -10,7 +10,7 @@ use Rattle.netlink_packet_core_grammar.proofs.Numbers.{u16_at-append, u16_at-dro
 use Rattle.attribute_tables_grammar.specs.Rules.{Rule, Lawful}
 use Rattle.link_capture_grammar.specs.Bodies.{done_text, ruled_text, body_text_under}
 use Rattle.link_capture_grammar.specs.Captures.{first_frame_under, texts_under, IsLegalUnder}
-use Rattle.link_capture_grammar.specs.Laws.{BodiesTellMeanings, TextsTellMeanings}
+use Rattle.link_capture_grammar.specs.Laws.{BodiesDetermineMeanings, TextsDetermineMeanings}
 use Rattle.link_capture_grammar.specs.Same.{done_body, same_body_under, SameFrameUnder, SameFramesUnder, SameCaptureUnder}
 use Rattle.link_capture_grammar.proofs.Bodies.{by_type}
 use Rattle.link_capture_grammar.proofs.Frames.{accepted, guard, texts_step}
@@ -40,14 +40,14 @@ one_header a b body h = ap (λ z. le4 (16 + length body) ++ (z ++ (body ++ zeros
 
 module _ (r : Rule) where
   -- an accepted frame: its type, and the text of its body
-  record Front (limit : ℕ) (c : List ℕ) (frame : ℕ × List ℕ) : Type 0 where
+  record AcceptedFirst (limit : ℕ) (c : List ℕ) (frame : ℕ × List ℕ) : Type 0 where
     pub type : frame_type c ≡ u16_at 0 (take 12 (drop 4 c))
     pub body : List ℕ
     pub body_is : body_text_under r (u16_at 0 (take 12 (drop 4 c))) (frame_body c) ≡ Ok body
     pub text_is : frame.1 ≡ frame_text c body
 
-  front : (limit : ℕ) (c : List ℕ) (frame : ℕ × List ℕ) → first_frame_under r limit c ≡ Ok frame → Front limit c frame
-  front limit c frame h =
+  first_frame : (limit : ℕ) (c : List ℕ) (frame : ℕ × List ℕ) → first_frame_under r limit c ≡ Ok frame → AcceptedFirst limit c frame
+  first_frame limit c frame h =
       let t = texted r limit c frame h in
       let k = type_at c (accepted r limit c frame h).header in
       record { type = k; body = t.body; body_is = sym (ap (λ n. body_text_under r n (frame_body c)) k) ∙ t.body_is; text_is = t.text_is }
@@ -58,114 +58,114 @@ module _ (r : Rule) where
 module _ (r : Rule) (lawful : Lawful r) where
   -- ---- the texts of two bodies determine whether the bodies mean the same
 
-  ruled_told : (a b x y : List ℕ) → ruled_text r a ≡ Ok x → ruled_text r b ≡ Ok y → r.same a b ≡ true → x ≡ y
-  ruled_told a b x y h g s =
+  ruled_determined : (a b x y : List ℕ) → ruled_text r a ≡ Ok x → ruled_text r b ≡ Ok y → r.same a b ≡ true → x ≡ y
+  ruled_determined a b x y h g s =
       let k = ruled r a x h in
       let m = ruled r b y g in
-      sym k.is ∙ lawful.one_text a b k.accepted m.accepted s ∙ m.is
+      sym k.is ∙ lawful.same_implies_equal_text a b k.accepted m.accepted s ∙ m.is
 
-  ruled_tells : (a b x y : List ℕ) → ruled_text r a ≡ Ok x → ruled_text r b ≡ Ok y → x ≡ y → r.same a b ≡ true
-  ruled_tells a b x y h g e =
+  ruled_determines : (a b x y : List ℕ) → ruled_text r a ≡ Ok x → ruled_text r b ≡ Ok y → x ≡ y → r.same a b ≡ true
+  ruled_determines a b x y h g e =
       let k = ruled r a x h in
       let m = ruled r b y g in
-      lawful.one_meaning a b k.accepted m.accepted (k.is ∙ e ∙ sym m.is)
+      lawful.equal_text_implies_same a b k.accepted m.accepted (k.is ∙ e ∙ sym m.is)
 
-  body_told : (t : ℕ) (a b x y : List ℕ) → body_text_under r t a ≡ Ok x → body_text_under r t b ≡ Ok y → same_body_under r t a b ≡ true → x ≡ y
-  body_told = by_type r (λ text same attributes. (a b x y : List ℕ) → text a ≡ Ok x → text b ≡ Ok y → same a b ≡ true → x ≡ y)
+  body_determined : (t : ℕ) (a b x y : List ℕ) → body_text_under r t a ≡ Ok x → body_text_under r t b ≡ Ok y → same_body_under r t a b ≡ true → x ≡ y
+  body_determined = by_type r (λ text same attributes. (a b x y : List ℕ) → text a ≡ Ok x → text b ≡ Ok y → same a b ≡ true → x ≡ y)
       (λ a b x y h g s. cc)
       (λ a b x y h g s. sym (error_is a x h) ∙ bytes_from a b s ∙ error_is b y g)
       (λ a b x y h g s. sym (done_text_is a x h) ∙ bytes_from (done_body a) (done_body b) s ∙ done_text_is b y g)
-      ruled_told
+      ruled_determined
       (λ a b x y h g s. cc (bytes_from a b s))
 
-  pub body_tells : (t : ℕ) (a b x y : List ℕ) → body_text_under r t a ≡ Ok x → body_text_under r t b ≡ Ok y → x ≡ y → same_body_under r t a b ≡ true
-  body_tells = by_type r (λ text same attributes. (a b x y : List ℕ) → text a ≡ Ok x → text b ≡ Ok y → x ≡ y → same a b ≡ true)
+  pub body_determines : (t : ℕ) (a b x y : List ℕ) → body_text_under r t a ≡ Ok x → body_text_under r t b ≡ Ok y → x ≡ y → same_body_under r t a b ≡ true
+  body_determines = by_type r (λ text same attributes. (a b x y : List ℕ) → text a ≡ Ok x → text b ≡ Ok y → x ≡ y → same a b ≡ true)
       (λ a b x y h g e. refl)
       (λ a b x y h g e. equal_bytes a b (error_is a x h ∙ e ∙ sym (error_is b y g)))
       (λ a b x y h g e. equal_bytes (done_body a) (done_body b) (done_text_is a x h ∙ e ∙ sym (done_text_is b y g)))
-      ruled_tells
+      ruled_determines
       (λ a b x y h g e. equal_bytes a b cc)
 
   -- ---- first frames
 
   -- two frames that mean the same have bodies with equal texts
-  one_body : (limit : ℕ) (a b : List ℕ) (x y : ℕ × List ℕ) (p : Front r limit a x) (q : Front r limit b y) → SameFrameUnder r a b → p.body ≡ q.body
+  one_body : (limit : ℕ) (a b : List ℕ) (x y : ℕ × List ℕ) (p : AcceptedFirst r limit a x) (q : AcceptedFirst r limit b y) → SameFrameUnder r a b → p.body ≡ q.body
   one_body limit a b x y p q s =
-      body_told (frame_type a) (frame_body a) (frame_body b) p.body q.body (ap (λ n. body_text_under r n (frame_body a)) p.type ∙ p.body_is)
+      body_determined (frame_type a) (frame_body a) (frame_body b) p.body q.body (ap (λ n. body_text_under r n (frame_body a)) p.type ∙ p.body_is)
       (ap (λ n. body_text_under r n (frame_body b)) (p.type ∙ ap (u16_at 0) s.header) ∙ q.body_is) s.body
 
-  same_from : (limit : ℕ) (a b : List ℕ) (x y : ℕ × List ℕ) (p : Front r limit a x) (q : Front r limit b y) → take 12 (drop 4 a) ≡ take 12 (drop 4 b) → p.body ≡ q.body → SameFrameUnder r a b
+  same_from : (limit : ℕ) (a b : List ℕ) (x y : ℕ × List ℕ) (p : AcceptedFirst r limit a x) (q : AcceptedFirst r limit b y) → take 12 (drop 4 a) ≡ take 12 (drop 4 b) → p.body ≡ q.body → SameFrameUnder r a b
   same_from limit a b x y p q h e = record {
     header = h;
-    body = body_tells (frame_type a) (frame_body a) (frame_body b) p.body q.body (ap (λ n. body_text_under r n (frame_body a)) p.type ∙ p.body_is)
+    body = body_determines (frame_type a) (frame_body a) (frame_body b) p.body q.body (ap (λ n. body_text_under r n (frame_body a)) p.type ∙ p.body_is)
         (ap (λ n. body_text_under r n (frame_body b)) (p.type ∙ ap (u16_at 0) h) ∙ q.body_is) e;
   }
 
-  frame_told : (limit : ℕ) (a b : List ℕ) (x y : ℕ × List ℕ) → first_frame_under r limit a ≡ Ok x → first_frame_under r limit b ≡ Ok y → SameFrameUnder r a b → x.1 ≡ y.1
-  frame_told limit a b x y h g s =
-      let p = front r limit a x h in
-      let q = front r limit b y g in
+  frame_determined : (limit : ℕ) (a b : List ℕ) (x y : ℕ × List ℕ) → first_frame_under r limit a ≡ Ok x → first_frame_under r limit b ≡ Ok y → SameFrameUnder r a b → x.1 ≡ y.1
+  frame_determined limit a b x y h g s =
+      let p = first_frame r limit a x h in
+      let q = first_frame r limit b y g in
       p.text_is ∙ ap (frame_text a) (one_body limit a b x y p q s) ∙ one_header a b q.body s.header ∙ sym q.text_is
 
-  frame_turned : (limit : ℕ) (a b : List ℕ) (x y : ℕ × List ℕ) → first_frame_under r limit a ≡ Ok x → first_frame_under r limit b ≡ Ok y → SameFrameUnder r a b → SameFrameUnder r b a
-  frame_turned limit a b x y h g s =
-      let p = front r limit a x h in
-      let q = front r limit b y g in
+  frame_symmetric : (limit : ℕ) (a b : List ℕ) (x y : ℕ × List ℕ) → first_frame_under r limit a ≡ Ok x → first_frame_under r limit b ≡ Ok y → SameFrameUnder r a b → SameFrameUnder r b a
+  frame_symmetric limit a b x y h g s =
+      let p = first_frame r limit a x h in
+      let q = first_frame r limit b y g in
       same_from limit b a y x q p (sym s.header) (sym (one_body limit a b x y p q s))
 
-  frame_followed : (limit : ℕ) (a b c : List ℕ) (x y z : ℕ × List ℕ) → first_frame_under r limit a ≡ Ok x → first_frame_under r limit b ≡ Ok y → first_frame_under r limit c ≡ Ok z → SameFrameUnder r a b → SameFrameUnder r b c → SameFrameUnder r a c
-  frame_followed limit a b c x y z h g k s on =
-      let p = front r limit a x h in
-      let q = front r limit b y g in
-      let u = front r limit c z k in
+  frame_transitive : (limit : ℕ) (a b c : List ℕ) (x y z : ℕ × List ℕ) → first_frame_under r limit a ≡ Ok x → first_frame_under r limit b ≡ Ok y → first_frame_under r limit c ≡ Ok z → SameFrameUnder r a b → SameFrameUnder r b c → SameFrameUnder r a c
+  frame_transitive limit a b c x y z h g k s on =
+      let p = first_frame r limit a x h in
+      let q = first_frame r limit b y g in
+      let u = first_frame r limit c z k in
       same_from limit a c x z p u (s.header ∙ on.header) (one_body limit a b x y p q s ∙ one_body limit b c y z q u on)
 
   -- ---- captures
 
-  told : (limit n : ℕ) (a b : List ℕ) → SameFramesUnder r limit n a b → texts_under r limit a ≡ texts_under r limit b
-  told limit zero a b s = ap (texts_under r limit) (s.0 ∙ sym s.1)
-  told limit (suc n) a b s =
+  determined : (limit n : ℕ) (a b : List ℕ) → SameFramesUnder r limit n a b → texts_under r limit a ≡ texts_under r limit b
+  determined limit zero a b s = ap (texts_under r limit) (s.0 ∙ sym s.1)
+  determined limit (suc n) a b s =
       let x = s.0 in
       let y = s.1 in
       texts_step r limit a x s.2
-      ∙ ap (λ t. t ++ texts_under r limit (drop (nla_align x.0) a)) (frame_told limit a b x y s.2 s.3 s.4)
-      ∙ ap (λ t. y.1 ++ t) (told limit n (drop (nla_align x.0) a) (drop (nla_align y.0) b) s.5)
+      ∙ ap (λ t. t ++ texts_under r limit (drop (nla_align x.0) a)) (frame_determined limit a b x y s.2 s.3 s.4)
+      ∙ ap (λ t. y.1 ++ t) (determined limit n (drop (nla_align x.0) a) (drop (nla_align y.0) b) s.5)
       ∙ sym (texts_step r limit b y s.3)
 
-  turned : (limit n : ℕ) (a b : List ℕ) → SameFramesUnder r limit n a b → SameFramesUnder r limit n b a
-  turned limit zero a b s = (s.1, s.0)
-  turned limit (suc n) a b s =
+  symmetric : (limit n : ℕ) (a b : List ℕ) → SameFramesUnder r limit n a b → SameFramesUnder r limit n b a
+  symmetric limit zero a b s = (s.1, s.0)
+  symmetric limit (suc n) a b s =
       let x = s.0 in
       let y = s.1 in
-      (y, x, s.3, s.2, frame_turned limit a b x y s.2 s.3 s.4, turned limit n (drop (nla_align x.0) a) (drop (nla_align y.0) b) s.5)
+      (y, x, s.3, s.2, frame_symmetric limit a b x y s.2 s.3 s.4, symmetric limit n (drop (nla_align x.0) a) (drop (nla_align y.0) b) s.5)
 
-  followed : (limit n m : ℕ) (a b c : List ℕ) → SameFramesUnder r limit n a b → SameFramesUnder r limit m b c → SameFramesUnder r limit n a c
-  followed limit zero zero a b c s on = (s.0, on.1)
-  followed limit zero (suc m) a b c s on = absurd (not_nil r limit b on.0 s.1 on.2)
-  followed limit (suc n) zero a b c s on = absurd (not_nil r limit b s.1 on.0 s.3)
-  followed limit (suc n) (suc m) a b c s on =
+  transitive : (limit n m : ℕ) (a b c : List ℕ) → SameFramesUnder r limit n a b → SameFramesUnder r limit m b c → SameFramesUnder r limit n a c
+  transitive limit zero zero a b c s on = (s.0, on.1)
+  transitive limit zero (suc m) a b c s on = absurd (not_nil r limit b on.0 s.1 on.2)
+  transitive limit (suc n) zero a b c s on = absurd (not_nil r limit b s.1 on.0 s.3)
+  transitive limit (suc n) (suc m) a b c s on =
       let x = s.0 in
       let y = s.1 in
       let z = on.1 in
       let e : on.0 ≡ y = (let f = sym on.2 ∙ s.3 in cc) in
       let rest : SameFramesUnder r limit m (drop (nla_align y.0) b) (drop (nla_align z.0) c) = subst (λ (w : ℕ × List ℕ). SameFramesUnder r limit m (drop (nla_align w.0) b) (drop (nla_align z.0) c)) e on.5 in
-      (x, z, s.2, on.3, frame_followed limit a b c x y z s.2 s.3 on.3 s.4 on.4, followed limit n m (drop (nla_align x.0) a) (drop (nla_align y.0) b) (drop (nla_align z.0) c) s.5 rest)
+      (x, z, s.2, on.3, frame_transitive limit a b c x y z s.2 s.3 on.3 s.4 on.4, transitive limit n m (drop (nla_align x.0) a) (drop (nla_align y.0) b) (drop (nla_align z.0) c) s.5 rest)
 
-  tells : (limit : ℕ) (a b : List ℕ) → limit < 2 ^ 32 → IsLegalUnder r limit a → IsLegalUnder r limit b → texts_under r limit a ≡ texts_under r limit b → SameCaptureUnder r limit a b
-  tells limit a b l p q e =
+  determines : (limit : ℕ) (a b : List ℕ) → limit < 2 ^ 32 → IsLegalUnder r limit a → IsLegalUnder r limit b → texts_under r limit a ≡ texts_under r limit b → SameCaptureUnder r limit a b
+  determines limit a b l p q e =
       let i = texts_mean_the_same r lawful limit a l p in
       let j = texts_mean_the_same r lawful limit b l q in
       let there : SameFramesUnder r limit i.0 a (texts_under r limit b) = subst (λ t. SameFramesUnder r limit i.0 a t) e i.1 in
-      (i.0, followed limit i.0 j.0 a (texts_under r limit b) b there (turned limit j.0 b (texts_under r limit b) j.1))
+      (i.0, transitive limit i.0 j.0 a (texts_under r limit b) b there (symmetric limit j.0 b (texts_under r limit b) j.1))
 
-  pub texts_tell_meanings : TextsTellMeanings r
-  texts_tell_meanings = record {
-    one_text = λ limit a b s. told limit s.0 a b s.1;
-    one_meaning = tells;
-    itself = λ limit a l h. tells limit a a l h h refl;
-    turned = λ limit a b s. (s.0, turned limit s.0 a b s.1);
-    followed = λ limit a b c s on. (s.0, followed limit s.0 on.0 a b c s.1 on.1);
+  pub texts_determine_meanings : TextsDetermineMeanings r
+  texts_determine_meanings = record {
+    same_implies_equal_text = λ limit a b s. determined limit s.0 a b s.1;
+    equal_text_implies_same = determines;
+    reflexive = λ limit a l h. determines limit a a l h h refl;
+    symmetric = λ limit a b s. (s.0, symmetric limit s.0 a b s.1);
+    transitive = λ limit a b c s on. (s.0, transitive limit s.0 on.0 a b c s.1 on.1);
   }
 
-  pub bodies_tell_meanings : BodiesTellMeanings r
-  bodies_tell_meanings t a b x y p q = (body_told t a b x y p q, body_tells t a b x y p q)
+  pub bodies_determine_meanings : BodiesDetermineMeanings r
+  bodies_determine_meanings t a b x y p q = (body_determined t a b x y p q, body_determines t a b x y p q)

@@ -7,23 +7,23 @@ use Rattle.netlink_packet_core_grammar.specs.Numbers.{u16_at, u32_at, le4}
 use Rattle.netlink_packet_core_grammar.specs.Frames.{frame_length, frame_type, frame_body, frame_text}
 use Rattle.netlink_packet_core_grammar.proofs.Numbers.{u16_at-append, u16_at-drop_4, u32_at-le4}
 use Rattle.netlink_packet_core_grammar.proofs.Sizes.{length-le4}
-use Rattle.attribute_tables_grammar.specs.Rules.{Rule, Renews}
+use Rattle.attribute_tables_grammar.specs.Rules.{Rule, Migrates}
 use Rattle.link_capture_grammar.specs.declared.fault.FaultKind.TheVariants.{TextOverLimit}
 use Rattle.link_capture_grammar.specs.Bodies.{Refusal, error_text, done_text, ruled_text, is_link_type, body_text_under}
-use Rattle.link_capture_grammar.specs.Captures.{Judged, first_frame_under, judged_text, tested, raised, texts_after_under, first_fault_under, texts_under, IsLegalUnder}
-use Rattle.link_capture_grammar.proofs.Frames.{accepted, first_frame_is, judgement, seen, step_texts, stop_texts, fault_step, texts_step, fault_nil, texts_nil, place_after, step_place, stop_place, guard}
+use Rattle.link_capture_grammar.specs.Captures.{Judged, first_frame_under, judged_text, checked_header, shifted, texts_after_under, first_fault_under, texts_under, IsLegalUnder}
+use Rattle.link_capture_grammar.proofs.Frames.{accepted, first_frame_is, judgement, seen, step_texts, stop_texts, fault_step, texts_step, fault_nil, texts_nil, offset_after, step_offset, stop_offset, guard}
 
 -- ---- the text of a body is already canonical
 
-error_again : (bytes text : List ℕ) → error_text bytes ≡ Ok text → error_text text ≡ Ok text
-error_again bytes text h =
+error_idempotent : (bytes text : List ℕ) → error_text bytes ≡ Ok text → error_text text ≡ Ok text
+error_idempotent bytes text h =
     elim (guard (ltb (length bytes) 4) _ _ _ h) [
       | inl b ↦ (let f = b.1 in absurd (cc))
       | inr b ↦ (let e : bytes ≡ text = (let f = b.1 in cc) in subst (λ x. error_text x ≡ Ok text) e h)
     ]
 
-done_again : (bytes text : List ℕ) → done_text bytes ≡ Ok text → done_text text ≡ Ok text
-done_again bytes text h =
+done_idempotent : (bytes text : List ℕ) → done_text bytes ≡ Ok text → done_text text ≡ Ok text
+done_idempotent bytes text h =
     elim (guard (eqb (length bytes) 0) _ _ _ h) [
       | inl a ↦ (let e : (0 ∷ 0 ∷ 0 ∷ 0 ∷ []) ≡ text = (let f = a.1 in cc) in subst (λ x. done_text x ≡ Ok x) e refl)
       | inr a ↦
@@ -55,14 +55,14 @@ ruled r b text h =
       | inr a ↦ (let f = a.1 in absurd (cc))
     ]
 
-ruled_again : (r s : Rule) → Renews r s → (b old new : List ℕ) → ruled_text r b ≡ Ok old → ruled_text s b ≡ Ok new → ruled_text s old ≡ Ok new
-ruled_again r s renews b old new h k =
+ruled_migrated : (r s : Rule) → Migrates r s → (b old new : List ℕ) → ruled_text r b ≡ Ok old → ruled_text s b ≡ Ok new → ruled_text s old ≡ Ok new
+ruled_migrated r s migrates b old new h k =
     let x = ruled r b old h in
     let y = ruled s b new k in
-    let accepted = renews.accepted b x.accepted y.accepted x.empty_ports in
-    let full = renews.empty_ports b x.accepted y.accepted x.empty_ports in
-    let again : ruled_text s (r.canonical b) ≡ Ok new = rw (accepted, full, renews.fits b x.accepted y.accepted y.fits, renews.canonical b x.accepted y.accepted) (ap Ok y.is) in
-    subst (λ z. ruled_text s z ≡ Ok new) x.is again
+    let accepted = migrates.accepted b x.accepted y.accepted x.empty_ports in
+    let full = migrates.empty_ports b x.accepted y.accepted x.empty_ports in
+    let migrated_text : ruled_text s (r.canonical b) ≡ Ok new = rw (accepted, full, migrates.fits b x.accepted y.accepted y.fits, migrates.canonical b x.accepted y.accepted) (ap Ok y.is) in
+    subst (λ z. ruled_text s z ≡ Ok new) x.is migrated_text
 
 judged_texted : (limit : ℕ) (c : List ℕ) (r : Result (List ℕ) Refusal) (frame : ℕ × List ℕ) → judged_text limit c r ≡ Ok frame → (body : List ℕ) × (r ≡ Ok body) × (frame.1 ≡ frame_text c body) × (16 + length body ≤ limit)
 judged_texted limit c (Err why) frame h = absurd (cc)
@@ -72,8 +72,8 @@ judged_texted limit c (Ok body) frame h =
       | inr a ↦ (let e : (frame_length c, frame_text c body) ≡ frame = (let f = a.1 in cc) in (body, refl, ap (λ (p : ℕ × List ℕ). p.1) (sym e), ltb-false _ _ a.0))
     ]
 
-pub tested_ok : (limit size claimed : ℕ) (j : Judged) → 16 ≤ size → claimed ≤ size → 16 ≤ claimed → claimed ≤ limit → tested limit size claimed j ≡ j
-tested_ok limit size claimed j a b c d = rw (le-ltb size 16 a, le-ltb size claimed b, le-ltb claimed 16 c, le-ltb limit claimed d)
+pub checked_header_ok : (limit size claimed : ℕ) (j : Judged) → 16 ≤ size → claimed ≤ size → 16 ≤ claimed → claimed ≤ limit → checked_header limit size claimed j ≡ j
+checked_header_ok limit size claimed j a b c d = rw (le-ltb size 16 a, le-ltb size claimed b, le-ltb claimed 16 c, le-ltb limit claimed d)
 
 -- a frame's text: its length and its parts
 pub frame_text_size : (c body : List ℕ) → 16 ≤ length c → length (frame_text c body) ≡ nla_align (16 + length body)
@@ -114,9 +114,9 @@ text_body c body r h l =
     ∙ ap (take (16 + length body - 16)) (append_assoc body pad r)
     ∙ take_at body _ (16 + length body - 16) (omega arith)
 
-text_again : (c old new r : List ℕ) → 16 ≤ length c → frame_text (frame_text c old ++ r) new ≡ frame_text c new
+text_migrated : (c old new r : List ℕ) → 16 ≤ length c → frame_text (frame_text c old ++ r) new ≡ frame_text c new
 unfolding frame_text
-text_again c old new r h =
+text_migrated c old new r h =
     ap (λ x. le4 (16 + length new) ++ (x ++ (new ++ zeros (nla_align (16 + length new) - (16 + length new))))) (text_header c old r h)
 
 module _ (r : Rule) where
@@ -131,34 +131,34 @@ module _ (r : Rule) where
   unfolding judgement
   texted limit c frame h =
       let a = accepted r limit c frame h in
-      let t : judgement r limit c ≡ Ok frame = sym (tested_ok limit (length c) (frame_length c) (judgement r limit c) a.header (omega (arith, a.is, a.whole)) (omega (arith, a.is, a.low)) (omega (arith, a.is, a.high))) ∙ sym (first_frame_is r limit c) ∙ h in
+      let t : judgement r limit c ≡ Ok frame = sym (checked_header_ok limit (length c) (frame_length c) (judgement r limit c) a.header (omega (arith, a.is, a.whole)) (omega (arith, a.is, a.low)) (omega (arith, a.is, a.high))) ∙ sym (first_frame_is r limit c) ∙ h in
       let q = judged_texted limit c (body_text_under r (frame_type c) (frame_body c)) frame t in
       record { body = q.0; body_is = q.1; text_is = q.2; fits = q.3 }
 
 -- ---- texts that were written under r, under a rule s that migrates it
 
-module _ (r s : Rule) (renews : Renews r s) where
+module _ (r s : Rule) (migrates : Migrates r s) where
   -- by the type of the body
   body_by : (noop error done link : Bool) (b old new : List ℕ)
       → cond noop (Ok []) (cond error (error_text b) (cond done (done_text b) (cond link (ruled_text r b) (Ok b)))) ≡ Ok old
       → cond noop (Ok []) (cond error (error_text b) (cond done (done_text b) (cond link (ruled_text s b) (Ok b)))) ≡ Ok new
       → cond noop (Ok []) (cond error (error_text old) (cond done (done_text old) (cond link (ruled_text s old) (Ok old)))) ≡ Ok new
   body_by true error done link b old new h k = k
-  body_by false true done link b old new h k = error_again b old h ∙ sym h ∙ k
-  body_by false false true link b old new h k = done_again b old h ∙ sym h ∙ k
-  body_by false false false true b old new h k = ruled_again r s renews b old new h k
+  body_by false true done link b old new h k = error_idempotent b old h ∙ sym h ∙ k
+  body_by false false true link b old new h k = done_idempotent b old h ∙ sym h ∙ k
+  body_by false false false true b old new h k = ruled_migrated r s migrates b old new h k
   body_by false false false false b old new h k = sym h ∙ k
 
   -- the old text of a body has the new text of the body
-  pub body_again : (t : ℕ) (b old new : List ℕ) → body_text_under r t b ≡ Ok old → body_text_under s t b ≡ Ok new → body_text_under s t old ≡ Ok new
+  pub body_migrated : (t : ℕ) (b old new : List ℕ) → body_text_under r t b ≡ Ok old → body_text_under s t b ≡ Ok new → body_text_under s t old ≡ Ok new
   unfolding body_text_under
-  body_again t b old new h k = body_by (eqb t 1) (eqb t 2) (eqb t 3) (is_link_type t) b old new h k
+  body_migrated t b old new h k = body_by (eqb t 1) (eqb t 2) (eqb t 3) (is_link_type t) b old new h k
 
   -- a frame that begins with the old text of a frame is accepted, and its text is the new one
-  pub first_frame_again : (limit : ℕ) (c : List ℕ) (old new : ℕ × List ℕ) (more : List ℕ) → limit < 2 ^ 32 → first_frame_under r limit c ≡ Ok old → first_frame_under s limit c ≡ Ok new →
+  pub first_frame_migrated : (limit : ℕ) (c : List ℕ) (old new : ℕ × List ℕ) (more : List ℕ) → limit < 2 ^ 32 → first_frame_under r limit c ≡ Ok old → first_frame_under s limit c ≡ Ok new →
       (n : ℕ) × (first_frame_under s limit (old.1 ++ more) ≡ Ok (n, new.1)) × (drop (nla_align n) (old.1 ++ more) ≡ more)
   unfolding judgement
-  first_frame_again limit c old new more l h k =
+  first_frame_migrated limit c old new more l h k =
       let a = accepted r limit c old h in
       let t = texted r limit c old h in
       let u = texted s limit c new k in
@@ -167,17 +167,17 @@ module _ (r s : Rule) (renews : Renews r s) where
       let size = frame_text_size c t.body a.header in
       let total = length-append (frame_text c t.body) more in
       let claimed = text_length c t.body more (omega (arith, t.fits)) in
-      let again : body_text_under s (frame_type x) (frame_body x) ≡ Ok u.body =
+      let migrated_text : body_text_under s (frame_type x) (frame_body x) ≡ Ok u.body =
       ap (λ k. body_text_under s k (frame_body x)) (text_type c t.body more a.header) ∙ ap (body_text_under s (frame_type c)) (text_body c t.body more a.header (omega (arith, t.fits)))
-      ∙ body_again (frame_type c) (frame_body c) t.body u.body t.body_is u.body_is in
+      ∙ body_migrated (frame_type c) (frame_body c) t.body u.body t.body_is u.body_is in
       let judged : judgement s limit x ≡ Ok (n, frame_text c u.body) =
-      ap (judged_text limit x) again
+      ap (judged_text limit x) migrated_text
       ∙ ap (λ b. cond b (Err TextOverLimit) (Ok (frame_length x, frame_text x u.body))) (le-ltb limit (16 + length u.body) u.fits)
       ∙ ap (λ m. Ok (m, frame_text x u.body)) claimed
-      ∙ ap (λ y. Ok (n, y)) (text_again c t.body u.body more a.header) in
+      ∙ ap (λ y. Ok (n, y)) (text_migrated c t.body u.body more a.header) in
       let whole : first_frame_under s limit x ≡ Ok (n, frame_text c u.body) =
       first_frame_is s limit x
-      ∙ tested_ok limit (length x) (frame_length x) (judgement s limit x) (omega (arith, size, total)) (omega (arith, size, total, claimed)) (omega (arith, claimed)) (omega (arith, claimed, t.fits))
+      ∙ checked_header_ok limit (length x) (frame_length x) (judgement s limit x) (omega (arith, size, total)) (omega (arith, size, total, claimed)) (omega (arith, claimed)) (omega (arith, claimed, t.fits))
       ∙ judged in
       let e = t.text_is in (
         n,
@@ -186,19 +186,19 @@ module _ (r s : Rule) (renews : Renews r s) where
       )
 
   -- the old texts are legal, and have the new texts
-  abbrev Again : ℕ → ℕ → List ℕ → Type 0
-  Again limit skip c = IsLegalUnder s limit (texts_after_under r limit skip c) × (texts_under s limit (texts_after_under r limit skip c) ≡ texts_after_under s limit skip c)
+  abbrev TextsMigrate : ℕ → ℕ → List ℕ → Type 0
+  TextsMigrate limit skip c = IsLegalUnder s limit (texts_after_under r limit skip c) × (texts_under s limit (texts_after_under r limit skip c) ≡ texts_after_under s limit skip c)
 
-  step_again : (limit b : ℕ) (c : List ℕ) (old new : ℕ × List ℕ) → limit < 2 ^ 32 → first_frame_under r limit (b ∷ c) ≡ Ok old → first_frame_under s limit (b ∷ c) ≡ Ok new → Again limit (nla_align new.0 - 1) c →
-      old.0 ≡ new.0 → Again limit 0 (b ∷ c)
-  step_again limit b c old new l h k i e =
+  step_migrated : (limit b : ℕ) (c : List ℕ) (old new : ℕ × List ℕ) → limit < 2 ^ 32 → first_frame_under r limit (b ∷ c) ≡ Ok old → first_frame_under s limit (b ∷ c) ≡ Ok new → TextsMigrate limit (nla_align new.0 - 1) c →
+      old.0 ≡ new.0 → TextsMigrate limit 0 (b ∷ c)
+  step_migrated limit b c old new l h k i e =
       let rest : List ℕ = texts_after_under r limit (nla_align new.0 - 1) c in
-      let f = first_frame_again limit (b ∷ c) old new rest l h k in
+      let f = first_frame_migrated limit (b ∷ c) old new rest l h k in
       let text : texts_under r limit (b ∷ c) ≡ old.1 ++ rest = step_texts r limit b c old h ∙ ap (λ n. old.1 ++ texts_after_under r limit (nla_align n - 1) c) e in (
         ap (first_fault_under s limit) text
             ∙ fault_step s limit (old.1 ++ rest) (f.0, new.1) f.1
-            ∙ ap (λ x. raised (nla_align f.0) (first_fault_under s limit x)) f.2
-            ∙ ap (raised (nla_align f.0)) i.0,
+            ∙ ap (λ x. shifted (nla_align f.0) (first_fault_under s limit x)) f.2
+            ∙ ap (shifted (nla_align f.0)) i.0,
         ap (texts_under s limit) text
             ∙ texts_step s limit (old.1 ++ rest) (f.0, new.1) f.1
             ∙ ap (λ x. new.1 ++ texts_under s limit x) f.2
@@ -207,24 +207,24 @@ module _ (r s : Rule) (renews : Renews r s) where
       )
 
   -- this holds if whole frames reach the same offset under both rules
-  pub texts_again : (limit skip : ℕ) (c : List ℕ) → limit < 2 ^ 32 → place_after r limit skip c ≡ place_after s limit skip c → Again limit skip c
-  unfolding place_after texts_after_under
-  texts_again limit skip [] l e = (fault_nil s limit 0, texts_nil s limit 0)
-  texts_again limit (suc skip) (b ∷ c) l e = texts_again limit skip c l (omega (arith, e))
-  texts_again limit zero (b ∷ c) l e =
+  pub texts_idempotent : (limit skip : ℕ) (c : List ℕ) → limit < 2 ^ 32 → offset_after r limit skip c ≡ offset_after s limit skip c → TextsMigrate limit skip c
+  unfolding offset_after texts_after_under
+  texts_idempotent limit skip [] l e = (fault_nil s limit 0, texts_nil s limit 0)
+  texts_idempotent limit (suc skip) (b ∷ c) l e = texts_idempotent limit skip c l (omega (arith, e))
+  texts_idempotent limit zero (b ∷ c) l e =
       elim (seen (first_frame_under r limit (b ∷ c))) [
         | inl w ↦
             elim (seen (first_frame_under s limit (b ∷ c))) [
               | inl v ↦
                   let n : w.0.0 ≡ v.0.0 = sym (accepted r limit (b ∷ c) w.0 w.1).is ∙ (accepted s limit (b ∷ c) v.0 v.1).is in
-                  let there = ap (λ m. place_after r limit (nla_align m - 1) c) n in
-                  let far : place_after r limit (nla_align v.0.0 - 1) c ≡ place_after s limit (nla_align v.0.0 - 1) c = omega (arith, e, there, step_place r limit b c w.0 w.1, step_place s limit b c v.0 v.1) in
-                  step_again limit b c w.0 v.0 l w.1 v.1 (texts_again limit (nla_align v.0.0 - 1) c l far) n
-              | inr v ↦ absurd (omega (arith, e, step_place r limit b c w.0 w.1, stop_place s limit b c v.0 v.1))
+                  let there = ap (λ m. offset_after r limit (nla_align m - 1) c) n in
+                  let far : offset_after r limit (nla_align v.0.0 - 1) c ≡ offset_after s limit (nla_align v.0.0 - 1) c = omega (arith, e, there, step_offset r limit b c w.0 w.1, step_offset s limit b c v.0 v.1) in
+                  step_migrated limit b c w.0 v.0 l w.1 v.1 (texts_idempotent limit (nla_align v.0.0 - 1) c l far) n
+              | inr v ↦ absurd (omega (arith, e, step_offset r limit b c w.0 w.1, stop_offset s limit b c v.0 v.1))
             ]
         | inr w ↦
             elim (seen (first_frame_under s limit (b ∷ c))) [
-              | inl v ↦ absurd (omega (arith, e, stop_place r limit b c w.0 w.1, step_place s limit b c v.0 v.1))
+              | inl v ↦ absurd (omega (arith, e, stop_offset r limit b c w.0 w.1, step_offset s limit b c v.0 v.1))
               | inr v ↦
                   let none = stop_texts r limit b c w.0 w.1 in
                   (ap (first_fault_under s limit) none ∙ fault_nil s limit 0, ap (texts_under s limit) none ∙ texts_nil s limit 0 ∙ sym (stop_texts s limit b c v.0 v.1))

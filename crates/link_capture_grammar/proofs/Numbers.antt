@@ -6,11 +6,11 @@ use Rattle.netlink_packet_core_grammar.specs.Frames.{frame_length, frame_type, f
 use Rattle.attribute_tables_grammar.specs.Rules.{Rule, Lawful}
 use Rattle.link_capture_grammar.specs.declared.fault.FaultKind.{FaultKind}
 use Rattle.link_capture_grammar.specs.Bodies.{ruled_text, body_text_under}
-use Rattle.link_capture_grammar.specs.Captures.{first_frame_under, raised}
+use Rattle.link_capture_grammar.specs.Captures.{first_frame_under, shifted}
 use Rattle.link_capture_grammar.specs.Laws.{CapturesAreCounted}
 use Rattle.link_capture_grammar.specs.Numbers.{body_attributes_under, frame_attributes_under, attributes_under, next_sum, sum_after_under}
 use Rattle.link_capture_grammar.proofs.Bodies.{by_type}
-use Rattle.link_capture_grammar.proofs.Frames.{accepted, by_frames, raised_add, texts_step, fault_step, fault_nil, texts_nil}
+use Rattle.link_capture_grammar.proofs.Frames.{accepted, by_frames, shifted_add, texts_step, fault_step, fault_nil, texts_nil}
 use Rattle.link_capture_grammar.proofs.Normal.{ruled, texted}
 
 module _ (r : Rule) where
@@ -65,14 +65,14 @@ module _ (r : Rule) (lawful : Lawful r) where
   counted : (limit : ℕ) (c : List ℕ) → 4 * attributes_under r limit c ≤ length c
   counted limit =
       by_frames r limit (λ c. 4 * attributes_under r limit c ≤ length c)
-      (λ c frame h behind.
+      (λ c frame h following.
       let a = accepted r limit c frame h in
-      omega (arith, a.low, a.whole, frame_counted limit c frame h, sum_step r (frame_attributes_under r) limit c frame h, behind, length-drop (nla_align frame.0) c))
+      omega (arith, a.low, a.whole, frame_counted limit c frame h, sum_step r (frame_attributes_under r) limit c frame h, following, length-drop (nla_align frame.0) c))
       (λ c kind h. omega (arith, sum_stop r (frame_attributes_under r) limit c kind h))
 
   pub captures_are_counted : CapturesAreCounted r
   captures_are_counted = record {
-    next_fault = λ limit start c frame h. ap (raised start) (fault_step r limit c frame h) ∙ raised_add start (nla_align frame.0) (start + nla_align frame.0) _ refl;
+    next_fault = λ limit start c frame h. ap (shifted start) (fault_step r limit c frame h) ∙ shifted_add start (nla_align frame.0) (start + nla_align frame.0) _ refl;
     next_text = texts_step r;
     next_frames = sum_step r (λ _. 1);
     next_attributes = sum_step r (frame_attributes_under r);

@@ -6,16 +6,16 @@ use Rattle.netlink_packet_core_grammar.specs.Frames.{frame_length, frame_type, f
 use Rattle.netlink_packet_core_grammar.specs.Numbers.{u32_at}
 use Rattle.netlink_packet_core_grammar.proofs.Numbers.{u32_at-append}
 use Rattle.attribute_tables_grammar.specs.Rules.{Rule}
-use Rattle.link_capture_grammar.specs.Captures.{first_frame_under, first_fault_under, texts_under, raised}
-use Rattle.link_capture_grammar.specs.Laws.{DifferInPadding, PaddingIsPassed}
+use Rattle.link_capture_grammar.specs.Captures.{first_frame_under, first_fault_under, texts_under, shifted}
+use Rattle.link_capture_grammar.specs.Laws.{DifferInPadding, PaddingIsIgnored}
 use Rattle.link_capture_grammar.specs.Numbers.{body_attributes_under, frame_attributes_under, sum_after_under}
 use Rattle.link_capture_grammar.proofs.Frames.{accepted, frame_type-more, frame_body-more, first_frame-more, first_frame-take, fault_step, not_cut, texts_step}
 use Rattle.link_capture_grammar.proofs.Numbers.{sum_step}
 
 module _ (r : Rule) where
   -- the attributes of the first frame are those of the frame's bytes
-  alone_attributes : (limit : ℕ) (c : List ℕ) (frame : ℕ × List ℕ) → first_frame_under r limit c ≡ Ok frame → frame_attributes_under r c ≡ frame_attributes_under r (take frame.0 c)
-  alone_attributes limit c frame h =
+  independent_attributes : (limit : ℕ) (c : List ℕ) (frame : ℕ × List ℕ) → first_frame_under r limit c ≡ Ok frame → frame_attributes_under r c ≡ frame_attributes_under r (take frame.0 c)
+  independent_attributes limit c frame h =
       let a = accepted r limit c frame h in
       let e : List ℕ = take frame.0 c in
       let whole : e ++ drop frame.0 c ≡ c = take-append-drop frame.0 c in
@@ -29,10 +29,10 @@ module _ (r : Rule) where
 
   same_frame : (limit : ℕ) (c d : List ℕ) (frame : ℕ × List ℕ) → first_frame_under r limit c ≡ Ok frame → DifferInPadding frame.0 c d → first_frame_under r limit d ≡ Ok frame
   same_frame limit c d frame h p =
-      let alone : first_frame_under r limit (take frame.0 d) ≡ Ok frame = ap (first_frame_under r limit) (sym p.front) ∙ first_frame-take r limit c frame.0 frame h (omega arith) in
+      let same_result : first_frame_under r limit (take frame.0 d) ≡ Ok frame = ap (first_frame_under r limit) (sym p.prefix) ∙ first_frame-take r limit c frame.0 frame h (omega arith) in
       ap (first_frame_under r limit) (sym (take-append-drop frame.0 d))
-      ∙ first_frame-more r limit (take frame.0 d) (drop frame.0 d) (not_cut (first_frame_under r limit (take frame.0 d)) frame alone)
-      ∙ alone
+      ∙ first_frame-more r limit (take frame.0 d) (drop frame.0 d) (not_cut (first_frame_under r limit (take frame.0 d)) frame same_result)
+      ∙ same_result
 
   -- a number that the frame's bytes determine, summed over the frames
   same_sum : (number : List ℕ → ℕ) (limit : ℕ) (c d : List ℕ) (frame : ℕ × List ℕ) → first_frame_under r limit c ≡ Ok frame → DifferInPadding frame.0 c d → number d ≡ number c →
@@ -40,22 +40,22 @@ module _ (r : Rule) where
   same_sum number limit c d frame h p n =
       sum_step r number limit d frame (same_frame limit c d frame h p)
       ∙ ap (λ k. k + sum_after_under r number limit 0 (drop (nla_align frame.0) d)) n
-      ∙ ap (λ x. number c + sum_after_under r number limit 0 x) (sym p.behind)
+      ∙ ap (λ x. number c + sum_after_under r number limit 0 x) (sym p.following)
       ∙ sym (sum_step r number limit c frame h)
 
-  pub padding_is_passed : PaddingIsPassed r
-  padding_is_passed = record {
+  pub padding_is_ignored : PaddingIsIgnored r
+  padding_is_ignored = record {
     frame = same_frame;
     fault = λ limit c d frame h p.
         fault_step r limit d frame (same_frame limit c d frame h p)
-        ∙ ap (λ x. raised (nla_align frame.0) (first_fault_under r limit x)) (sym p.behind)
+        ∙ ap (λ x. shifted (nla_align frame.0) (first_fault_under r limit x)) (sym p.following)
         ∙ sym (fault_step r limit c frame h);
     texts = λ limit c d frame h p.
         texts_step r limit d frame (same_frame limit c d frame h p)
-        ∙ ap (λ x. frame.1 ++ texts_under r limit x) (sym p.behind)
+        ∙ ap (λ x. frame.1 ++ texts_under r limit x) (sym p.following)
         ∙ sym (texts_step r limit c frame h);
     frames = λ limit c d frame h p. same_sum (λ _. 1) limit c d frame h p refl;
     attributes = λ limit c d frame h p.
         same_sum (frame_attributes_under r) limit c d frame h p
-        (alone_attributes limit d frame (same_frame limit c d frame h p) ∙ ap (frame_attributes_under r) (sym p.front) ∙ sym (alone_attributes limit c frame h));
+        (independent_attributes limit d frame (same_frame limit c d frame h p) ∙ ap (frame_attributes_under r) (sym p.prefix) ∙ sym (independent_attributes limit c frame h));
   }

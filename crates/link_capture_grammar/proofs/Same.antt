@@ -5,17 +5,17 @@ use Rattle.std.proofs.lemmas.Slice.Eq.{bytes_eq-Decides}
 use Rattle.netlink_packet_core_grammar.specs.Attributes.{nla_align}
 use Rattle.netlink_packet_core_grammar.specs.Frames.{frame_type, frame_body, frame_text}
 use Rattle.attribute_tables_grammar.specs.Rules.{Rule, Lawful}
-use Rattle.attribute_tables_grammar.proofs.Attributes.{renews_itself}
+use Rattle.attribute_tables_grammar.proofs.Attributes.{migrates_reflexive}
 use Rattle.attribute_tables_grammar.proofs.Together.{keeps_meaning}
 use Rattle.link_capture_grammar.specs.declared.fault.CaptureFault.{CaptureFault}
 use Rattle.link_capture_grammar.specs.declared.fault.FaultKind.{FaultKind}
 use Rattle.link_capture_grammar.specs.Bodies.{error_text, done_text, ruled_text, body_text_under}
-use Rattle.link_capture_grammar.specs.Captures.{first_frame_under, raised, first_fault_under, texts_under, IsLegalUnder}
+use Rattle.link_capture_grammar.specs.Captures.{first_frame_under, shifted, first_fault_under, texts_under, IsLegalUnder}
 use Rattle.link_capture_grammar.specs.Same.{done_body, same_body_under, SameFrameUnder, SameFramesUnder, SameCaptureUnder}
 use Rattle.link_capture_grammar.specs.Laws.{TextsMeanTheSame, SameAreLegal}
 use Rattle.link_capture_grammar.proofs.Bodies.{by_type}
 use Rattle.link_capture_grammar.proofs.Frames.{accepted, by_frames, guard, fault_step, fault_stop, texts_step, texts_stop, fault_nil}
-use Rattle.link_capture_grammar.proofs.Normal.{ruled, texted, text_header, text_body, first_frame_again}
+use Rattle.link_capture_grammar.proofs.Normal.{ruled, texted, text_header, text_body, first_frame_migrated}
 
 -- ---- a body and its text
 
@@ -38,9 +38,9 @@ done_is b text h =
 
 -- ---- steps
 
-pub not_raised : (k : ℕ) (f : Option CaptureFault) → raised k f ≡ None → f ≡ None
-not_raised k None h = refl
-not_raised k (Some fault) h = absurd cc
+pub not_shifted : (k : ℕ) (f : Option CaptureFault) → shifted k f ≡ None → f ≡ None
+not_shifted k None h = refl
+not_shifted k (Some fault) h = absurd cc
 
 -- ---- captures that mean the same are legal
 
@@ -51,7 +51,7 @@ module _ (r : Rule) where
       let x = s.0 in
       let y = s.1 in
       let i = both_legal limit n (drop (nla_align x.0) a) (drop (nla_align y.0) b) s.5 in
-      (fault_step r limit a x s.2 ∙ ap (raised (nla_align x.0)) i.0, fault_step r limit b y s.3 ∙ ap (raised (nla_align y.0)) i.1)
+      (fault_step r limit a x s.2 ∙ ap (shifted (nla_align x.0)) i.0, fault_step r limit b y s.3 ∙ ap (shifted (nla_align y.0)) i.1)
 
   pub same_are_legal : SameAreLegal r
   same_are_legal limit a b s = both_legal limit s.0 a b s.1
@@ -87,10 +87,10 @@ module _ (r : Rule) (lawful : Lawful r) where
   pub texts_mean_the_same : TextsMeanTheSame r
   texts_mean_the_same limit c l =
       by_frames r limit (λ c. IsLegalUnder r limit c → SameCaptureUnder r limit c (texts_under r limit c))
-      (λ c frame h behind legal.
+      (λ c frame h following legal.
       let rest = texts_under r limit (drop (nla_align frame.0) c) in
-      let f = first_frame_again r r (renews_itself r lawful) limit c frame frame rest l h h in
-      let i = behind (not_raised (nla_align frame.0) _ (sym (fault_step r limit c frame h) ∙ legal)) in
+      let f = first_frame_migrated r r (migrates_reflexive r lawful) limit c frame frame rest l h h in
+      let i = following (not_shifted (nla_align frame.0) _ (sym (fault_step r limit c frame h) ∙ legal)) in
       let there : SameFramesUnder r limit i.0 (drop (nla_align frame.0) c) (drop (nla_align f.0) (frame.1 ++ rest)) =
       subst (λ (y : List ℕ). SameFramesUnder r limit i.0 (drop (nla_align frame.0) c) y) (sym f.2) i.1 in
       subst (λ (y : List ℕ). SameCaptureUnder r limit c y) (sym (texts_step r limit c frame h)) (suc i.0, (frame, (f.0, frame.1), h, f.1, frame_same limit c frame rest l h, there)))

@@ -8,12 +8,12 @@ use Rattle.netlink_packet_core_grammar.specs.Frames.{frame_length, frame_type, f
 use Rattle.attribute_tables_grammar.specs.Rules.{Rule, Lawful}
 use Rattle.link_capture_grammar.specs.Bodies.{ruled_text, is_link_type, body_text_under}
 use Rattle.link_capture_grammar.specs.Captures.{first_frame_under, IsLegalUnder}
-use Rattle.link_capture_grammar.specs.Laws.{LegalFrameUnder, WantsHeaders, SamenessGoesByFrames}
+use Rattle.link_capture_grammar.specs.Laws.{LegalFrameUnder, NeedsHeaders, SamenessUnfoldsByFrames}
 use Rattle.link_capture_grammar.specs.Same.{same_body_under, SameFrameUnder, SameFramesUnder, SameCaptureUnder}
 use Rattle.link_capture_grammar.proofs.Frames.{accepted, fault_step, fault_stop, first_frame-more, first_frame-take, frame_body-more, frame_header-more, seen}
-use Rattle.link_capture_grammar.proofs.Meanings.{body_tells}
+use Rattle.link_capture_grammar.proofs.Meanings.{body_determines}
 use Rattle.link_capture_grammar.proofs.Normal.{ruled, texted}
-use Rattle.link_capture_grammar.proofs.Same.{not_raised}
+use Rattle.link_capture_grammar.proofs.Same.{not_shifted}
 
 -- a test whose result is known
 pub yes : {A : Type 0} (b : Bool) (x y z : A) → b ≡ true → cond b x y ≡ z → x ≡ z
@@ -34,8 +34,8 @@ module _ (r : Rule) where
       (no (eqb t 2) _ _ _ (ne_eqb t 2 (other 2 (omega arith)))
       (no (eqb t 1) _ _ _ (ne_eqb t 1 (other 1 (omega arith))) g)))
 
-  behind : (limit : ℕ) (c : List ℕ) → IsLegalUnder r limit c → LegalFrameUnder r limit c → IsLegalUnder r limit (drop (nla_align (frame_length c)) c)
-  behind limit c h p = not_raised (nla_align (frame_length c)) _ (sym (fault_step r limit c (frame_length c, p.text) p.is) ∙ h)
+  following : (limit : ℕ) (c : List ℕ) → IsLegalUnder r limit c → LegalFrameUnder r limit c → IsLegalUnder r limit (drop (nla_align (frame_length c)) c)
+  following limit c h p = not_shifted (nla_align (frame_length c)) _ (sym (fault_step r limit c (frame_length c, p.text) p.is) ∙ h)
 
 module _ (r : Rule) (limit : ℕ) (a b : List ℕ) (p : LegalFrameUnder r limit a) (q : LegalFrameUnder r limit b) where
   onto : SameFrameUnder r a b → SameCaptureUnder r limit (drop (nla_align (frame_length a)) a) (drop (nla_align (frame_length b)) b) → SameCaptureUnder r limit a b
@@ -50,7 +50,7 @@ module _ (r : Rule) (limit : ℕ) (a b : List ℕ) (p : LegalFrameUnder r limit 
 
 -- ---- the first frame, under a rule that accepts no body without a header
 
-module _ (r : Rule) (headers : WantsHeaders r) where
+module _ (r : Rule) (headers : NeedsHeaders r) where
   link_header : (t : ℕ) (b x : List ℕ) → body_text_under r t b ≡ Ok x → is_link_type t ≡ true → 16 ≤ length b
   link_header t b x g h = headers b (ruled r b x (link_ruled r t b x h g)).accepted
 
@@ -65,8 +65,8 @@ module _ (r : Rule) (headers : WantsHeaders r) where
         body = link_header (frame_type c) (frame_body c) t.body t.body_is;
       }
 
-  front : (limit : ℕ) (c : List ℕ) → IsLegalUnder r limit c → 0 < length c → LegalFrameUnder r limit c
-  front limit c h l =
+  leading : (limit : ℕ) (c : List ℕ) → IsLegalUnder r limit c → 0 < length c → LegalFrameUnder r limit c
+  leading limit c h l =
       elim (seen (first_frame_under r limit c)) [
         | inl w ↦ judged limit c w.0 w.1
         | inr w ↦ (let e = sym (fault_stop r limit c w.0 l w.1) ∙ h in absurd cc)
@@ -77,8 +77,8 @@ module _ (r : Rule) (limit : ℕ) (a b : List ℕ) (p : LegalFrameUnder r limit 
   abbrev frame : List ℕ
   frame = take (frame_length a) a
 
-  alone : first_frame_under r limit frame ≡ Ok (frame_length a, p.text)
-  alone = first_frame-take r limit a (frame_length a) (frame_length a, p.text) p.is (omega arith)
+  first_frame_of_equal : first_frame_under r limit frame ≡ Ok (frame_length a, p.text)
+  first_frame_of_equal = first_frame-take r limit a (frame_length a) (frame_length a, p.text) p.is (omega arith)
 
   is_left : frame ++ drop (frame_length a) a ≡ a
   is_left = take-append-drop (frame_length a) a
@@ -87,28 +87,28 @@ module _ (r : Rule) (limit : ℕ) (a b : List ℕ) (p : LegalFrameUnder r limit 
   is_right = ap (λ x. x ++ drop (frame_length a) b) (sym e) ∙ take-append-drop (frame_length a) b
 
   judged_right : first_frame_under r limit b ≡ Ok (frame_length a, p.text)
-  judged_right = sym (ap (first_frame_under r limit) is_right) ∙ first_frame-more r limit frame (drop (frame_length a) b) (λ h. (let f = sym h ∙ alone in absurd cc)) ∙ alone
+  judged_right = sym (ap (first_frame_under r limit) is_right) ∙ first_frame-more r limit frame (drop (frame_length a) b) (λ h. (let f = sym h ∙ first_frame_of_equal in absurd cc)) ∙ first_frame_of_equal
 
   one_header : take 12 (drop 4 a) ≡ take 12 (drop 4 b)
   one_header =
-      let k = (accepted r limit frame _ alone).header in
+      let k = (accepted r limit frame _ first_frame_of_equal).header in
       sym (ap (λ x. take 12 (drop 4 x)) is_left) ∙ frame_header-more frame (drop (frame_length a) a) k
       ∙ sym (frame_header-more frame (drop (frame_length a) b) k) ∙ ap (λ x. take 12 (drop 4 x)) is_right
 
   one_body : frame_body a ≡ frame_body b
   one_body =
-      let k = accepted r limit frame _ alone in
+      let k = accepted r limit frame _ first_frame_of_equal in
       let n : frame_length frame ≤ length frame = omega (arith, k.is, k.whole) in
       sym (ap frame_body is_left) ∙ frame_body-more frame (drop (frame_length a) a) k.header n
       ∙ sym (frame_body-more frame (drop (frame_length a) b) k.header n) ∙ ap frame_body is_right
 
-  equal : Lawful r → WantsHeaders r → LegalFrameUnder r limit b × SameFrameUnder r a b
+  equal : Lawful r → NeedsHeaders r → LegalFrameUnder r limit b × SameFrameUnder r a b
   equal lawful headers =
       let t = texted r limit a (frame_length a, p.text) p.is in (
         judged r headers limit b _ judged_right,
         record {
           header = one_header;
-          body = subst (λ x. same_body_under r (frame_type a) (frame_body a) x ≡ true) one_body (body_tells r lawful (frame_type a) (frame_body a) (frame_body a) t.body t.body t.body_is t.body_is refl);
+          body = subst (λ x. same_body_under r (frame_type a) (frame_body a) x ≡ true) one_body (body_determines r lawful (frame_type a) (frame_body a) (frame_body a) t.body t.body t.body_is t.body_is refl);
         },
       )
 
@@ -125,11 +125,11 @@ module _ (r : Rule) (limit : ℕ) (a b : List ℕ) where
   right_longer l k (zero, s) = let e : length b ≡ 0 = ap length s.1 in omega (arith, e, k)
   right_longer l k (suc n, s) = let x = (accepted r limit a s.0 s.2).header in omega (arith, x, l)
 
-pub sameness_goes_by_frames : (r : Rule) → Lawful r → WantsHeaders r → SamenessGoesByFrames r
-sameness_goes_by_frames r lawful headers = record {
+pub sameness_unfolds_by_frames : (r : Rule) → Lawful r → NeedsHeaders r → SamenessUnfoldsByFrames r
+sameness_unfolds_by_frames r lawful headers = record {
   judged = judged r headers;
-  front = front r headers;
-  behind = behind r;
+  leading = leading r headers;
+  following = following r;
   more = λ limit a b p q h. (onto r limit a b p q h, λ s. (apart r limit a b p q s).1);
   equal = λ limit a b p e. equal r limit a b p e lawful headers;
   differs = λ limit a b p q s. (apart r limit a b p q s).0;

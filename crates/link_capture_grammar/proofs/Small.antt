@@ -53,8 +53,8 @@ module _ (r : Rule) (lawful : Lawful r) where
   pub texts_small : (limit : ℕ) (c : List ℕ) → length (texts_under r limit c) ≤ 77 * length c
   texts_small limit =
       by_frames r limit (λ c. length (texts_under r limit c) ≤ 77 * length c)
-      (λ c frame h behind.
+      (λ c frame h following.
       let a = accepted r limit c frame h in
       let rest = drop (nla_align frame.0) c in
-      omega (arith, a.low, a.whole, frame_small limit c frame h, ap length (texts_step r limit c frame h), length-append frame.1 (texts_under r limit rest), behind, length-drop (nla_align frame.0) c))
+      omega (arith, a.low, a.whole, frame_small limit c frame h, ap length (texts_step r limit c frame h), length-append frame.1 (texts_under r limit rest), following, length-drop (nla_align frame.0) c))
       (λ c kind h. omega (arith, ap length (texts_stop r limit c kind h)))

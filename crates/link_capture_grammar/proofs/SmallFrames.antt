@@ -12,7 +12,7 @@ use Rattle.link_capture_grammar.specs.Bodies.{Refusal, refused, empty_ports, unf
 use Rattle.link_capture_grammar.specs.Captures.{Judged, judged_text, first_frame_under}
 use Rattle.link_capture_grammar.specs.Laws.{SmallFramesFit}
 use Rattle.link_capture_grammar.proofs.Bodies.{by_type}
-use Rattle.link_capture_grammar.proofs.Frames.{tested_by}
+use Rattle.link_capture_grammar.proofs.Frames.{checked_header_by}
 
 -- ---- bodies of at most 867 bytes, as frames of at most 883 have them
 
@@ -71,7 +71,7 @@ frame_short : (r : Rule) → IsShortRule r → (limit : ℕ) (c : List ℕ) → 
 unfolding first_frame_under IsNotTooLong
 frame_short r short limit c m l =
     let size = length-take (frame_length c - 16) (drop 16 c) in
-    tested_by limit (length c) (frame_length c) _ IsNotTooLong (λ a. tt) (λ a. tt) (λ a. tt) (λ a b d e. tt) (λ a b d e. judged_short limit c m (body_text_under r (frame_type c) (frame_body c)) (body_short r short (frame_type c) (frame_body c) (omega (arith, size, l))))
+    checked_header_by limit (length c) (frame_length c) _ IsNotTooLong (λ a. tt) (λ a. tt) (λ a. tt) (λ a b d e. tt) (λ a b d e. judged_short limit c m (body_text_under r (frame_type c) (frame_body c)) (body_short r short (frame_type c) (frame_body c) (omega (arith, size, l))))
 
 -- ---- link bodies
 

@@ -1,33 +1,33 @@
 -- The laws that need more than one lemma.
 use Rattle.std.proofs.Common.{◌≡◌, ℕ, ◌%◌, Some, None, Err, List, ◌++◌, take, drop, refl, sym, ap, subst, ◌∙◌, length, inl, inr}
-use Rattle.attribute_tables_grammar.specs.Rules.{Rule, Lawful, Renews}
-use Rattle.attribute_tables_grammar.proofs.Attributes.{renews_itself}
+use Rattle.attribute_tables_grammar.specs.Rules.{Rule, Lawful, Migrates}
+use Rattle.attribute_tables_grammar.proofs.Attributes.{migrates_reflexive}
 use Rattle.link_capture_grammar.specs.declared.fault.CaptureFault.{CaptureFault}
-use Rattle.link_capture_grammar.specs.Captures.{raised, first_frame_under, first_fault_under, texts_under, IsLegalUnder}
-use Rattle.link_capture_grammar.specs.Laws.{TextsAreLegal, TextsAreNormal, TextsAreRenewed, JoinedLegal, PrefixTexts, TextsAreSmall, FaultsStand, BodiesAreNormal, FramesStandAlone, CapturesGoByFrames}
-use Rattle.link_capture_grammar.proofs.Frames.{accepted, cut_cases, first_frame-more, one_fault, one_frame_text, fault_stop, texts_stop, stops, place_fits, base, place_legal, reach_place, joined_fault, fault-append, texts-append, fault_inside, fault_kinds}
-use Rattle.link_capture_grammar.proofs.Normal.{body_again, texts_again}
-use Rattle.link_capture_grammar.proofs.Same.{not_raised}
+use Rattle.link_capture_grammar.specs.Captures.{shifted, first_frame_under, first_fault_under, texts_under, IsLegalUnder}
+use Rattle.link_capture_grammar.specs.Laws.{TextsAreLegal, TextsAreNormal, TextsAreMigrated, JoinedLegal, PrefixTexts, TextsAreSmall, FaultsAreAtFrames, BodiesAreNormal, FramesAreIndependent, CapturesUnfoldByFrames}
+use Rattle.link_capture_grammar.proofs.Frames.{accepted, cut_cases, first_frame-more, one_fault, one_frame_text, fault_stop, texts_stop, stops, offset_fits, base, offset_legal, reach_offset, joined_fault, fault-append, texts-append, fault_inside, fault_kinds}
+use Rattle.link_capture_grammar.proofs.Normal.{body_migrated, texts_idempotent}
+use Rattle.link_capture_grammar.proofs.Same.{not_shifted}
 use Rattle.link_capture_grammar.proofs.Small.{texts_small}
 
 module _ (r : Rule) where
   pub joined_legal : JoinedLegal r
   joined_legal limit a b h m =
       let j = joined_fault r limit a b h m in (
-        λ l. not_raised (length a) (first_fault_under r limit b) (sym j ∙ l),
-        λ l. j ∙ ap (raised (length a)) l,
+        λ l. not_shifted (length a) (first_fault_under r limit b) (sym j ∙ l),
+        λ l. j ∙ ap (shifted (length a)) l,
       )
 
   pub prefix_texts : PrefixTexts r
   prefix_texts limit a b = (_, texts-append r limit 0 a b)
 
-  pub faults_stand : FaultsStand r
-  faults_stand limit c fault h =
+  pub faults_are_inside : FaultsAreAtFrames r
+  faults_are_inside limit c fault h =
       let i = fault_inside r limit c fault h in
       (i.0, i.1, fault_kinds r limit c fault h)
 
-  pub frames_stand_alone : FramesStandAlone r
-  frames_stand_alone = record { accepted = accepted r; cut = cut_cases r; unchanged_by_more = first_frame-more r }
+  pub frames_are_independent : FramesAreIndependent r
+  frames_are_independent = record { accepted = accepted r; cut = cut_cases r; unchanged_by_more = first_frame-more r }
 
   -- the frame at the first fault
   there : (limit : ℕ) (c : List ℕ) (fault : CaptureFault) → first_fault_under r limit c ≡ Some fault → first_frame_under r limit (drop fault.offset c) ≡ Err fault.kind
@@ -37,33 +37,33 @@ module _ (r : Rule) where
         | inr w ↦ (let e = sym w.1.fault_is ∙ h in subst (λ o. elim o as (λ _. Type 0) [ Some x ↦ first_frame_under r limit (drop x.offset c) ≡ Err x.kind | None ↦ ⊥ ]) e w.1.first_frame_is)
       ]
 
-  pub captures_go_by_frames : CapturesGoByFrames r
-  captures_go_by_frames = record {
+  pub captures_unfold_by_frames : CapturesUnfoldByFrames r
+  captures_unfold_by_frames = record {
     one_legal = one_fault r;
     one_frame_text = one_frame_text r;
-    front_fault = fault_stop r;
-    front_texts = texts_stop r;
+    first_frame_fault = fault_stop r;
+    first_frame_texts = texts_stop r;
     fault_there = there;
-    reach_start = λ limit c. subst (λ n. n % 4 ≡ 0) (reach_place r limit c) (place_fits r limit c).0;
-    reach_legal = λ limit c more. subst (λ n. IsLegalUnder r limit (take n (c ++ more))) (reach_place r limit c) (base r limit 0 c more).legal;
-    reach_texts = λ limit c more. subst (λ n. texts_under r limit (take n (c ++ more)) ≡ texts_under r limit c) (reach_place r limit c) (base r limit 0 c more).texts;
-    rest_fault = λ limit c more. subst (λ n. first_fault_under r limit (c ++ more) ≡ raised n (first_fault_under r limit (drop n (c ++ more)))) (reach_place r limit c) (fault-append r limit 0 c more);
-    rest_texts = λ limit c more. subst (λ n. texts_under r limit (c ++ more) ≡ texts_under r limit c ++ texts_under r limit (drop n (c ++ more))) (reach_place r limit c) (texts-append r limit 0 c more);
+    reach_start = λ limit c. subst (λ n. n % 4 ≡ 0) (reach_offset r limit c) (offset_fits r limit c).0;
+    reach_legal = λ limit c more. subst (λ n. IsLegalUnder r limit (take n (c ++ more))) (reach_offset r limit c) (base r limit 0 c more).legal;
+    reach_texts = λ limit c more. subst (λ n. texts_under r limit (take n (c ++ more)) ≡ texts_under r limit c) (reach_offset r limit c) (base r limit 0 c more).texts;
+    rest_fault = λ limit c more. subst (λ n. first_fault_under r limit (c ++ more) ≡ shifted n (first_fault_under r limit (drop n (c ++ more)))) (reach_offset r limit c) (fault-append r limit 0 c more);
+    rest_texts = λ limit c more. subst (λ n. texts_under r limit (c ++ more) ≡ texts_under r limit c ++ texts_under r limit (drop n (c ++ more))) (reach_offset r limit c) (texts-append r limit 0 c more);
   }
 
 -- texts that were written under r, under a rule s that migrates it
-pub texts_are_renewed : (r s : Rule) → Renews r s → TextsAreRenewed r s
-texts_are_renewed r s renews limit c l h k = texts_again r s renews limit 0 c l (place_legal r limit c h ∙ sym (place_legal s limit c k))
+pub texts_are_migrated : (r s : Rule) → Migrates r s → TextsAreMigrated r s
+texts_are_migrated r s migrates limit c l h k = texts_idempotent r s migrates limit 0 c l (offset_legal r limit c h ∙ sym (offset_legal s limit c k))
 
 module _ (r : Rule) (lawful : Lawful r) where
   pub texts_are_legal : TextsAreLegal r
-  texts_are_legal limit c l = (texts_again r r (renews_itself r lawful) limit 0 c l refl).0
+  texts_are_legal limit c l = (texts_idempotent r r (migrates_reflexive r lawful) limit 0 c l refl).0
 
   pub texts_are_normal : TextsAreNormal r
-  texts_are_normal limit c l = (texts_again r r (renews_itself r lawful) limit 0 c l refl).1
+  texts_are_normal limit c l = (texts_idempotent r r (migrates_reflexive r lawful) limit 0 c l refl).1
 
   pub bodies_are_normal : BodiesAreNormal r
-  bodies_are_normal t b text h = body_again r r (renews_itself r lawful) t b text text h h
+  bodies_are_normal t b text h = body_migrated r r (migrates_reflexive r lawful) t b text text h h
 
   pub texts_are_small : TextsAreSmall r
   texts_are_small = texts_small r lawful

@@ -8,12 +8,12 @@ use Rattle.attribute_tables_grammar.specs.Lists.{Context, nothing, Row, raw_row,
 use Rattle.attribute_tables_grammar.specs.Peers.{Peer, LawfulPeer}
 use Rattle.attribute_tables_grammar.specs.Rules.{Rule}
 use Rattle.attribute_tables_grammar.specs.Tables.{grammar}
-use Rattle.attribute_tables_grammar.proofs.Attributes.{next_again, proper_kind-written}
-use Rattle.attribute_tables_grammar.proofs.Lists.{read_again}
+use Rattle.attribute_tables_grammar.proofs.Attributes.{next_canonical, proper_kind-written}
+use Rattle.attribute_tables_grammar.proofs.Lists.{read_canonical}
 use Rattle.attribute_tables_grammar.proofs.Tables.{table_lawful}
 use Rattle.link_message_grammar.specs.Body.{attribute_bytes, attribute_row, attribute_row_under, body_rule, family, link_peer, link_peer_under, list_rule_of}
 use Rattle.link_message_grammar.specs.LinkMessage.{Family, link_table}
-use Rattle.link_message_grammar.proofs.Body.{family_again, link_peer_lawful, written_header}
+use Rattle.link_message_grammar.proofs.Body.{family_read_back, link_peer_lawful, written_header}
 use Rattle.link_message_grammar.proofs.Lines.{attributes-grammar}
 use Rattle.link_message_grammar.proofs.Tables.{table_bounded}
 use Rattle.link_capture_grammar.specs.Bodies.{is_link_type}
@@ -38,7 +38,7 @@ module _ (g : Grammar) (lawful : LawfulGrammar g) where
       record {
         accepted = r.accepted;
         is = ap (λ es. rewrite (row_of g c e) e ∷ es) r.is;
-        context = ap (λ d. context_after g d (rewritten g (g.next c e) before)) (next_again g lawful c e s.0) ∙ r.context;
+        context = ap (λ d. context_after g d (rewritten g (g.next c e) before)) (next_canonical g lawful c e s.0) ∙ r.context;
       }
 
 not_empty_ports : (form : ListForm) (before after : List Attribute) (x : Attribute) → is_empty_ports form (before ++ x ∷ after) ≡ false
@@ -47,17 +47,17 @@ not_empty_ports ports (e ∷ before) after x = refl
 not_empty_ports form before after x = refl
 
 -- a kept attribute of a list is in the list's text, rewritten by its row
-record Again (form : ListForm) (g : Grammar) (bytes : List ℕ) (x : Attribute) (k : Keeps form bytes x) : Type 0 where
+record RewrittenInText (form : ListForm) (g : Grammar) (bytes : List ℕ) (x : Attribute) (k : Keeps form bytes x) : Type 0 where
   pub accepted : (row_there g k).rule.accepted x.payload ≡ true
   pub keeps : Keeps form ((list_rule form g).canonical bytes) (rewrite (row_there g k) x)
   pub row : row_there g keeps ≡ row_there g k
 
-again : (form : ListForm) (g : Grammar) (bytes : List ℕ) (x : Attribute) (k : Keeps form bytes x) → LawfulGrammar g → (list_rule form g).accepted bytes ≡ true → Again form g bytes x k
-again form g bytes x k lawful a =
+kept_attribute : (form : ListForm) (g : Grammar) (bytes : List ℕ) (x : Attribute) (k : Keeps form bytes x) → LawfulGrammar g → (list_rule form g).accepted bytes ≡ true → RewrittenInText form g bytes x k
+kept_attribute form g bytes x k lawful a =
     let all : all_accepted g nothing (kept form k.read) ≡ true = sym (ap (if_read false (λ es. all_accepted g nothing (kept form es))) k.is_read) ∙ a in
     let r = rewritten_there g lawful nothing k.before k.after x (subst (λ es. all_accepted g nothing es ≡ true) k.is_kept all) in
     let text : (list_rule form g).canonical bytes ≡ list_text (rewritten g nothing (kept form k.read)) = ap (if_read [] (λ es. list_text (rewritten g nothing (kept form es)))) k.is_read in
-    let s = read_again g form nothing bytes k.read k.is_read (ap (is_empty_ports form) k.is_kept ∙ not_empty_ports form k.before k.after x) in
+    let s = read_canonical g form nothing bytes k.read k.is_read (ap (is_empty_ports form) k.is_kept ∙ not_empty_ports form k.before k.after x) in
     record {
       accepted = r.accepted;
       keeps = record {
@@ -71,67 +71,67 @@ again form g bytes x k lawful a =
     }
 
 -- what holds of the text of each list holds of each attribute that is `depth` lists further inside
-abbrev StandsAgain : ℕ → Attribute → Type 0
-StandsAgain depth e = (form : ListForm) (g : Grammar) (bytes : List ℕ) → LawfulGrammar g → (list_rule form g).accepted bytes ≡ true → HoldsUnlisted depth form g bytes e → HoldsUnlisted depth form g ((list_rule form g).canonical bytes) e
+abbrev IsKeptInText : ℕ → Attribute → Type 0
+IsKeptInText depth e = (form : ListForm) (g : Grammar) (bytes : List ℕ) → LawfulGrammar g → (list_rule form g).accepted bytes ≡ true → HoldsUnlisted depth form g bytes e → HoldsUnlisted depth form g ((list_rule form g).canonical bytes) e
 
 -- ---- lists that follow a header
 
-module _ (p : Peer) (lawful : LawfulPeer p) (depth : ℕ) (e : Attribute) (stands : StandsAgain depth e) where
+module _ (p : Peer) (lawful : LawfulPeer p) (depth : ℕ) (e : Attribute) (inner_kept : IsKeptInText depth e) where
   abbrev Holds : Family → List ℕ → Type 0
   Holds f b = HoldsUnlisted depth any (without_context (attribute_row_under p f)) b e
 
-  attributes_again : (f : Family) (b : List ℕ) → (list_rule_of p f).accepted b ≡ true → Holds f b → Holds f ((list_rule_of p f).canonical b)
+  attributes_kept : (f : Family) (b : List ℕ) → (list_rule_of p f).accepted b ≡ true → Holds f b → Holds f ((list_rule_of p f).canonical b)
   unfolding list_rule_of
-  attributes_again f b a =
+  attributes_kept f b a =
       subst (λ g. HoldsUnlisted depth any g b e → HoldsUnlisted depth any g ((list_rule_of p f).canonical b) e) (attributes-grammar p f)
-      (stands any (grammar p (link_table f)) b (table_lawful p lawful (link_table f) (table_bounded f)) a)
+      (inner_kept any (grammar p (link_table f)) b (table_lawful p lawful (link_table f) (table_bounded f)) a)
 
-  body_again : (b text : List ℕ) → (body_rule p).accepted b ≡ true → text ≡ (body_rule p).canonical b → Holds (family b) (attribute_bytes b) → Holds (family b) (attribute_bytes text)
+  body_kept : (b text : List ℕ) → (body_rule p).accepted b ≡ true → text ≡ (body_rule p).canonical b → Holds (family b) (attribute_bytes b) → Holds (family b) (attribute_bytes text)
   unfolding body_rule
-  body_again b text a is w =
+  body_kept b text a is w =
       let r = list_rule_of p (family b) in
       let s = and_parts (nat_le 16 (length b)) (r.accepted (attribute_bytes b)) a in
       let rest : attribute_bytes text ≡ r.canonical (attribute_bytes b) = ap attribute_bytes is ∙ (written_header b s.0).rest (r.canonical (attribute_bytes b)) in
-      subst (Holds (family b)) (sym rest) (attributes_again (family b) (attribute_bytes b) s.1 w)
+      subst (Holds (family b)) (sym rest) (attributes_kept (family b) (attribute_bytes b) s.1 w)
 
   one_family : (b : List ℕ) → (body_rule p).accepted b ≡ true → family ((body_rule p).canonical b) ≡ family b
   unfolding body_rule
   one_family b a =
       let s = and_parts (nat_le 16 (length b)) ((list_rule_of p (family b)).accepted (attribute_bytes b)) a in
-      family_again b ((list_rule_of p (family b)).canonical (attribute_bytes b)) (written_header b s.0)
+      family_read_back b ((list_rule_of p (family b)).canonical (attribute_bytes b)) (written_header b s.0)
 
   -- a peer, whose first byte determines its rows
-  peer_again : (b : List ℕ) → (link_peer_under p).accepted b ≡ true → Holds (family b) (attribute_bytes b) →
+  peer_kept : (b : List ℕ) → (link_peer_under p).accepted b ≡ true → Holds (family b) (attribute_bytes b) →
       Holds (family ((link_peer_under p).canonical b)) (attribute_bytes ((link_peer_under p).canonical b))
-  peer_again b a w =
+  peer_kept b a w =
       let both = and_parts ((body_rule p).accepted b && not ((body_rule p).empty_ports b)) ((body_rule p).fits b) a in
       let s = and_parts ((body_rule p).accepted b) (not ((body_rule p).empty_ports b)) both.0 in
-      subst (λ f. Holds f (attribute_bytes ((body_rule p).canonical b))) (sym (one_family b s.0)) (body_again b ((body_rule p).canonical b) s.0 refl w)
+      subst (λ f. Holds f (attribute_bytes ((body_rule p).canonical b))) (sym (one_family b s.0)) (body_kept b ((body_rule p).canonical b) s.0 refl w)
 
-pub unlisted_again : (depth : ℕ) (form : ListForm) (g : Grammar) (bytes : List ℕ) (e : Attribute) → LawfulGrammar g → (list_rule form g).accepted bytes ≡ true → HoldsUnlisted depth form g bytes e → HoldsUnlisted depth form g ((list_rule form g).canonical bytes) e
-unlisted_again zero form g bytes e lawful a w =
+pub unlisted_kept : (depth : ℕ) (form : ListForm) (g : Grammar) (bytes : List ℕ) (e : Attribute) → LawfulGrammar g → (list_rule form g).accepted bytes ≡ true → HoldsUnlisted depth form g bytes e → HoldsUnlisted depth form g ((list_rule form g).canonical bytes) e
+unlisted_kept zero form g bytes e lawful a w =
     let k = w.0 in
-    let n = again form g bytes e k lawful a in
-    let itself : rewrite (row_there g k) e ≡ e = ap (λ r. rewrite r e) w.1 in
-    subst (λ x. (m : Keeps form ((list_rule form g).canonical bytes) x) × (row_there g m ≡ raw_row)) itself (n.keeps, n.row ∙ w.1)
-unlisted_again (suc depth) form g bytes e lawful a w =
+    let n = kept_attribute form g bytes e k lawful a in
+    let is_unchanged : rewrite (row_there g k) e ≡ e = ap (λ r. rewrite r e) w.1 in
+    subst (λ x. (m : Keeps form ((list_rule form g).canonical bytes) x) × (row_there g m ≡ raw_row)) is_unchanged (n.keeps, n.row ∙ w.1)
+unlisted_kept (suc depth) form g bytes e lawful a w =
     let outer = w.0 in
     let k = w.1 in
-    let n = again form g bytes outer k lawful a in
+    let n = kept_attribute form g bytes outer k lawful a in
     elim w.2 [
       | inl v ↦
           let inner = v.0 in
           let h = v.1 in
           let is = v.3 in
           let accepted : (list_rule inner h).accepted outer.payload ≡ true = sym (ap (λ (r : Rule). r.accepted outer.payload) is) ∙ n.accepted in
-          let deeper = unlisted_again depth inner h outer.payload e v.2 accepted v.4 in
+          let deeper = unlisted_kept depth inner h outer.payload e v.2 accepted v.4 in
           let payload : (list_rule inner h).canonical outer.payload ≡ (row_there g k).rule.canonical outer.payload = sym (ap (λ (r : Rule). r.canonical outer.payload) is) in
           (rewrite (row_there g k) outer, n.keeps, inl (inner, h, v.2, ap (λ (r : Row). r.rule) n.row ∙ is, subst (λ p. HoldsUnlisted depth inner h p e) payload deeper))
       | inr v ↦
           let p = v.0 in
           let is = v.2 in
           let accepted : (link_peer_under p).accepted outer.payload ≡ true = sym (ap (λ (r : Rule). r.accepted outer.payload) is) ∙ n.accepted in
-          let deeper = peer_again p v.1 depth e (λ f h b l x y. unlisted_again depth f h b e l x y) outer.payload accepted v.3 in
+          let deeper = peer_kept p v.1 depth e (λ f h b l x y. unlisted_kept depth f h b e l x y) outer.payload accepted v.3 in
           let payload : (link_peer_under p).canonical outer.payload ≡ (row_there g k).rule.canonical outer.payload = sym (ap (λ (r : Rule). r.canonical outer.payload) is) in
           (rewrite (row_there g k) outer, n.keeps, inr (p, v.1, ap (λ (r : Row). r.rule) n.row ∙ is, subst (λ b. HoldsUnlisted depth any (without_context (attribute_row_under p (family b))) (attribute_bytes b) e) payload deeper))
     ]
@@ -142,11 +142,11 @@ module _ (p : Peer) (lawful : LawfulPeer p) where
   pub of_frames_under : (limit : ℕ) (c : List ℕ) (frame : ℕ × List ℕ) → IsLimit limit → is_link_type (frame_type c) ≡ true → first_frame_under (body_rule p) limit c ≡ Ok frame → KeepsUnlisted (attribute_row_under p) (frame_body c) (frame_body frame.1)
   of_frames_under limit c frame l is_link h depth e w =
       let k = link (body_rule p) limit c frame l is_link h in
-      body_again p lawful depth e (λ f g b x y z. unlisted_again depth f g b e x y z) (frame_body c) (frame_body frame.1) k.0 k.1 w
+      body_kept p lawful depth e (λ f g b x y z. unlisted_kept depth f g b e x y z) (frame_body c) (frame_body frame.1) k.0 k.1 w
 
 -- under the rule in force
 of_frames : (limit : ℕ) (c : List ℕ) (frame : ℕ × List ℕ) → IsLimit limit → is_link_type (frame_type c) ≡ true → first_frame limit c ≡ Ok frame → KeepsUnlisted attribute_row (frame_body c) (frame_body frame.1)
 of_frames = of_frames_under link_peer link_peer_lawful
 
 pub unlisted_attributes_are_kept : UnlistedAttributesAreKept
-unlisted_attributes_are_kept = record { of_lists = unlisted_again; of_frames = of_frames; of_frames_under = of_frames_under }
+unlisted_attributes_are_kept = record { of_lists = unlisted_kept; of_frames = of_frames; of_frames_under = of_frames_under }

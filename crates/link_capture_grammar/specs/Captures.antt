@@ -16,9 +16,9 @@ fault_of empty_ports = EmptyPorts
 fault_of unfit = Unfit
 
 -- The text of a body, or the fault of its frame.
-abbrev pub faulty : Result (List ℕ) Refusal → Result (List ℕ) FaultKind
-faulty (Ok text) = Ok text
-faulty (Err why) = Err (fault_of why)
+abbrev pub text_or_fault : Result (List ℕ) Refusal → Result (List ℕ) FaultKind
+text_or_fault (Ok text) = Ok text
+text_or_fault (Err why) = Err (fault_of why)
 
 -- The result for a frame: its length and its text, or its fault.
 abbrev pub Judged : Type 0
@@ -31,8 +31,8 @@ judged_text limit c (Ok body) = cond (nat_lt limit (16 + length body)) (Err Text
 
 -- The result for a frame of which `size` bytes are there and whose header has the length length'. The tests are made in
 -- this order.
-abbrev pub tested : ℕ → ℕ → ℕ → Judged → Judged
-tested limit size length' judged =
+abbrev pub checked_header : ℕ → ℕ → ℕ → Judged → Judged
+checked_header limit size length' judged =
     cond (nat_lt size 16) (Err Cut)
     (cond (nat_lt length' 16) (Err ShortLength)
     (cond (nat_lt limit length') (Err OverLimit)
@@ -40,7 +40,7 @@ tested limit size length' judged =
 
 -- The result for the first frame: its length and its text, or its fault.
 unfoldable pub first_frame_under : Rule → ℕ → List ℕ → Judged
-first_frame_under r limit c = tested limit (length c) (frame_length c) (judged_text limit c (body_text_under r (frame_type c) (frame_body c)))
+first_frame_under r limit c = checked_header limit (length c) (frame_length c) (judged_text limit c (body_text_under r (frame_type c) (frame_body c)))
 
 -- An accepted frame: its bytes are there, and it has the length in its header, which is within the limit.
 pub record Accepted (limit : ℕ) (c : List ℕ) (frame : ℕ × List ℕ) : Type 0 where
@@ -58,19 +58,19 @@ pub record CutInBody (limit : ℕ) (c : List ℕ) : Type 0 where
   pub short : length c < frame_length c
 
 -- A fault with its offset increased by k.
-abbrev pub raised : ℕ → Option CaptureFault → Option CaptureFault
-raised k None = None
-raised k (Some fault) = Some (record { kind = fault.kind; offset = k + fault.offset })
+abbrev pub shifted : ℕ → Option CaptureFault → Option CaptureFault
+shifted k None = None
+shifted k (Some fault) = Some (record { kind = fault.kind; offset = k + fault.offset })
 
 -- The first fault of a capture, from the result for its first frame and the first fault of the bytes after it.
 abbrev pub next_fault : Judged → (ℕ → Option CaptureFault) → Option CaptureFault
-next_fault (Ok frame) after = raised 1 (after (nla_align frame.0 - 1))
+next_fault (Ok frame) after = shifted 1 (after (nla_align frame.0 - 1))
 next_fault (Err kind) after = Some (record { kind = kind; offset = 0 })
 
 -- The first fault of c after its first `skip` bytes. Offsets are counted from c's start.
 unfoldable pub fault_after_under : Rule → ℕ → ℕ → List ℕ → Option CaptureFault
 fault_after_under r limit skip [] = None
-fault_after_under r limit (suc skip) (b ∷ c) = raised 1 (fault_after_under r limit skip c)
+fault_after_under r limit (suc skip) (b ∷ c) = shifted 1 (fault_after_under r limit skip c)
 fault_after_under r limit zero (b ∷ c) = next_fault (first_frame_under r limit (b ∷ c)) (λ skip. fault_after_under r limit skip c)
 
 -- The texts of a capture, from the result for its first frame and the texts of the bytes after it.
@@ -107,15 +107,15 @@ abbrev pub IsLegalUnder : Rule → ℕ → List ℕ → Type 0
 IsLegalUnder r limit c = first_fault_under r limit c ≡ None
 
 -- The first header isn't refused: fewer than 16 bytes are there, or its length is from 16 to the limit.
-abbrev pub HeaderStands : ℕ → List ℕ → Type 0
-HeaderStands limit c = (length c < 16) ⊎ ((16 ≤ frame_length c) × (frame_length c ≤ limit))
+abbrev pub HeaderIsAllowed : ℕ → List ℕ → Type 0
+HeaderIsAllowed limit c = (length c < 16) ⊎ ((16 ≤ frame_length c) × (frame_length c ≤ limit))
 
--- At offset `place` of c a frame begins whose header isn't refused, and the bytes before it are legal.
-pub record StopsAtUnder (r : Rule) (limit : ℕ) (c : List ℕ) (place : ℕ) : Type 0 where
-  pub inside : place < length c
-  pub start : place % 4 ≡ 0
-  pub header : HeaderStands limit (drop place c)
-  pub legal : IsLegalUnder r limit (take place c)
+-- At offset `offset` of c a frame begins whose header isn't refused, and the bytes before it are legal.
+pub record StopsAtUnder (r : Rule) (limit : ℕ) (c : List ℕ) (offset : ℕ) : Type 0 where
+  pub inside : offset < length c
+  pub start : offset % 4 ≡ 0
+  pub header : HeaderIsAllowed limit (drop offset c)
+  pub legal : IsLegalUnder r limit (take offset c)
 
 -- The kinds of fault that a frame itself can have.
 abbrev pub IsOfFrames : FaultKind → Type 0

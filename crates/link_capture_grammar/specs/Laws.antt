@@ -2,7 +2,7 @@
 use Rattle.std.specs.Prelude.{◌≡◌, ◌≢◌, ℕ, ◌+◌, ◌*◌, ◌%◌, ◌^◌, ◌<◌, ◌≤◌, ◌↔◌, ◌⊎◌, true, false, List, [], ◌++◌, length, take, drop, None, Some, Ok, Err}
 use Rattle.netlink_packet_core_grammar.specs.Attributes.{Attribute, nla_align}
 use Rattle.netlink_packet_core_grammar.specs.Frames.{IsFrame, frame_length, frame_type, frame_body, frame_text}
-use Rattle.attribute_tables_grammar.specs.Rules.{Rule, Lawful, Renews}
+use Rattle.attribute_tables_grammar.specs.Rules.{Rule, Lawful, Migrates}
 use Rattle.attribute_tables_grammar.specs.Lists.{Grammar, LawfulGrammar, ListForm, list_rule}
 use Rattle.attribute_tables_grammar.specs.Peers.{Peer, LawfulPeer, bytes_peer}
 use Rattle.link_message_grammar.specs.Body.{attribute_row, attribute_row_under, body_rule, link_body}
@@ -10,7 +10,7 @@ use Rattle.link_capture_grammar.specs.declared.fault.FaultKind.{FaultKind}
 use Rattle.link_capture_grammar.specs.declared.fault.CaptureFault.{CaptureFault}
 use Rattle.link_capture_grammar.specs.declared.fault.FaultKind.TheVariants.{Cut, Unfit, TextOverLimit}
 use Rattle.link_capture_grammar.specs.Bodies.{body_text_under, is_link_type}
-use Rattle.link_capture_grammar.specs.Captures.{Judged, Accepted, CutInBody, faulty, tested, first_frame, first_frame_under, first_fault_under, texts_under, raised, reach_under, IsLegalUnder, IsOfFrames}
+use Rattle.link_capture_grammar.specs.Captures.{Judged, Accepted, CutInBody, text_or_fault, checked_header, first_frame, first_frame_under, first_fault_under, texts_under, shifted, reach_under, IsLegalUnder, IsOfFrames}
 use Rattle.link_capture_grammar.specs.Numbers.{frame_attributes_under, frames_under, attributes_under}
 use Rattle.link_capture_grammar.specs.Same.{same_body_under, SameFrameUnder, SameCaptureUnder}
 use Rattle.link_capture_grammar.specs.Unlisted.{HoldsUnlisted, KeepsUnlisted}
@@ -29,14 +29,14 @@ TextsAreNormal r = (limit : ℕ) (c : List ℕ) → IsLimit limit → texts_unde
 
 -- If a capture is legal under an old rule and a new one, its text under the old rule is legal under the new one, and
 -- the text of that under the new rule is the capture's text under the new rule.
-abbrev pub TextsAreRenewed : Rule → Rule → Type 0
-TextsAreRenewed old new = (limit : ℕ) (c : List ℕ) → IsLimit limit → IsLegalUnder old limit c → IsLegalUnder new limit c →
+abbrev pub TextsAreMigrated : Rule → Rule → Type 0
+TextsAreMigrated old new = (limit : ℕ) (c : List ℕ) → IsLimit limit → IsLegalUnder old limit c → IsLegalUnder new limit c →
     IsLegalUnder new limit (texts_under old limit c) × (texts_under new limit (texts_under old limit c) ≡ texts_under new limit c)
 
 -- The first fault of a legal capture whose size is a multiple of 4, followed by b, is that of b, its offset increased
 -- by that size.
 abbrev pub JoinedFaults : Rule → Type 0
-JoinedFaults r = (limit : ℕ) (a b : List ℕ) → IsLegalUnder r limit a → length a % 4 ≡ 0 → first_fault_under r limit (a ++ b) ≡ raised (length a) (first_fault_under r limit b)
+JoinedFaults r = (limit : ℕ) (a b : List ℕ) → IsLegalUnder r limit a → length a % 4 ≡ 0 → first_fault_under r limit (a ++ b) ≡ shifted (length a) (first_fault_under r limit b)
 
 -- A legal capture whose size is a multiple of 4, followed by b, is legal if and only if b is.
 abbrev pub JoinedLegal : Rule → Type 0
@@ -59,8 +59,8 @@ abbrev pub TextsAreSmall : Rule → Type 0
 TextsAreSmall r = (limit : ℕ) (c : List ℕ) → length (texts_under r limit c) ≤ 77 * length c
 
 -- A first fault is inside the capture, at a multiple of 4, and is of a kind that a frame can have.
-abbrev pub FaultsStand : Rule → Type 0
-FaultsStand r = (limit : ℕ) (c : List ℕ) (fault : CaptureFault) → first_fault_under r limit c ≡ Some fault → (fault.offset < length c) × (fault.offset % 4 ≡ 0) × IsOfFrames fault.kind
+abbrev pub FaultsAreAtFrames : Rule → Type 0
+FaultsAreAtFrames r = (limit : ℕ) (c : List ℕ) (fault : CaptureFault) → first_fault_under r limit c ≡ Some fault → (fault.offset < length c) × (fault.offset % 4 ≡ 0) × IsOfFrames fault.kind
 
 -- The text of a body is already canonical.
 abbrev pub BodiesAreNormal : Rule → Type 0
@@ -71,17 +71,17 @@ abbrev pub TextsMeanTheSame : Rule → Type 0
 TextsMeanTheSame r = (limit : ℕ) (c : List ℕ) → IsLimit limit → IsLegalUnder r limit c → SameCaptureUnder r limit c (texts_under r limit c)
 
 -- Captures mean the same if and only if they are legal and their normal texts are equal.
-pub record TextsTellMeanings (r : Rule) : Type 0 where
-  pub one_text : (limit : ℕ) (a b : List ℕ) → SameCaptureUnder r limit a b → texts_under r limit a ≡ texts_under r limit b
-  pub one_meaning : (limit : ℕ) (a b : List ℕ) → IsLimit limit → IsLegalUnder r limit a → IsLegalUnder r limit b → texts_under r limit a ≡ texts_under r limit b → SameCaptureUnder r limit a b
+pub record TextsDetermineMeanings (r : Rule) : Type 0 where
+  pub same_implies_equal_text : (limit : ℕ) (a b : List ℕ) → SameCaptureUnder r limit a b → texts_under r limit a ≡ texts_under r limit b
+  pub equal_text_implies_same : (limit : ℕ) (a b : List ℕ) → IsLimit limit → IsLegalUnder r limit a → IsLegalUnder r limit b → texts_under r limit a ≡ texts_under r limit b → SameCaptureUnder r limit a b
   -- so equivalence is reflexive on legal captures, symmetric and transitive
-  pub itself : (limit : ℕ) (a : List ℕ) → IsLimit limit → IsLegalUnder r limit a → SameCaptureUnder r limit a a
-  pub turned : (limit : ℕ) (a b : List ℕ) → SameCaptureUnder r limit a b → SameCaptureUnder r limit b a
-  pub followed : (limit : ℕ) (a b c : List ℕ) → SameCaptureUnder r limit a b → SameCaptureUnder r limit b c → SameCaptureUnder r limit a c
+  pub reflexive : (limit : ℕ) (a : List ℕ) → IsLimit limit → IsLegalUnder r limit a → SameCaptureUnder r limit a a
+  pub symmetric : (limit : ℕ) (a b : List ℕ) → SameCaptureUnder r limit a b → SameCaptureUnder r limit b a
+  pub transitive : (limit : ℕ) (a b c : List ℕ) → SameCaptureUnder r limit a b → SameCaptureUnder r limit b c → SameCaptureUnder r limit a c
 
 -- Two bodies of a type that have texts mean the same if and only if these texts are equal.
-abbrev pub BodiesTellMeanings : Rule → Type 0
-BodiesTellMeanings r = (t : ℕ) (a b x y : List ℕ) → body_text_under r t a ≡ Ok x → body_text_under r t b ≡ Ok y → (same_body_under r t a b ≡ true) ↔ (x ≡ y)
+abbrev pub BodiesDetermineMeanings : Rule → Type 0
+BodiesDetermineMeanings r = (t : ℕ) (a b x y : List ℕ) → body_text_under r t a ≡ Ok x → body_text_under r t b ≡ Ok y → (same_body_under r t a b ≡ true) ↔ (x ≡ y)
 
 -- Captures that mean the same are legal.
 abbrev pub SameAreLegal : Rule → Type 0
@@ -99,16 +99,16 @@ abbrev pub LegalFrame : ℕ → List ℕ → Type 0
 LegalFrame = LegalFrameUnder link_body
 
 -- The rule accepts nothing without a header of 16 bytes.
-abbrev pub WantsHeaders : Rule → Type 0
-WantsHeaders r = (b : List ℕ) → r.accepted b ≡ true → 16 ≤ length b
+abbrev pub NeedsHeaders : Rule → Type 0
+NeedsHeaders r = (b : List ℕ) → r.accepted b ≡ true → 16 ≤ length b
 
 -- Equivalence of captures is decided frame by frame.
-pub record SamenessGoesByFrames (r : Rule) : Type 0 where
+pub record SamenessUnfoldsByFrames (r : Rule) : Type 0 where
   -- an accepted frame is legal
   pub judged : (limit : ℕ) (c : List ℕ) (frame : ℕ × List ℕ) → first_frame_under r limit c ≡ Ok frame → LegalFrameUnder r limit c
   -- a legal capture that isn't empty begins with a legal frame, and the bytes after that are a legal capture
-  pub front : (limit : ℕ) (c : List ℕ) → IsLegalUnder r limit c → 0 < length c → LegalFrameUnder r limit c
-  pub behind : (limit : ℕ) (c : List ℕ) → IsLegalUnder r limit c → LegalFrameUnder r limit c → IsLegalUnder r limit (drop (nla_align (frame_length c)) c)
+  pub leading : (limit : ℕ) (c : List ℕ) → IsLegalUnder r limit c → 0 < length c → LegalFrameUnder r limit c
+  pub following : (limit : ℕ) (c : List ℕ) → IsLegalUnder r limit c → LegalFrameUnder r limit c → IsLegalUnder r limit (drop (nla_align (frame_length c)) c)
   pub more : (limit : ℕ) (a b : List ℕ) → LegalFrameUnder r limit a → LegalFrameUnder r limit b → SameFrameUnder r a b →
       SameCaptureUnder r limit (drop (nla_align (frame_length a)) a) (drop (nla_align (frame_length b)) b) ↔ SameCaptureUnder r limit a b
   -- a frame with the bytes of a legal frame is legal, and means the same
@@ -143,11 +143,11 @@ abbrev pub SmallFramesFit : Type 0
 SmallFramesFit = (p : Peer) → LawfulPeer p → (limit : ℕ) (c : List ℕ) → 65559 ≤ limit → frame_length c ≤ 883 → (first_frame_under (body_rule p) limit c ≢ Err Unfit) × (first_frame_under (body_rule p) limit c ≢ Err TextOverLimit)
 
 -- Normal texts of older versions are migrated.
-pub record OldCapturesAreRenewed : Type 0 where
+pub record OldCapturesAreMigrated : Type 0 where
   -- those that were written while peers were kept as bytes, under the rule in force
-  pub in_force : TextsAreRenewed (body_rule bytes_peer) link_body
+  pub in_force : TextsAreMigrated (body_rule bytes_peer) link_body
   -- those of any rule, under one that migrates it
-  pub under_every_rule : (old new : Rule) → Renews old new → TextsAreRenewed old new
+  pub under_every_rule : (old new : Rule) → Migrates old new → TextsAreMigrated old new
 
 -- An attribute that no table lists is kept with its kind, flag bits and payload.
 pub record UnlistedAttributesAreKept : Type 0 where
@@ -162,7 +162,7 @@ pub record UnlistedAttributesAreKept : Type 0 where
       KeepsUnlisted (attribute_row_under p) (frame_body c) (frame_body frame.1)
 
 -- The result for a frame depends only on the frame's bytes.
-pub record FramesStandAlone (r : Rule) : Type 0 where
+pub record FramesAreIndependent (r : Rule) : Type 0 where
   -- an accepted frame has the length in its header
   pub accepted : (limit : ℕ) (c : List ℕ) (frame : ℕ × List ℕ) → first_frame_under r limit c ≡ Ok frame → Accepted limit c frame
   -- a cut frame has no whole header, or fewer bytes than the length in its header
@@ -171,14 +171,14 @@ pub record FramesStandAlone (r : Rule) : Type 0 where
   pub unchanged_by_more : (limit : ℕ) (c more : List ℕ) → first_frame_under r limit c ≢ Err Cut → first_frame_under r limit (c ++ more) ≡ first_frame_under r limit c
 
 -- A capture is judged and written frame by frame.
-pub record CapturesGoByFrames (r : Rule) : Type 0 where
+pub record CapturesUnfoldByFrames (r : Rule) : Type 0 where
   -- an accepted frame with nothing after it but its padding, or a part of that, is legal, and the capture has the
   -- frame's text
   pub one_legal : (limit : ℕ) (c : List ℕ) (frame : ℕ × List ℕ) → first_frame_under r limit c ≡ Ok frame → IsLegalUnder r limit (take (nla_align frame.0) c)
   pub one_frame_text : (limit : ℕ) (c : List ℕ) (frame : ℕ × List ℕ) → first_frame_under r limit c ≡ Ok frame → texts_under r limit (take (nla_align frame.0) c) ≡ frame.1
   -- a fault of the first frame is the first fault, and there is no text before it
-  pub front_fault : (limit : ℕ) (c : List ℕ) (kind : FaultKind) → 0 < length c → first_frame_under r limit c ≡ Err kind → first_fault_under r limit c ≡ Some (record { kind = kind; offset = 0 })
-  pub front_texts : (limit : ℕ) (c : List ℕ) (kind : FaultKind) → first_frame_under r limit c ≡ Err kind → texts_under r limit c ≡ []
+  pub first_frame_fault : (limit : ℕ) (c : List ℕ) (kind : FaultKind) → 0 < length c → first_frame_under r limit c ≡ Err kind → first_fault_under r limit c ≡ Some (record { kind = kind; offset = 0 })
+  pub first_frame_texts : (limit : ℕ) (c : List ℕ) (kind : FaultKind) → first_frame_under r limit c ≡ Err kind → texts_under r limit c ≡ []
   -- the frame at the offset of the first fault has that fault
   pub fault_there : (limit : ℕ) (c : List ℕ) (fault : CaptureFault) → first_fault_under r limit c ≡ Some fault → first_frame_under r limit (drop fault.offset c) ≡ Err fault.kind
   -- whole frames reach to a multiple of 4
@@ -187,13 +187,13 @@ pub record CapturesGoByFrames (r : Rule) : Type 0 where
   pub reach_legal : (limit : ℕ) (c more : List ℕ) → IsLegalUnder r limit (take (reach_under r limit c) (c ++ more))
   pub reach_texts : (limit : ℕ) (c more : List ℕ) → texts_under r limit (take (reach_under r limit c) (c ++ more)) ≡ texts_under r limit c
   -- the bytes after that offset are judged and written independently
-  pub rest_fault : (limit : ℕ) (c more : List ℕ) → first_fault_under r limit (c ++ more) ≡ raised (reach_under r limit c) (first_fault_under r limit (drop (reach_under r limit c) (c ++ more)))
+  pub rest_fault : (limit : ℕ) (c more : List ℕ) → first_fault_under r limit (c ++ more) ≡ shifted (reach_under r limit c) (first_fault_under r limit (drop (reach_under r limit c) (c ++ more)))
   pub rest_texts : (limit : ℕ) (c more : List ℕ) → texts_under r limit (c ++ more) ≡ texts_under r limit c ++ texts_under r limit (drop (reach_under r limit c) (c ++ more))
 
 -- The first frame is judged by its header, then by its body, then by the size of its text.
 pub record FramesAreJudged (r : Rule) : Type 0 where
-  pub header : (limit : ℕ) (c : List ℕ) (kind : FaultKind) → ((judged : Judged) → tested limit (length c) (frame_length c) judged ≡ Err kind) → first_frame_under r limit c ≡ Err kind
-  pub body : (limit : ℕ) (c : List ℕ) (kind : FaultKind) → IsFrame c → frame_length c ≤ limit → faulty (body_text_under r (frame_type c) (frame_body c)) ≡ Err kind → first_frame_under r limit c ≡ Err kind
+  pub header : (limit : ℕ) (c : List ℕ) (kind : FaultKind) → ((judged : Judged) → checked_header limit (length c) (frame_length c) judged ≡ Err kind) → first_frame_under r limit c ≡ Err kind
+  pub body : (limit : ℕ) (c : List ℕ) (kind : FaultKind) → IsFrame c → frame_length c ≤ limit → text_or_fault (body_text_under r (frame_type c) (frame_body c)) ≡ Err kind → first_frame_under r limit c ≡ Err kind
   pub over : (limit : ℕ) (c text : List ℕ) → IsFrame c → frame_length c ≤ limit → body_text_under r (frame_type c) (frame_body c) ≡ Ok text → limit < 16 + length text → first_frame_under r limit c ≡ Err TextOverLimit
   pub ok : (limit : ℕ) (c text : List ℕ) → IsFrame c → frame_length c ≤ limit → body_text_under r (frame_type c) (frame_body c) ≡ Ok text → 16 + length text ≤ limit → first_frame_under r limit c ≡ Ok (frame_length c, frame_text c text)
   -- the text of a frame is its header, the body's text, and padding
@@ -202,7 +202,7 @@ pub record FramesAreJudged (r : Rule) : Type 0 where
 -- Frames, attributes and texts of a capture are counted frame by frame.
 pub record CapturesAreCounted (r : Rule) : Type 0 where
   -- after an accepted frame and its padding, or at the end
-  pub next_fault : (limit start : ℕ) (c : List ℕ) (frame : ℕ × List ℕ) → first_frame_under r limit c ≡ Ok frame → raised start (first_fault_under r limit c) ≡ raised (start + nla_align frame.0) (first_fault_under r limit (drop (nla_align frame.0) c))
+  pub next_fault : (limit start : ℕ) (c : List ℕ) (frame : ℕ × List ℕ) → first_frame_under r limit c ≡ Ok frame → shifted start (first_fault_under r limit c) ≡ shifted (start + nla_align frame.0) (first_fault_under r limit (drop (nla_align frame.0) c))
   pub next_text : (limit : ℕ) (c : List ℕ) (frame : ℕ × List ℕ) → first_frame_under r limit c ≡ Ok frame → texts_under r limit c ≡ frame.1 ++ texts_under r limit (drop (nla_align frame.0) c)
   pub next_frames : (limit : ℕ) (c : List ℕ) (frame : ℕ × List ℕ) → first_frame_under r limit c ≡ Ok frame → frames_under r limit c ≡ 1 + frames_under r limit (drop (nla_align frame.0) c)
   pub next_attributes : (limit : ℕ) (c : List ℕ) (frame : ℕ × List ℕ) → first_frame_under r limit c ≡ Ok frame → attributes_under r limit c ≡ frame_attributes_under r c + attributes_under r limit (drop (nla_align frame.0) c)
@@ -218,11 +218,11 @@ pub record CapturesAreCounted (r : Rule) : Type 0 where
 -- Two captures have the same first n bytes, and the same bytes after the padding of these: they may differ in that
 -- padding, of which some may be missing at the end.
 pub record DifferInPadding (n : ℕ) (c d : List ℕ) : Type 0 where
-  pub front : take n c ≡ take n d
-  pub behind : drop (nla_align n) c ≡ drop (nla_align n) d
+  pub leading : take n c ≡ take n d
+  pub following : drop (nla_align n) c ≡ drop (nla_align n) d
 
 -- The padding after an accepted frame changes no result.
-pub record PaddingIsPassed (r : Rule) : Type 0 where
+pub record PaddingIsIgnored (r : Rule) : Type 0 where
   pub frame : (limit : ℕ) (c d : List ℕ) (frame : ℕ × List ℕ) → first_frame_under r limit c ≡ Ok frame → DifferInPadding frame.0 c d → first_frame_under r limit d ≡ Ok frame
   pub fault : (limit : ℕ) (c d : List ℕ) (frame : ℕ × List ℕ) → first_frame_under r limit c ≡ Ok frame → DifferInPadding frame.0 c d → first_fault_under r limit d ≡ first_fault_under r limit c
   pub texts : (limit : ℕ) (c d : List ℕ) (frame : ℕ × List ℕ) → first_frame_under r limit c ≡ Ok frame → DifferInPadding frame.0 c d → texts_under r limit d ≡ texts_under r limit c
@@ -240,21 +240,21 @@ pub record CaptureLaws (r : Rule) : Type 0 where
   pub faults_of_a_prefix_stay : PrefixFaults r
   pub texts_of_a_prefix_stay : PrefixTexts r
   pub texts_are_small : TextsAreSmall r
-  pub faults_stand_at_frames : FaultsStand r
+  pub faults_are_at_frames : FaultsAreAtFrames r
   pub bodies_are_normal : BodiesAreNormal r
   pub texts_mean_the_same : TextsMeanTheSame r
   pub same_captures_are_legal : SameAreLegal r
-  pub texts_tell_meanings : TextsTellMeanings r
-  pub same_bodies_have_one_text : BodiesTellMeanings r
+  pub texts_determine_meanings : TextsDetermineMeanings r
+  pub same_bodies_have_one_text : BodiesDetermineMeanings r
   pub texts_keep_frames : TextsKeepFrames r
-  pub frames_stand_alone : FramesStandAlone r
-  pub captures_go_by_frames : CapturesGoByFrames r
+  pub frames_are_independent : FramesAreIndependent r
+  pub captures_unfold_by_frames : CapturesUnfoldByFrames r
   pub frames_are_judged : FramesAreJudged r
   pub captures_are_counted : CapturesAreCounted r
-  pub padding_is_passed : PaddingIsPassed r
+  pub padding_is_ignored : PaddingIsIgnored r
   -- if the rule accepts no body without a header
-  pub sameness_goes_by_frames : WantsHeaders r → SamenessGoesByFrames r
+  pub sameness_unfolds_by_frames : NeedsHeaders r → SamenessUnfoldsByFrames r
 
 -- The laws of captures hold under every lawful rule of link bodies.
-abbrev pub CapturesStandUnderEveryRule : Type 0
-CapturesStandUnderEveryRule = (r : Rule) → Lawful r → CaptureLaws r
+abbrev pub CaptureLawsHoldUnderEveryRule : Type 0
+CaptureLawsHoldUnderEveryRule = (r : Rule) → Lawful r → CaptureLaws r

@@ -74,7 +74,7 @@ impl CaptureFault {
     /// Returns the text of the kind, ` at `, and the offset in decimal. Allocates nothing.
     pub fn text(self) -> ArrayString<96>
         ensures text { result.bytes ≡ fault_text self }
-        ensures room { length result.bytes < 96 }
+        ensures fits { length result.bytes < 96 }
     {
         let mut digits = Buffer::new();
         let mut text = ArrayString::new();

@@ -3,14 +3,14 @@
 #![tactic(auto, using(crate::proofs::EveryRule::laws))]
 
 ghost use Rattle.link_message_grammar.specs.Body.{link_body};
-ghost use Rattle.link_capture_grammar.specs.Laws.{CapturesStandUnderEveryRule};
+ghost use Rattle.link_capture_grammar.specs.Laws.{CaptureLawsHoldUnderEveryRule};
 ghost use Rattle.link_capture_grammar.specs.Laws.{TextsAreLegal, TextsAreNormal, JoinedFaults, JoinedLegal};
-ghost use Rattle.link_capture_grammar.specs.Laws.{JoinedTexts, PrefixFaults, PrefixTexts, TextsAreSmall, FaultsStand};
+ghost use Rattle.link_capture_grammar.specs.Laws.{JoinedTexts, PrefixFaults, PrefixTexts, TextsAreSmall, FaultsAreAtFrames};
 ghost use Rattle.link_capture_grammar.specs.Laws.{BodiesAreNormal, TextsMeanTheSame, SameAreLegal};
-ghost use Rattle.link_capture_grammar.specs.Laws.{FramesStandAlone, CapturesGoByFrames};
-ghost use Rattle.link_capture_grammar.specs.Laws.{FramesAreJudged, CapturesAreCounted, TextsKeepFrames, PaddingIsPassed};
-ghost use Rattle.link_capture_grammar.specs.Laws.{SmallFramesFit, UnlistedAttributesAreKept, OldCapturesAreRenewed};
-ghost use Rattle.link_capture_grammar.specs.Laws.{BodiesTellMeanings, TextsTellMeanings, SamenessGoesByFrames};
+ghost use Rattle.link_capture_grammar.specs.Laws.{FramesAreIndependent, CapturesUnfoldByFrames};
+ghost use Rattle.link_capture_grammar.specs.Laws.{FramesAreJudged, CapturesAreCounted, TextsKeepFrames, PaddingIsIgnored};
+ghost use Rattle.link_capture_grammar.specs.Laws.{SmallFramesFit, UnlistedAttributesAreKept, OldCapturesAreMigrated};
+ghost use Rattle.link_capture_grammar.specs.Laws.{BodiesDetermineMeanings, TextsDetermineMeanings, SamenessUnfoldsByFrames};
 
 /// The texts of any bytes are legal under the same limit.
 pub fn texts_are_legal()
@@ -57,8 +57,8 @@ pub fn texts_are_small()
 {}
 
 /// A first fault is inside the capture, at a multiple of 4, and is of a kind that a frame can have.
-pub fn faults_stand_at_frames()
-    ensures { FaultsStand link_body }
+pub fn faults_are_at_frames()
+    ensures { FaultsAreAtFrames link_body }
 {}
 
 /// The text of a body is already canonical.
@@ -70,8 +70,8 @@ pub fn bodies_are_normal()
 /// text under the old rule is legal under the rule in force, and the normal text of that is the
 /// normal text of the capture. The same holds for any two rules of link bodies of which one
 /// migrates the other.
-pub fn old_captures_are_renewed()
-    ensures { OldCapturesAreRenewed }
+pub fn old_captures_are_migrated()
+    ensures { OldCapturesAreMigrated }
 {}
 
 /// A legal capture and its normal text mean the same.
@@ -86,14 +86,14 @@ pub fn same_captures_are_legal()
 
 /// Captures mean the same if and only if they are legal and their normal texts are equal. So
 /// equivalence is reflexive on legal captures, symmetric and transitive.
-pub fn texts_tell_meanings()
-    ensures { TextsTellMeanings link_body }
+pub fn texts_determine_meanings()
+    ensures { TextsDetermineMeanings link_body }
 {}
 
 /// Two bodies of messages of one type that have texts mean the same if and only if these texts are
 /// equal.
 pub fn same_bodies_have_one_text()
-    ensures { BodiesTellMeanings link_body }
+    ensures { BodiesDetermineMeanings link_body }
 {}
 
 /// The text of a legal frame keeps its type, flags, sequence number and port number. It keeps its
@@ -120,14 +120,14 @@ pub fn unlisted_attributes_are_kept()
 /// The result for a frame depends only on the frame's bytes: if a frame isn't cut, appended bytes
 /// don't change its result; a cut frame has fewer bytes than a header, or than the length in its
 /// header.
-pub fn frames_stand_alone()
-    ensures { FramesStandAlone link_body }
+pub fn frames_are_independent()
+    ensures { FramesAreIndependent link_body }
 {}
 
 /// A capture is judged and written frame by frame: the bytes up to the end of the whole frames are
 /// legal and have these texts, whatever follows, and the bytes after them are judged independently.
-pub fn captures_go_by_frames()
-    ensures { CapturesGoByFrames link_body }
+pub fn captures_unfold_by_frames()
+    ensures { CapturesUnfoldByFrames link_body }
 {}
 
 /// The first frame is judged by its header, then by its body, then by the size of its text, which
@@ -145,22 +145,22 @@ pub fn captures_are_counted()
 /// The padding after an accepted frame changes no result: whatever its bytes are, and if some is
 /// missing at the end, the frame is the same, and so are the first fault, the texts, and the
 /// numbers of frames and attributes.
-pub fn padding_is_passed()
-    ensures { PaddingIsPassed link_body }
+pub fn padding_is_ignored()
+    ensures { PaddingIsIgnored link_body }
 {}
 
 /// Equivalence of captures is decided frame by frame: two captures that aren't empty mean the same
 /// if and only if their first frames are legal and mean the same, and the bytes after these mean
 /// the same; an empty capture means the same as an empty one only. Two frames with equal bytes mean
 /// the same if one is legal.
-pub fn sameness_goes_by_frames()
-    ensures { SamenessGoesByFrames link_body }
+pub fn sameness_unfolds_by_frames()
+    ensures { SamenessUnfoldsByFrames link_body }
 {}
 
-/// All these laws hold under every lawful rule of link bodies. `sameness_goes_by_frames` also needs
+/// All these laws hold under every lawful rule of link bodies. `sameness_unfolds_by_frames` also needs
 /// a rule that accepts nothing without a header; the laws of unlisted attributes and small frames
 /// are about tables, and hold under every lawful rule of peers; the law of old captures is about
 /// two rules.
-pub fn captures_stand_under_every_rule()
-    ensures { CapturesStandUnderEveryRule }
+pub fn capture_laws_hold_under_every_rule()
+    ensures { CaptureLawsHoldUnderEveryRule }
 {}

@@ -9,7 +9,7 @@ use Rattle.link_message.specs.LinkMessages.{link_message_text, link_message_fits
 use Rattle.link_message.specs.contracts.message.LinkMessageEq.TheImpl.Laws.{laws-law}
 use Rattle.link_message.proofs.Messages.{messages_injective}
 use Rattle.link_capture_messages.specs.KeptTypes.{IsKeptType}
-use Rattle.link_capture_messages.specs.Readable.{IsReadFrom, IsReadable, equal_messages, says_the_same}
+use Rattle.link_capture_messages.specs.Readable.{IsReadFrom, IsReadable, equal_messages, is_read_back_as}
 use Rattle.link_capture_messages.specs.RoundTrips.{round_trip}
 use Rattle.link_capture_messages.specs.Routes.{route_entry}
 use Rattle.netlink_packet_core.specs.TypedBodies.{TypedBody}
@@ -18,7 +18,7 @@ use Rattle.link_capture_messages.specs.declared.route.RouteLink.{RouteLink}
 use Rattle.link_capture_messages.specs.contracts.route.RouteLinkPartialEq.TheImpl as route_equality
 use Rattle.link_capture_messages.proofs.Exact.{one_message, differ}
 
-equal_of : (m n : LinkMessage) → says_the_same m n ≡ true → equal_messages n m ≡ true
+equal_of : (m n : LinkMessage) → is_read_back_as m n ≡ true → equal_messages n m ≡ true
 equal_of m n h = (and_parts (equal_messages n m) (link_message_fits n && bytes_eq (link_message_text n) (link_message_text m)) h).0
 
 stable : (b : Bool) → (b ≡ false → ⊥) → b ≡ true
@@ -26,9 +26,9 @@ stable true h = refl
 stable false h = absurd (h refl)
 
 -- two readable messages with the same text are equal
-pub one_text : (m k : LinkMessage) → IsReadable m → IsReadable k → link_message_text m ≡ link_message_text k → equal_messages m k ≡ true
-one_text m k p q e =
-    stable (equal_messages m k) (λ f. not_there p.again (λ x. not_there q.again (λ y.
+pub equal_texts_mean_equal : (m k : LinkMessage) → IsReadable m → IsReadable k → link_message_text m ≡ link_message_text k → equal_messages m k ≡ true
+equal_texts_mean_equal m k p q e =
+    stable (equal_messages m k) (λ f. not_there p.read_back (λ x. not_there q.read_back (λ y.
     let between = one_message messages_injective (link_message_text m) x.0 y.0 x.1 (subst (λ t. IsReadFrom t y.0) (sym e) y.1) in
     differ _ (sym (laws-law.congr x.0 m k (equal_of m x.0 x.2)) ∙ laws-law.congr x.0 y.0 k between ∙ equal_of k y.0 y.2) f)))
 
@@ -52,10 +52,10 @@ not_kept t n k e l u = let h = k.no_link in omega (arith, h (omega (arith, e, l)
 
 by_variant : (x y : RouteLink) → number x ≡ number y → route_entry x ≡ route_entry y → (route_equality.ghosts).eq x y ≡ true
 unfolding number
-by_variant (RouteLink.NewLink x) (RouteLink.NewLink y) i e = one_text x.message y.message x.readable y.readable (ap (λ (z : ℕ × List ℕ). z.1) e)
-by_variant (RouteLink.DelLink x) (RouteLink.DelLink y) i e = one_text x.message y.message x.readable y.readable (ap (λ (z : ℕ × List ℕ). z.1) e)
-by_variant (RouteLink.GetLink x) (RouteLink.GetLink y) i e = one_text x.message y.message x.readable y.readable (ap (λ (z : ℕ × List ℕ). z.1) e)
-by_variant (RouteLink.SetLink x) (RouteLink.SetLink y) i e = one_text x.message y.message x.readable y.readable (ap (λ (z : ℕ × List ℕ). z.1) e)
+by_variant (RouteLink.NewLink x) (RouteLink.NewLink y) i e = equal_texts_mean_equal x.message y.message x.readable y.readable (ap (λ (z : ℕ × List ℕ). z.1) e)
+by_variant (RouteLink.DelLink x) (RouteLink.DelLink y) i e = equal_texts_mean_equal x.message y.message x.readable y.readable (ap (λ (z : ℕ × List ℕ). z.1) e)
+by_variant (RouteLink.GetLink x) (RouteLink.GetLink y) i e = equal_texts_mean_equal x.message y.message x.readable y.readable (ap (λ (z : ℕ × List ℕ). z.1) e)
+by_variant (RouteLink.SetLink x) (RouteLink.SetLink y) i e = equal_texts_mean_equal x.message y.message x.readable y.readable (ap (λ (z : ℕ × List ℕ). z.1) e)
 by_variant (RouteLink.Other x) (RouteLink.Other y) i e = and_from _ _ (eq-eqb x.message_type y.message_type i) ((bytes_decides x.bytes y.bytes).1 (ap (λ (z : ℕ × List ℕ). z.1) e))
 by_variant (RouteLink.Other x) (RouteLink.NewLink y) i e = absurd (not_kept _ 16 x.kept i (omega arith) (omega arith))
 by_variant (RouteLink.Other x) (RouteLink.DelLink y) i e = absurd (not_kept _ 17 x.kept i (omega arith) (omega arith))

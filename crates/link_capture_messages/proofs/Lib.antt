@@ -1,4 +1,4 @@
-pub mod ReadAgain
+pub mod ReadBack
 pub mod Others
 pub mod WrittenBodies
 pub mod Exact

@@ -12,7 +12,7 @@ pub record IsReadFrom (bytes : List ℕ) (m : LinkMessage) : Type 0 where
   pub accepted : link_body.accepted bytes ≡ true
   pub family : m.header.interface_family ≡ address_family_of (slice_index bytes 0)
   pub text : link_message_text m ≡ link_body.canonical bytes
-  pub names_row : link_message_names_row m
+  pub is_row_variant : link_message_names_row m
   pub fits : link_message_fits m ≡ link_body.fits bytes
 
 -- Two messages are equal by `==`. Equal vectors may be at different addresses, so to the prover they aren't one value.
@@ -20,19 +20,19 @@ abbrev pub equal_messages : LinkMessage → LinkMessage → Bool
 equal_messages = (link_message_eq.ghosts).eq
 
 -- The message n is equal to m, fits, and is written as the same bytes.
-abbrev pub says_the_same : LinkMessage → LinkMessage → Bool
-says_the_same m n = equal_messages n m && (link_message_fits n && bytes_eq (link_message_text n) (link_message_text m))
+abbrev pub is_read_back_as : LinkMessage → LinkMessage → Bool
+is_read_back_as m n = equal_messages n m && (link_message_fits n && bytes_eq (link_message_text n) (link_message_text m))
 
 -- The message fits, and the bytes that it is written as are legal, and are read as an equal message that is written as
 -- the same bytes.
 pub record IsReadable (m : LinkMessage) : Type 0 where
   pub fits : link_message_fits m ≡ true
   pub text : ruled_text link_body (link_message_text m) ≡ Ok (link_message_text m)
-  pub again : ∥ ((n : LinkMessage) × IsReadFrom (link_message_text m) n × (says_the_same m n ≡ true)) ∥₁
+  pub read_back : ∥ ((n : LinkMessage) × IsReadFrom (link_message_text m) n × (is_read_back_as m n ≡ true)) ∥₁
 
 -- The bytes that a message is written as are refused, have ports that keep no entry, or are read as another message.
 abbrev pub ReadsAsAnother : LinkMessage → Type 0
 ReadsAsAnother m =
     (link_body.accepted (link_message_text m) ≡ false)
     ⊎ (link_body.empty_ports (link_message_text m) ≡ true)
-    ⊎ ((n : LinkMessage) × IsReadFrom (link_message_text m) n × (says_the_same m n ≡ false))
+    ⊎ ((n : LinkMessage) × IsReadFrom (link_message_text m) n × (is_read_back_as m n ≡ false))

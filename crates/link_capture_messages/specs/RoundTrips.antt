@@ -7,7 +7,7 @@ use Rattle.netlink_packet_core.specs.TypedBodies.{IsInner}
 use Rattle.link_capture_grammar.specs.Bodies.{is_link_type, body_text, body_text_under}
 use Rattle.link_capture_messages.specs.declared.route.RouteLink.{RouteLink}
 use Rattle.link_capture_messages.specs.KeptTypes.{IsKeptType}
-use Rattle.link_capture_messages.specs.Routes.{route_entry, route_may_want_memory, typed_text, reads_route}
+use Rattle.link_capture_messages.specs.Routes.{route_entry, route_may_run_out_of_memory, typed_text, reads_route}
 
 -- The type of a message whose body is kept, as the tests of `body_text_under` see it.
 record NotListed (t : ℕ) : Type 0 where
@@ -34,8 +34,8 @@ with_bytes true b h = refl
 with_bytes false b h = h
 
 -- Reading a message of another type may run out of memory if its body has bytes.
-pub other_wants : (t : ℕ) (b : List ℕ) → IsKeptType t → 0 < length b → route_may_want_memory t b ≡ true
-other_wants t b k l = and_from (is_ok (body_text t b)) _ (ap is_ok (other_text t b k)) (with_bytes (is_link_type t) (nat_lt 0 (length b)) (lt-ltb 0 (length b) l))
+pub other_needs_memory : (t : ℕ) (b : List ℕ) → IsKeptType t → 0 < length b → route_may_run_out_of_memory t b ≡ true
+other_needs_memory t b k l = and_from (is_ok (body_text t b)) _ (ap is_ok (other_text t b k)) (with_bytes (is_link_type t) (nat_lt 0 (length b)) (lt-ltb 0 (length b) l))
 
 -- A message is read from its type and body.
 pub round_trip : (x : RouteLink) → reads_route (route_entry x).0 (route_entry x).1 ≡ Some (route_entry x)

@@ -7,24 +7,24 @@ use Rattle.link_capture_messages.specs.declared.route.RouteLink.{RouteLink}
 use Rattle.link_capture_messages.specs.Views.{other_type, other_bytes, readable_text}
 
 -- The error, unless it is out of memory, is the reason why the body has no text.
-abbrev pub TellsOf : RouteFault → Result (List ℕ) Refusal → Type 0
-TellsOf RouteFault.Refused outcome = outcome ≡ Err refused
-TellsOf RouteFault.EmptyPorts outcome = outcome ≡ Err empty_ports
-TellsOf RouteFault.Unfit outcome = outcome ≡ Err unfit
-TellsOf RouteFault.Memory outcome = Unit {0}
+abbrev pub ReasonOf : RouteFault → Result (List ℕ) Refusal → Type 0
+ReasonOf RouteFault.Refused outcome = outcome ≡ Err refused
+ReasonOf RouteFault.EmptyPorts outcome = outcome ≡ Err empty_ports
+ReasonOf RouteFault.Unfit outcome = outcome ≡ Err unfit
+ReasonOf RouteFault.Memory outcome = Unit {0}
 
 -- The error, unless it is out of memory, is the reason why the body of type t has no text.
-abbrev pub route_tells : RouteFault → ℕ → List ℕ → Type 0
-route_tells fault t b = TellsOf fault (body_text t b)
+abbrev pub route_reason : RouteFault → ℕ → List ℕ → Type 0
+route_reason fault t b = ReasonOf fault (body_text t b)
 
 -- The error is out of memory.
-abbrev pub route_wants_memory : RouteFault → Bool
-route_wants_memory RouteFault.Memory = true
-route_wants_memory _ = false
+abbrev pub route_ran_out_of_memory : RouteFault → Bool
+route_ran_out_of_memory RouteFault.Memory = true
+route_ran_out_of_memory _ = false
 
 -- Reading a body of type t may run out of memory: it has a text, and is a link's or has bytes.
-abbrev pub route_may_want_memory : ℕ → List ℕ → Bool
-route_may_want_memory t b = is_ok (body_text t b) && (is_link_type t || nat_lt 0 (length b))
+abbrev pub route_may_run_out_of_memory : ℕ → List ℕ → Bool
+route_may_run_out_of_memory t b = is_ok (body_text t b) && (is_link_type t || nat_lt 0 (length b))
 
 -- The type of a message, and the bytes of its body.
 abbrev pub route_entry : RouteLink → TypedBody

@@ -10,7 +10,7 @@ use Rattle.link_capture_messages.specs.Routes.{route_entry, reads_route}
 
 -- The first frame is accepted, n is its length, and m is its message: m is what the core reads from the bytes, and once
 -- m is finalized, it is written as the frame's text without its padding.
-pub record GivesMessage (limit : ℕ) (c : List ℕ) (n : ℕ) (m : NetlinkMessage RouteLink) : Type 0 where
+pub record IsFirstMessage (limit : ℕ) (c : List ℕ) (n : ℕ) (m : NetlinkMessage RouteLink) : Type 0 where
   pub body : List ℕ
   pub judged : body_text (frame_type c) (frame_body c) ≡ Ok body
   pub is : first_frame limit c ≡ Ok (n, frame_text c body)

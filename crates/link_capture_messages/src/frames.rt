@@ -2,10 +2,10 @@
 
 ghost use Rattle.std.specs.Prelude.{◌≡◌, ◌≢◌, ◌≤◌, ℕ, List, length, true, IfOk, IfErr, Ok, Err};
 ghost use Rattle.netlink_packet_core.specs.Frames.{frame_type, frame_body};
-ghost use Rattle.netlink_packet_core.specs.Payloads.{payload_may_want_memory};
+ghost use Rattle.netlink_packet_core.specs.Payloads.{payload_may_allocate};
 ghost use Rattle.link_capture_grammar.specs.Captures.{first_frame};
-ghost use Rattle.link_capture_messages.specs.Routes.{route_may_want_memory};
-ghost use Rattle.link_capture_messages.specs.Texts.{GivesMessage};
+ghost use Rattle.link_capture_messages.specs.Routes.{route_may_run_out_of_memory};
+ghost use Rattle.link_capture_messages.specs.Texts.{IsFirstMessage};
 
 use super::route::RouteLink;
 use link_capture_checks::measure_frame;
@@ -27,7 +27,7 @@ pub fn read_message(
     bytes: &[u8],
     limit: u32,
 ) -> Result<(usize, NetlinkMessage<RouteLink>), FaultKind>
-    ensures message { IfOk result (λ frame. GivesMessage limit bytes.now frame.0 frame.1) }
+    ensures message { IfOk result (λ frame. IsFirstMessage limit bytes.now frame.0 frame.1) }
     ensures bounds { IfOk result
         (λ frame. (16 ≤ frame.0) × (frame.0 ≤ limit) × (frame.0 ≤ length bytes.now)) }
     ensures refused { IfErr result
@@ -35,7 +35,7 @@ pub fn read_message(
     ensures memory { IfErr result (λ kind. kind ≡ FaultKind.Memory
         → (n : ℕ) × (text : List ℕ) × (first_frame limit bytes.now ≡ Ok (n, text))) }
     ensures kept { IfErr result (λ kind. kind ≡ FaultKind.Memory
-        → payload_may_want_memory route_may_want_memory (frame_type bytes.now)
+        → payload_may_allocate route_may_run_out_of_memory (frame_type bytes.now)
         (frame_body bytes.now) ≡ true) }
 {
     let frame = measure_frame(bytes, limit)?;
@@ -50,12 +50,12 @@ pub fn read_message(
 
 /// Reads the first frame as `read_message` does; its contract leaves out which frames need memory,
 /// since an iterator over a capture doesn't use that.
-pub(super) fn read_front(
+pub(super) fn read_first_message(
     alloc: Global,
     bytes: &[u8],
     limit: u32,
 ) -> Result<(usize, NetlinkMessage<RouteLink>), FaultKind>
-    ensures message { IfOk result (λ frame. GivesMessage limit bytes.now frame.0 frame.1) }
+    ensures message { IfOk result (λ frame. IsFirstMessage limit bytes.now frame.0 frame.1) }
     ensures bounds { IfOk result
         (λ frame. (16 ≤ frame.0) × (frame.0 ≤ limit) × (frame.0 ≤ length bytes.now)) }
     ensures refused { IfErr result

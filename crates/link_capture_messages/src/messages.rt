@@ -2,12 +2,12 @@
 
 ghost use Rattle.std.specs.Prelude.{◌≡◌, ◌≤◌, ◌+◌, ◌-◌, length};
 ghost use Rattle.std.specs.Iterator.{at_most};
-ghost use Rattle.link_capture_messages.specs.Messages.{MessagesLeft, AreLeft, IsNext};
+ghost use Rattle.link_capture_messages.specs.Messages.{MessagesLeft, AreLeftOut, IsNext};
 
-use super::frames::read_front;
+use super::frames::read_first_message;
 use super::route::RouteLink;
 use link_capture_grammar::fault::CaptureFault;
-use link_capture_grammar::laws::{captures_are_counted, captures_go_by_frames};
+use link_capture_grammar::laws::{captures_are_counted, captures_unfold_by_frames};
 use netlink_packet_core::{NetlinkMessage, nla_align};
 use std::alloc::Global;
 use std::marker::Model;
@@ -19,18 +19,18 @@ pub struct Messages<'a> {
     alloc: Global,
     limit: u32,
     bytes: &'a [u8],
-    place: usize,
+    offset: usize,
 }
 
 impl<'a> Model for Messages<'a> {
     ghost Value = { MessagesLeft };
 
-    ghost view = { λ m. record { limit = m.limit; capture = m.bytes.now; place = m.place } };
+    ghost view = { λ m. record { limit = m.limit; capture = m.bytes.now; offset = m.offset } };
 
-    ghost invariant = { λ m. AreLeft (record {
+    ghost invariant = { λ m. AreLeftOut (record {
       limit = m.limit;
       capture = m.bytes.now;
-      place = m.place;
+      offset = m.offset;
     }) };
 }
 
@@ -40,23 +40,23 @@ impl<'a> Messages<'a> {
     pub fn new(alloc: Global, bytes: &'a [u8], limit: u32) -> Self
         ensures limit { result.limit ≡ limit }
         ensures capture { result.capture ≡ bytes.now }
-        ensures place { result.place ≡ 0 }
+        ensures offset { result.offset ≡ 0 }
     {
         Messages {
             alloc,
             limit,
             bytes,
-            place: 0,
+            offset: 0,
         }
     }
 
     /// Returns the offset of the next message in bytes from the capture's start. After the last
     /// message it is the capture's size, or up to 3 bytes more; after a fault it is 0.
-    pub fn place(&self) -> usize
-        ensures place { result ≡ self.now.place }
+    pub fn offset(&self) -> usize
+        ensures offset { result ≡ self.now.offset }
         ensures near { result ≤ length self.now.capture + 3 }
     {
-        self.place
+        self.offset
     }
 }
 
@@ -65,23 +65,23 @@ impl<'a> Iterator for Messages<'a> {
 
     ghost next_gives = { IsNext };
 
-    ghost remaining = { λ s. at_most (length s.capture - s.place) };
+    ghost remaining = { λ s. at_most (length s.capture - s.offset) };
 
     fn next(&mut self) -> Option<Result<NetlinkMessage<RouteLink>, CaptureFault>> {
         captures_are_counted();
-        captures_go_by_frames();
-        if self.place >= self.bytes.len() {
+        captures_unfold_by_frames();
+        if self.offset >= self.bytes.len() {
             return None;
         }
-        match read_front(self.alloc, &self.bytes[self.place..], self.limit) {
+        match read_first_message(self.alloc, &self.bytes[self.offset..], self.limit) {
             Ok((len, message)) => {
-                self.place += nla_align(len);
+                self.offset += nla_align(len);
                 Some(Ok(message))
             }
             Err(kind) => {
-                let offset = self.place as u64;
+                let offset = self.offset as u64;
                 self.bytes = &[];
-                self.place = 0;
+                self.offset = 0;
                 Some(Err(CaptureFault { kind, offset }))
             }
         }

@@ -4,9 +4,9 @@ ghost use Rattle.std.specs.Prelude.{◌≡◌, ◌≢◌, ◌↔◌, Ok, true, f
 ghost use Rattle.link_capture_grammar.specs.Bodies.{ruled_text};
 ghost use Rattle.link_message_grammar.specs.Body.{link_body};
 ghost use Rattle.link_message.specs.LinkMessages.{link_message_text, link_message_fits};
-ghost use Rattle.link_capture_messages.specs.Readable.{IsReadFrom, IsReadable, ReadsAsAnother, says_the_same};
+ghost use Rattle.link_capture_messages.specs.Readable.{IsReadFrom, IsReadable, ReadsAsAnother, is_read_back_as};
 ghost use Rattle.link_capture_messages.specs.Views.{readable_message, readable_text};
-ghost use Rattle.link_capture_messages.specs.Routes.{TellsOf};
+ghost use Rattle.link_capture_messages.specs.Routes.{ReasonOf};
 
 use super::fault::RouteFault;
 use super::types::ReadableLink;
@@ -64,12 +64,12 @@ impl ReadableLink {
     }
 
     /// Reads the body of a link message.
-    #[tactic(auto, using(crate::proofs::ReadAgain::readable))]
+    #[tactic(auto, using(crate::proofs::ReadBack::readable))]
     pub(crate) fn read(alloc: Global, bytes: &[u8]) -> Result<ReadableLink, RouteFault>
         ensures ok { IfOk result (λ r. ruled_text link_body bytes.now ≡ Ok (readable_text r)) }
         ensures message { IfOk result (λ r. IsReadFrom bytes.now (readable_message r)) }
         ensures err { IfErr result (λ fault. fault ≢ RouteFault.Memory
-            → TellsOf fault (ruled_text link_body bytes.now)) }
+            → ReasonOf fault (ruled_text link_body bytes.now)) }
         ensures memory { IfErr result (λ fault. fault ≡ RouteFault.Memory
             → is_ok (ruled_text link_body bytes.now) ≡ true) }
     {
@@ -108,7 +108,7 @@ impl ReadableLink {
 // Returns the reason why `LinkMessage::parse` returned no message for a body: it has no text, or an
 // allocation failed.
 fn fault_of_unread(bytes: &[u8]) -> RouteFault
-    ensures tells { TellsOf result (ruled_text link_body bytes.now) }
+    ensures reason { ReasonOf result (ruled_text link_body bytes.now) }
     ensures memory { result ≡ RouteFault.Memory → is_ok (ruled_text link_body bytes.now) ≡ true }
 {
     match check(bytes) {
@@ -138,24 +138,24 @@ fn write_message(alloc: Global, message: &LinkMessage) -> Result<Vec<u8>, NotRea
 
 /// Returns whether the second message is equal to the first one, which is written as `text`, and is
 /// written as the same bytes.
-fn says_the_same(
+fn is_read_back_as(
     alloc: Global,
     text: &[u8],
     message: &LinkMessage,
-    again: &LinkMessage,
+    read_back: &LinkMessage,
 ) -> Result<bool, NotReadable>
     requires { text.now ≡ link_message_text message.now }
-    ensures ok { IfOk result (λ same. same ≡ says_the_same message.now again.now) }
+    ensures ok { IfOk result (λ same. same ≡ is_read_back_as message.now read_back.now) }
     ensures err { IfErr result (λ why. why ≡ NotReadable.Memory) }
 {
-    if again != message || !again.fits() {
+    if read_back != message || !read_back.fits() {
         return Ok(false);
     }
-    Ok(write_message(alloc, again)?.as_slice() == text)
+    Ok(write_message(alloc, read_back)?.as_slice() == text)
 }
 
 /// Returns Ok if a message is read back equal from the bytes that it is written as.
-#[tactic(auto, using(crate::proofs::ReadAgain::reads_back))]
+#[tactic(auto, using(crate::proofs::ReadBack::reads_back))]
 fn reads_back(alloc: Global, message: &LinkMessage) -> Result<(), NotReadable>
     ensures ok { OnOk result (IsReadable message.now) }
     ensures unfit { IfErr result
@@ -167,15 +167,15 @@ fn reads_back(alloc: Global, message: &LinkMessage) -> Result<(), NotReadable>
         return Err(NotReadable::Unfit);
     }
     let text = write_message(alloc, message)?;
-    let again = match LinkMessage::parse(alloc, text.as_slice()) {
-        Ok(again) => again,
+    let read_back = match LinkMessage::parse(alloc, text.as_slice()) {
+        Ok(read_back) => read_back,
         Err(error) if error.is_memory() => return Err(NotReadable::Memory),
         Err(_) => return Err(NotReadable::ReadsOtherwise),
     };
-    if again.has_empty_ports() {
+    if read_back.has_empty_ports() {
         return Err(NotReadable::ReadsOtherwise);
     }
-    if !says_the_same(alloc, text.as_slice(), message, &again)? {
+    if !is_read_back_as(alloc, text.as_slice(), message, &read_back)? {
         return Err(NotReadable::ReadsOtherwise);
     }
     Ok(())

@@ -2,7 +2,7 @@
 
 ghost use Rattle.std.specs.Prelude.{⊤};
 ghost use Rattle.netlink_packet_core.specs.TypedBodies.{TypedBody};
-ghost use Rattle.link_capture_messages.specs.Routes.{route_entry, reads_route, route_may_want_memory, route_tells, route_wants_memory};
+ghost use Rattle.link_capture_messages.specs.Routes.{route_entry, reads_route, route_may_run_out_of_memory, route_reason, route_ran_out_of_memory};
 ghost use Rattle.link_capture_messages.specs.RoundTrips.{round_trip, route_inner};
 
 use super::fault::RouteFault;
@@ -70,11 +70,11 @@ impl NetlinkDeserializable for RouteLink {
 
     ghost reads = { reads_route };
 
-    ghost is_memory = { route_wants_memory };
+    ghost is_memory = { route_ran_out_of_memory };
 
-    ghost may_want_memory = { route_may_want_memory };
+    ghost may_allocate = { route_may_run_out_of_memory };
 
-    ghost tells = { route_tells };
+    ghost determines = { route_reason };
 
     #[tactic(auto, using(crate::proofs::Others::others), unfolding(link_capture_grammar::specs::Bodies::body_text_under))]
     fn deserialize(
@@ -100,5 +100,5 @@ impl NetlinkProtocol for RouteLink {
 
     ghost inner = { route_inner };
 
-    ghost one_text = { λ x y e. e };
+    ghost same_implies_equal_text = { λ x y e. e };
 }

@@ -7,23 +7,23 @@ use Rattle.netlink_packet_core_grammar.specs.Attributes.{nla_align}
 use Rattle.netlink_packet_core_grammar.specs.Frames.{frame_length}
 use Rattle.link_message_grammar.specs.Body.{link_body}
 use Rattle.link_capture_grammar.specs.declared.fault.FaultKind.{FaultKind}
-use Rattle.link_capture_grammar.specs.Captures.{Accepted, raised, first_frame, first_fault, texts}
-use Rattle.link_capture_numbers.specs.Cleared.{is_frame, front_cleared, cleared_after, numbers_cleared}
+use Rattle.link_capture_grammar.specs.Captures.{Accepted, shifted, first_frame, first_fault, texts}
+use Rattle.link_capture_numbers.specs.Cleared.{is_frame, first_frame_cleared, cleared_after, numbers_cleared}
 use Rattle.link_capture_numbers.specs.Laws.{ClearedCapturesHaveClearedTexts}
 use Rattle.link_capture_numbers.proofs.Steps.{length_of, whole, stopped}
-use Rattle.link_capture_numbers.proofs.Zeros.{front}
-use Rattle.link_capture_numbers.proofs.Fronts.{shape}
+use Rattle.link_capture_numbers.proofs.Zeros.{cleared_first}
+use Rattle.link_capture_numbers.proofs.FirstFrames.{shape}
 use Rattle.link_capture_numbers.proofs.Judged.{judged, judged_cleared}
-use Rattle.link_capture_numbers.proofs.ClearedTexts.{front_of_text}
+use Rattle.link_capture_numbers.proofs.ClearedTexts.{first_frame_of_text}
 use Rattle.link_capture_grammar.proofs.Frames.{accepted, by_frames, fault_step, fault_stop, texts_step, texts_stop}
 
 -- the bytes after the start of a cleared capture
-behind_by : (c : List ℕ) (n : ℕ) (f rest : List ℕ) (b : Bool) → length f ≡ length c → nat_lt (length c) n ≡ b → (drop n c ≡ [] → rest ≡ []) → drop n (take n f ++ rest) ≡ rest
-behind_by c n f rest false e l h =
+after_by : (c : List ℕ) (n : ℕ) (f rest : List ℕ) (b : Bool) → length f ≡ length c → nat_lt (length c) n ≡ b → (drop n c ≡ [] → rest ≡ []) → drop n (take n f ++ rest) ≡ rest
+after_by c n f rest false e l h =
     let k = ltb-false (length c) n l in
     let size : length (take n f) ≡ n = length-take-le n f (omega (arith, k, e)) in
     drop_at (take n f) rest n size
-behind_by c n f rest true e l h =
+after_by c n f rest true e l h =
     let k = ltb-true (length c) n l in
     let none : rest ≡ [] = h (drop_all n c (omega (arith, k))) in
     let size = length-take n f in
@@ -34,12 +34,12 @@ unfolding numbers_cleared cleared_after
 nothing c e = subst (λ z. numbers_cleared z ≡ []) (sym e) refl
 
 -- the bytes after the first frame of a cleared capture
-pub behind : (c : List ℕ) → is_frame c ≡ true → drop (nla_align (frame_length c)) (numbers_cleared c) ≡ numbers_cleared (drop (nla_align (frame_length c)) c)
-behind c f =
+pub following : (c : List ℕ) → is_frame c ≡ true → drop (nla_align (frame_length c)) (numbers_cleared c) ≡ numbers_cleared (drop (nla_align (frame_length c)) c)
+following c f =
     let n = nla_align (frame_length c) in
     let bounds = length_of c f in
     ap (drop n) (whole c f)
-    ∙ behind_by c n (front_cleared c) (numbers_cleared (drop n c)) (nat_lt (length c) n) (front c bounds.0 bounds.1).size refl (nothing (drop n c))
+    ∙ after_by c n (first_frame_cleared c) (numbers_cleared (drop n c)) (nat_lt (length c) n) (cleared_first c bounds.0 bounds.1).size refl (nothing (drop n c))
 
 -- an accepted frame is whole
 frame_is : (limit : ℕ) (c : List ℕ) (frame : ℕ × List ℕ) → Accepted limit c frame → is_frame c ≡ true
@@ -57,7 +57,7 @@ module _ (limit : ℕ) (small : limit < 2 ^ 32) where
   first_cleared c f =
       let bounds = length_of c f in
       let more = numbers_cleared (drop (nla_align (frame_length c)) c) in
-      let d = take (nla_align (frame_length c)) (front_cleared c) ++ more in
+      let d = take (nla_align (frame_length c)) (first_frame_cleared c) ++ more in
       ap (first_frame limit) (whole c f) ∙ judged limit small c d bounds.0 bounds.1 (shape c more bounds.0 bounds.1)
 
   -- its first fault is that of the capture, and its texts are cleared
@@ -69,16 +69,16 @@ module _ (limit : ℕ) (small : limit < 2 ^ 32) where
       let a = accepted link_body limit c frame h in
       let f = frame_is limit c frame a in
       let n = nla_align frame.0 in
-      let own : first_frame limit (numbers_cleared c) ≡ Ok (frame.0, front_cleared frame.1) = first_cleared c f ∙ ap judged_cleared h in
-      let rest : drop n (numbers_cleared c) ≡ numbers_cleared (drop n c) = subst (λ m. drop (nla_align m) (numbers_cleared c) ≡ numbers_cleared (drop (nla_align m) c)) a.is (behind c f) in (
-        fault_step link_body limit (numbers_cleared c) (frame.0, front_cleared frame.1) own
-            ∙ ap (λ z. raised n (first_fault limit z)) rest
-            ∙ ap (raised n) more.0
+      let cleared_result : first_frame limit (numbers_cleared c) ≡ Ok (frame.0, first_frame_cleared frame.1) = first_cleared c f ∙ ap judged_cleared h in
+      let rest : drop n (numbers_cleared c) ≡ numbers_cleared (drop n c) = subst (λ m. drop (nla_align m) (numbers_cleared c) ≡ numbers_cleared (drop (nla_align m) c)) a.is (following c f) in (
+        fault_step link_body limit (numbers_cleared c) (frame.0, first_frame_cleared frame.1) cleared_result
+            ∙ ap (λ z. shifted n (first_fault limit z)) rest
+            ∙ ap (shifted n) more.0
             ∙ sym (fault_step link_body limit c frame h),
-        texts_step link_body limit (numbers_cleared c) (frame.0, front_cleared frame.1) own
-            ∙ ap (λ z. front_cleared frame.1 ++ texts limit z) rest
-            ∙ ap (λ z. front_cleared frame.1 ++ z) more.1
-            ∙ sym (front_of_text limit small c frame h (texts limit (drop n c)))
+        texts_step link_body limit (numbers_cleared c) (frame.0, first_frame_cleared frame.1) cleared_result
+            ∙ ap (λ z. first_frame_cleared frame.1 ++ texts limit z) rest
+            ∙ ap (λ z. first_frame_cleared frame.1 ++ z) more.1
+            ∙ sym (first_frame_of_text limit small c frame h (texts limit (drop n c)))
             ∙ sym (ap numbers_cleared (texts_step link_body limit c frame h)),
       )
 
@@ -92,10 +92,10 @@ module _ (limit : ℕ) (small : limit < 2 ^ 32) where
       by false f = (ap (first_fault limit) (stopped c f), ap (texts limit) (stopped c f) ∙ texts_stop link_body limit c kind h ∙ sym no_text)
       by true f =
           let bounds = length_of c f in
-          let own : first_frame limit (numbers_cleared c) ≡ Err kind = first_cleared c f ∙ ap judged_cleared h in
+          let cleared_result : first_frame limit (numbers_cleared c) ≡ Err kind = first_cleared c f ∙ ap judged_cleared h in
           let long = (shape c (numbers_cleared (drop (nla_align (frame_length c)) c)) bounds.0 bounds.1).long in (
-            fault_stop link_body limit (numbers_cleared c) kind (omega (arith, ap length (whole c f), long, bounds.0)) own ∙ sym (fault_stop link_body limit c kind (omega (arith, bounds.0, bounds.1)) h),
-            texts_stop link_body limit (numbers_cleared c) kind own ∙ sym no_text,
+            fault_stop link_body limit (numbers_cleared c) kind (omega (arith, ap length (whole c f), long, bounds.0)) cleared_result ∙ sym (fault_stop link_body limit c kind (omega (arith, bounds.0, bounds.1)) h),
+            texts_stop link_body limit (numbers_cleared c) kind cleared_result ∙ sym no_text,
           )
 
   all_cleared : (c : List ℕ) → IsCleared c

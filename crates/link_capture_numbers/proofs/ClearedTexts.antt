@@ -7,9 +7,9 @@ use Rattle.netlink_packet_core_grammar.specs.Frames.{frame_length, frame_type, f
 use Rattle.link_message_grammar.specs.Body.{link_body}
 use Rattle.link_capture_grammar.specs.Bodies.{body_text}
 use Rattle.link_capture_grammar.specs.Captures.{Accepted, first_frame}
-use Rattle.link_capture_numbers.specs.Cleared.{is_frame, zeros_at, repeats_request, front_cleared, numbers_cleared}
+use Rattle.link_capture_numbers.specs.Cleared.{is_frame, zeros_at, repeats_request, first_frame_cleared, numbers_cleared}
 use Rattle.link_capture_numbers.proofs.Steps.{whole}
-use Rattle.link_capture_numbers.proofs.Zeros.{repeated, zeros_before, length-zeros, front}
+use Rattle.link_capture_numbers.proofs.Zeros.{repeated, zeros_before, length-zeros, cleared_first}
 use Rattle.link_capture_numbers.proofs.Texts.{text_repeats}
 use Rattle.link_capture_numbers.proofs.Judged.{error_is, body_size}
 use Rattle.link_capture_grammar.proofs.Frames.{accepted}
@@ -17,17 +17,17 @@ use Rattle.link_capture_grammar.proofs.Normal.{Texted, texted, frame_text_size, 
 
 -- ---- the text followed by other bytes
 
-front_joined_by : (t more : List ℕ) (b : Bool) → 16 ≤ length t → (b ≡ true → 36 ≤ length t) → cond b (zeros_at 28 (zeros_at 8 (t ++ more))) (zeros_at 8 (t ++ more)) ≡ cond b (zeros_at 28 (zeros_at 8 t)) (zeros_at 8 t) ++ more
-front_joined_by t more false h q = zeros_before 8 t more (omega (arith, h))
-front_joined_by t more true h q =
+first_frame_joined_by : (t more : List ℕ) (b : Bool) → 16 ≤ length t → (b ≡ true → 36 ≤ length t) → cond b (zeros_at 28 (zeros_at 8 (t ++ more))) (zeros_at 8 (t ++ more)) ≡ cond b (zeros_at 28 (zeros_at 8 t)) (zeros_at 8 t) ++ more
+first_frame_joined_by t more false h q = zeros_before 8 t more (omega (arith, h))
+first_frame_joined_by t more true h q =
     let size = length-zeros 8 t (omega (arith, h)) in
     let long = q refl in
     ap (zeros_at 28) (zeros_before 8 t more (omega (arith, h))) ∙ zeros_before 28 (zeros_at 8 t) more (omega (arith, size, long))
 
-front_joined : (t more : List ℕ) → 16 ≤ length t → (repeats_request t ≡ true → 36 ≤ length t) → repeats_request (t ++ more) ≡ repeats_request t → front_cleared (t ++ more) ≡ front_cleared t ++ more
-unfolding front_cleared
-front_joined t more h q e =
-    ap (λ b. cond b (zeros_at 28 (zeros_at 8 (t ++ more))) (zeros_at 8 (t ++ more))) e ∙ front_joined_by t more (repeats_request t) h q
+first_frame_joined : (t more : List ℕ) → 16 ≤ length t → (repeats_request t ≡ true → 36 ≤ length t) → repeats_request (t ++ more) ≡ repeats_request t → first_frame_cleared (t ++ more) ≡ first_frame_cleared t ++ more
+unfolding first_frame_cleared
+first_frame_joined t more h q e =
+    ap (λ b. cond b (zeros_at 28 (zeros_at 8 (t ++ more))) (zeros_at 8 (t ++ more))) e ∙ first_frame_joined_by t more (repeats_request t) h q
 
 -- the text of an accepted frame
 module _ (limit : ℕ) (small : limit < 2 ^ 32) (c : List ℕ) (frame : ℕ × List ℕ) (h : first_frame limit c ≡ Ok frame) where
@@ -57,14 +57,14 @@ module _ (limit : ℕ) (small : limit < 2 ^ 32) (c : List ℕ) (frame : ℕ × L
   bare : t ++ [] ≡ t
   bare = append-nil t
 
-  told : frame_length t ≡ 16 + length i.body
-  told = ap frame_length (sym bare) ∙ text_length c i.body [] short
+  determined : frame_length t ≡ 16 + length i.body
+  determined = ap frame_length (sym bare) ∙ text_length c i.body [] short
 
-  alone : repeats_request t ≡ repeats_request c
-  alone = ap repeats_request (sym bare) ∙ repeats []
+  same_repeats : repeats_request t ≡ repeats_request c
+  same_repeats = ap repeats_request (sym bare) ∙ repeats []
 
   long : repeats_request t ≡ true → 36 ≤ length t
-  long r = omega (arith, repeated t r, size, told)
+  long r = omega (arith, repeated t r, size, determined)
 
   is_whole : (more : List ℕ) → is_frame (t ++ more) ≡ true
   is_whole more =
@@ -73,15 +73,15 @@ module _ (limit : ℕ) (small : limit < 2 ^ 32) (c : List ℕ) (frame : ℕ × L
       and_from _ _ (le-leb 16 (length (t ++ more)) (omega (arith, all, size)))
       (and_from _ _ (le-leb 16 (frame_length (t ++ more)) (omega (arith, l))) (le-leb (frame_length (t ++ more)) (length (t ++ more)) (omega (arith, l, all, size))))
 
-  in_front : (more : List ℕ) → numbers_cleared (t ++ more) ≡ front_cleared t ++ numbers_cleared more
-  in_front more =
-      let joined : front_cleared (t ++ more) ≡ front_cleared t ++ more = front_joined t more (omega (arith, size)) long (repeats more ∙ sym alone) in
-      let kept = (front t (omega (arith, told)) (omega (arith, told, size))).size in
+  at_payload_start : (more : List ℕ) → numbers_cleared (t ++ more) ≡ first_frame_cleared t ++ numbers_cleared more
+  at_payload_start more =
+      let joined : first_frame_cleared (t ++ more) ≡ first_frame_cleared t ++ more = first_frame_joined t more (omega (arith, size)) long (repeats more ∙ sym same_repeats) in
+      let kept = (cleared_first t (omega (arith, determined)) (omega (arith, determined, size))).size in
       whole (t ++ more) (is_whole more)
-      ∙ ap (λ k. take (nla_align k) (front_cleared (t ++ more)) ++ numbers_cleared (drop (nla_align k) (t ++ more))) (text_length c i.body more short)
+      ∙ ap (λ k. take (nla_align k) (first_frame_cleared (t ++ more)) ++ numbers_cleared (drop (nla_align k) (t ++ more))) (text_length c i.body more short)
       ∙ ap (λ z. take (nla_align (16 + length i.body)) z ++ numbers_cleared (drop (nla_align (16 + length i.body)) (t ++ more))) joined
-      ∙ ap (λ z. z ++ numbers_cleared (drop (nla_align (16 + length i.body)) (t ++ more))) (take_at (front_cleared t) more (nla_align (16 + length i.body)) (kept ∙ size))
-      ∙ ap (λ z. front_cleared t ++ numbers_cleared z) (drop_at t more (nla_align (16 + length i.body)) size)
+      ∙ ap (λ z. z ++ numbers_cleared (drop (nla_align (16 + length i.body)) (t ++ more))) (take_at (first_frame_cleared t) more (nla_align (16 + length i.body)) (kept ∙ size))
+      ∙ ap (λ z. first_frame_cleared t ++ numbers_cleared z) (drop_at t more (nla_align (16 + length i.body)) size)
 
-  pub front_of_text : (more : List ℕ) → numbers_cleared (frame.1 ++ more) ≡ front_cleared frame.1 ++ numbers_cleared more
-  front_of_text more = ap (λ z. numbers_cleared (z ++ more)) i.text_is ∙ in_front more ∙ ap (λ z. front_cleared z ++ numbers_cleared more) (sym i.text_is)
+  pub first_frame_of_text : (more : List ℕ) → numbers_cleared (frame.1 ++ more) ≡ first_frame_cleared frame.1 ++ numbers_cleared more
+  first_frame_of_text more = ap (λ z. numbers_cleared (z ++ more)) i.text_is ∙ at_payload_start more ∙ ap (λ z. first_frame_cleared z ++ numbers_cleared more) (sym i.text_is)

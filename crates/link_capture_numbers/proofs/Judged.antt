@@ -7,17 +7,17 @@ use Rattle.netlink_packet_core_grammar.specs.Frames.{IsFrame, frame_length, fram
 use Rattle.link_message_grammar.specs.Body.{link_body}
 use Rattle.link_capture_grammar.specs.declared.fault.FaultKind.TheVariants.{OverLimit}
 use Rattle.link_capture_grammar.specs.Bodies.{Refusal, refused, body_text, body_text_under}
-use Rattle.link_capture_grammar.specs.Captures.{Judged, fault_of, faulty, tested, first_frame}
+use Rattle.link_capture_grammar.specs.Captures.{Judged, fault_of, text_or_fault, checked_header, first_frame}
 use Rattle.link_capture_grammar.specs.Laws.{FramesAreJudged}
 use Rattle.link_capture_grammar.proofs.EveryRule.{in_force}
 use Rattle.link_capture_grammar.proofs.Same
-use Rattle.link_capture_numbers.specs.Cleared.{zeros_at, repeats_request, front_cleared}
+use Rattle.link_capture_numbers.specs.Cleared.{zeros_at, repeats_request, first_frame_cleared}
 use Rattle.link_capture_numbers.proofs.Zeros.{length-zeros, repeated}
-use Rattle.link_capture_numbers.proofs.Fronts.{Shape, fields}
+use Rattle.link_capture_numbers.proofs.FirstFrames.{Shape, fields}
 use Rattle.link_capture_numbers.proofs.Texts.{text_cleared, frame_cleared}
 
 abbrev pub judged_cleared : Judged → Judged
-judged_cleared (Ok frame) = Ok (frame.0, front_cleared frame.1)
+judged_cleared (Ok frame) = Ok (frame.0, first_frame_cleared frame.1)
 judged_cleared (Err kind) = Err kind
 
 -- ---- bodies
@@ -32,33 +32,33 @@ unfolding body_text_under
 error_is b text e = Same.error_is b text e
 
 -- a body's text or its refusal, with the numbers of the header that it repeats cleared
-abbrev pub told_cleared : Bool → Result (List ℕ) Refusal → Result (List ℕ) Refusal
-told_cleared b (Ok text) = Ok (text_cleared b text)
-told_cleared b (Err why) = Err why
+abbrev pub cleared_determined : Bool → Result (List ℕ) Refusal → Result (List ℕ) Refusal
+cleared_determined b (Ok text) = Ok (text_cleared b text)
+cleared_determined b (Err why) = Err why
 
-same_told : (o : Result (List ℕ) Refusal) → told_cleared false o ≡ o
-same_told (Ok text) = refl
-same_told (Err why) = refl
+same_determined : (o : Result (List ℕ) Refusal) → cleared_determined false o ≡ o
+same_determined (Ok text) = refl
+same_determined (Err why) = refl
 
 pub body_size : (c : List ℕ) → 16 ≤ frame_length c → frame_length c ≤ length c → length (frame_body c) ≡ frame_length c - 16
 body_size c l m = length-take-le (frame_length c - 16) (drop 16 c) (omega (arith, l, m, length-drop 16 c))
 
-body_told_by : (c : List ℕ) (b : Bool) → repeats_request c ≡ b → 16 ≤ frame_length c → frame_length c ≤ length c → body_text (frame_type c) (cond b (zeros_at 12 (frame_body c)) (frame_body c)) ≡ told_cleared b (body_text (frame_type c) (frame_body c))
-body_told_by c false e l m = sym (same_told (body_text (frame_type c) (frame_body c)))
-body_told_by c true e l m =
+body_determined_by : (c : List ℕ) (b : Bool) → repeats_request c ≡ b → 16 ≤ frame_length c → frame_length c ≤ length c → body_text (frame_type c) (cond b (zeros_at 12 (frame_body c)) (frame_body c)) ≡ cleared_determined b (body_text (frame_type c) (frame_body c))
+body_determined_by c false e l m = sym (same_determined (body_text (frame_type c) (frame_body c)))
+body_determined_by c true e l m =
     let two : frame_type c ≡ 2 = eqb-true (frame_type c) 2 (and_parts (nat_eq (frame_type c) 2) (nat_le 36 (frame_length c)) e).0 in
     let long = repeated c e in
     let size = body_size c l m in
     let whole : body_text (frame_type c) (frame_body c) ≡ Ok (frame_body c) = ap (λ t. body_text t (frame_body c)) two ∙ error_kept (frame_body c) (omega (arith, size, long)) in
     let zeroed : length (zeros_at 12 (frame_body c)) ≡ length (frame_body c) = length-zeros 12 (frame_body c) (omega (arith, size, long)) in
-    ap (λ t. body_text t (zeros_at 12 (frame_body c))) two ∙ error_kept (zeros_at 12 (frame_body c)) (omega (arith, zeroed, size, long)) ∙ sym (ap (told_cleared true) whole)
+    ap (λ t. body_text t (zeros_at 12 (frame_body c))) two ∙ error_kept (zeros_at 12 (frame_body c)) (omega (arith, zeroed, size, long)) ∙ sym (ap (cleared_determined true) whole)
 
-body_told : (c d : List ℕ) → 16 ≤ frame_length c → frame_length c ≤ length c → Shape c d → body_text (frame_type d) (frame_body d) ≡ told_cleared (repeats_request c) (body_text (frame_type c) (frame_body c))
-body_told c d l m s = ap (λ t. body_text t (frame_body d)) s.kind ∙ ap (body_text (frame_type c)) s.body ∙ body_told_by c (repeats_request c) refl l m
+cleared_body_determined : (c d : List ℕ) → 16 ≤ frame_length c → frame_length c ≤ length c → Shape c d → body_text (frame_type d) (frame_body d) ≡ cleared_determined (repeats_request c) (body_text (frame_type c) (frame_body c))
+cleared_body_determined c d l m s = ap (λ t. body_text t (frame_body d)) s.kind ∙ ap (body_text (frame_type c)) s.body ∙ body_determined_by c (repeats_request c) refl l m
 
 -- ---- frames
 
-over_limit : (limit size n : ℕ) → 16 ≤ size → 16 ≤ n → nat_lt limit n ≡ true → (judged : Judged) → tested limit size n judged ≡ Err OverLimit
+over_limit : (limit size n : ℕ) → 16 ≤ size → 16 ≤ n → nat_lt limit n ≡ true → (judged : Judged) → checked_header limit size n judged ≡ Err OverLimit
 over_limit limit size n h l e judged = rw (le-ltb size 16 h, le-ltb n 16 l, e) refl
 
 -- the law about the result for the first frame, whose fields are used below
@@ -81,24 +81,24 @@ module _ (limit : ℕ) (small : limit < 2 ^ 32) (c d : List ℕ) (l : 16 ≤ fra
 
   judged_ok : (text : List ℕ) (b : Bool) → frame_length c ≤ limit → body_text (frame_type c) (frame_body c) ≡ Ok text → nat_lt limit (16 + length text) ≡ b → first_frame limit d ≡ judged_cleared (first_frame limit c)
   judged_ok text b h e o =
-      let told : body_text (frame_type d) (frame_body d) ≡ Ok (text_cleared (repeats_request c) text) = body_told c d l m s ∙ ap (told_cleared (repeats_request c)) e in
+      let determined : body_text (frame_type d) (frame_body d) ≡ Ok (text_cleared (repeats_request c) text) = cleared_body_determined c d l m s ∙ ap (cleared_determined (repeats_request c)) e in
       let size = body_size c l m in
       let error : frame_type c ≡ 2 → 16 + length text ≡ frame_length c =
       λ two. let same : frame_body c ≡ text = error_is (frame_body c) text (sym (ap (λ t. body_text t (frame_body c)) two) ∙ e) in let k = ap length same in omega (arith, k, size, l) in
       let long : repeats_request c ≡ true → 20 ≤ length text =
       λ r. let two : frame_type c ≡ 2 = eqb-true (frame_type c) 2 (and_parts (nat_eq (frame_type c) 2) (nat_le 36 (frame_length c)) r).0 in let k = error two in let n = repeated c r in omega (arith, k, n) in
       let sized : length (text_cleared (repeats_request c) text) ≡ length text = sized_by (repeats_request c) text long in
-      let told_size = s.size in
-      let limited : frame_length d ≤ limit = omega (arith, told_size, h) in
+      let size_determined = s.size in
+      let limited : frame_length d ≤ limit = omega (arith, size_determined, h) in
       elim b as (λ b. nat_lt limit (16 + length text) ≡ b → first_frame limit d ≡ judged_cleared (first_frame limit c)) [
         | true ↦ λ o.
             let over : limit < 16 + length text = ltb-true limit (16 + length text) o in
             let over_d : limit < 16 + length (text_cleared (repeats_request c) text) = omega (arith, over, sized) in
-            j.over limit d (text_cleared (repeats_request c) text) is_d limited told over_d ∙ sym (ap judged_cleared (j.over limit c text is_c h e over))
+            j.over limit d (text_cleared (repeats_request c) text) is_d limited determined over_d ∙ sym (ap judged_cleared (j.over limit c text is_c h e over))
         | false ↦ λ o.
             let fits : 16 + length text ≤ limit = (let k = ltb-false limit (16 + length text) o in omega (arith, k)) in
             let fits_d : 16 + length (text_cleared (repeats_request c) text) ≤ limit = omega (arith, fits, sized) in
-            j.ok limit d (text_cleared (repeats_request c) text) is_d limited told fits_d
+            j.ok limit d (text_cleared (repeats_request c) text) is_d limited determined fits_d
             ∙ ap (λ n. Ok (n, frame_text d (text_cleared (repeats_request c) text))) s.size
             ∙ ap (λ t. Ok (frame_length c, t)) (sym (frame_cleared c d text (omega (arith, l, m)) (omega (arith, fits, small)) (fields c d (omega (arith, l, m)) s.header) error long))
             ∙ sym (ap judged_cleared (j.ok limit c text is_c h e fits))
@@ -108,8 +108,8 @@ module _ (limit : ℕ) (small : limit < 2 ^ 32) (c d : List ℕ) (l : 16 ≤ fra
   judged_by (Ok text) h e = judged_ok text (nat_lt limit (16 + length text)) h e refl
   judged_by (Err why) h e =
       let size = s.size in
-      let told : body_text (frame_type d) (frame_body d) ≡ Err why = body_told c d l m s ∙ ap (told_cleared (repeats_request c)) e in
-      j.body limit d (fault_of why) is_d (omega (arith, size, h)) (ap faulty told) ∙ sym (ap judged_cleared (j.body limit c (fault_of why) is_c h (ap faulty e)))
+      let determined : body_text (frame_type d) (frame_body d) ≡ Err why = cleared_body_determined c d l m s ∙ ap (cleared_determined (repeats_request c)) e in
+      j.body limit d (fault_of why) is_d (omega (arith, size, h)) (ap text_or_fault determined) ∙ sym (ap judged_cleared (j.body limit c (fault_of why) is_c h (ap text_or_fault e)))
 
   judged_in : (b : Bool) → nat_lt limit (frame_length c) ≡ b → first_frame limit d ≡ judged_cleared (first_frame limit c)
   judged_in false e = judged_by (body_text (frame_type c) (frame_body c)) (let k = ltb-false limit (frame_length c) e in omega (arith, k)) refl

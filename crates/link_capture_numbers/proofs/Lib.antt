@@ -1,7 +1,7 @@
 pub mod Zeros
 pub mod Steps
-pub mod Behind
-pub mod Fronts
+pub mod RestOfText
+pub mod FirstFrames
 pub mod Texts
 pub mod Judged
 pub mod ClearedTexts

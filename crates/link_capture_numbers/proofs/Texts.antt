@@ -7,8 +7,8 @@ use Rattle.netlink_packet_core_grammar.specs.Attributes.{nla_align, zeros}
 use Rattle.netlink_packet_core_grammar.specs.Frames.{frame_length, frame_type, frame_text}
 use Rattle.netlink_packet_core_grammar.specs.Numbers.{u16_at, le4}
 use Rattle.netlink_packet_core_grammar.proofs.Sizes.{length-le4}
-use Rattle.link_capture_numbers.specs.Cleared.{zeros_at, repeats_request, front_cleared}
-use Rattle.link_capture_numbers.proofs.Zeros.{length-zeros, zeros_behind, zeros_before}
+use Rattle.link_capture_numbers.specs.Cleared.{zeros_at, repeats_request, first_frame_cleared}
+use Rattle.link_capture_numbers.proofs.Zeros.{length-zeros, zeros_after, zeros_before}
 use Rattle.link_capture_grammar.proofs.Normal.{text_length, text_type}
 
 -- the padding of a text
@@ -30,7 +30,7 @@ unfolding frame_text
 header_cleared c d text h e =
     let size : length (take 12 (drop 4 c)) ≡ 12 = length-take-le 12 (drop 4 c) (omega (arith, h, length-drop 4 c)) in
     let l : List ℕ = le4 (16 + length text) in
-    zeros_behind 4 4 l (take 12 (drop 4 c) ++ (text ++ padding text)) (length-le4 (16 + length text))
+    zeros_after 4 4 l (take 12 (drop 4 c) ++ (text ++ padding text)) (length-le4 (16 + length text))
     ∙ ap (λ z. l ++ z) (zeros_before 4 (take 12 (drop 4 c)) (text ++ padding text) (omega (arith, size)))
     ∙ ap (λ z. l ++ (z ++ (text ++ padding text))) (fields_cleared c h ∙ sym e)
 
@@ -42,8 +42,8 @@ request_cleared d text e h =
     let m : List ℕ = take 12 (drop 4 d) in
     let l : List ℕ = le4 (16 + length text) in
     let same : length (zeros_at 12 text) ≡ length text = length-zeros 12 text (omega (arith, h)) in
-    zeros_behind 24 4 l (m ++ (text ++ padding text)) (length-le4 (16 + length text))
-    ∙ ap (λ z. l ++ z) (zeros_behind 12 12 m (text ++ padding text) e)
+    zeros_after 24 4 l (m ++ (text ++ padding text)) (length-le4 (16 + length text))
+    ∙ ap (λ z. l ++ z) (zeros_after 12 12 m (text ++ padding text) e)
     ∙ ap (λ z. l ++ (m ++ z)) (zeros_before 12 text (padding text) (omega (arith, h)))
     ∙ ap (λ n. le4 (16 + n) ++ (m ++ (zeros_at 12 text ++ zeros (nla_align (16 + n) - (16 + n))))) (sym same)
 
@@ -80,8 +80,8 @@ cleared_by c d text true h e q =
     let size : length (take 12 (drop 4 d)) ≡ 12 = ap length e ∙ length-append (take 4 (drop 4 c)) (zeros 8) ∙ ap (λ n. n + 8) some in
     ap (zeros_at 28) (header_cleared c d text h e) ∙ request_cleared d text size (q refl)
 
-pub frame_cleared : (c d text : List ℕ) → 16 ≤ length c → 16 + length text < 2 ^ 32 → take 12 (drop 4 d) ≡ take 4 (drop 4 c) ++ zeros 8 → (frame_type c ≡ 2 → 16 + length text ≡ frame_length c) → (repeats_request c ≡ true → 20 ≤ length text) → front_cleared (frame_text c text) ≡ frame_text d (text_cleared (repeats_request c) text)
-unfolding front_cleared
+pub frame_cleared : (c d text : List ℕ) → 16 ≤ length c → 16 + length text < 2 ^ 32 → take 12 (drop 4 d) ≡ take 4 (drop 4 c) ++ zeros 8 → (frame_type c ≡ 2 → 16 + length text ≡ frame_length c) → (repeats_request c ≡ true → 20 ≤ length text) → first_frame_cleared (frame_text c text) ≡ frame_text d (text_cleared (repeats_request c) text)
+unfolding first_frame_cleared
 frame_cleared c d text h l e q r =
     let all : frame_text c text ++ [] ≡ frame_text c text = append-nil (frame_text c text) in
     let same : repeats_request (frame_text c text) ≡ repeats_request c = ap repeats_request (sym all) ∙ text_repeats c text [] h l q in

@@ -7,9 +7,9 @@ use Rattle.netlink_packet_core_grammar.specs.Frames.{frame_length, frame_type}
 abbrev pub is_frame : List ℕ → Bool
 is_frame c = nat_le 16 (length c) && (nat_le 16 (frame_length c) && nat_le (frame_length c) (length c))
 
--- The bytes with 8 zeros at `place`.
+-- The bytes with 8 zeros at `offset`.
 unfoldable pub zeros_at : ℕ → List ℕ → List ℕ
-zeros_at place c = take place c ++ (zeros 8 ++ drop (place + 8) c)
+zeros_at offset c = take offset c ++ (zeros 8 ++ drop (offset + 8) c)
 
 -- The first frame is an ERROR (netlink.h, struct nlmsgerr) that repeats a request's header after its own header and a
 -- code.
@@ -17,8 +17,8 @@ abbrev pub repeats_request : List ℕ → Bool
 repeats_request c = nat_eq (frame_type c) 2 && nat_le 36 (frame_length c)
 
 -- The bytes with zeros for the numbers of the first frame, and for those of the request's header that it repeats.
-unfoldable pub front_cleared : List ℕ → List ℕ
-front_cleared c = cond (repeats_request c) (zeros_at 28 (zeros_at 8 c)) (zeros_at 8 c)
+unfoldable pub first_frame_cleared : List ℕ → List ℕ
+first_frame_cleared c = cond (repeats_request c) (zeros_at 28 (zeros_at 8 c)) (zeros_at 8 c)
 
 -- The bytes of c after the first `skip`, with the numbers of their frames cleared, up to the first offset without a
 -- whole frame.
@@ -26,7 +26,7 @@ unfoldable pub cleared_after : ℕ → List ℕ → List ℕ
 cleared_after skip [] = []
 cleared_after (suc skip) (b ∷ c) = cleared_after skip c
 cleared_after zero (b ∷ c) =
-    cond (is_frame (b ∷ c)) (take (nla_align (frame_length (b ∷ c))) (front_cleared (b ∷ c)) ++ cleared_after (nla_align (frame_length (b ∷ c)) - 1) c) (b ∷ c)
+    cond (is_frame (b ∷ c)) (take (nla_align (frame_length (b ∷ c))) (first_frame_cleared (b ∷ c)) ++ cleared_after (nla_align (frame_length (b ∷ c)) - 1) c) (b ∷ c)
 
 -- A capture with the numbers of its frames cleared.
 unfoldable pub numbers_cleared : List ℕ → List ℕ

@@ -3,11 +3,11 @@ use Rattle.std.specs.Prelude.{◌≡◌, ℕ, ◌^◌, ◌<◌, true, false, Lis
 use Rattle.netlink_packet_core_grammar.specs.Attributes.{nla_align}
 use Rattle.netlink_packet_core_grammar.specs.Frames.{frame_length}
 use Rattle.link_capture_grammar.specs.Captures.{first_fault, texts}
-use Rattle.link_capture_numbers.specs.Cleared.{is_frame, front_cleared, numbers_cleared}
+use Rattle.link_capture_numbers.specs.Cleared.{is_frame, first_frame_cleared, numbers_cleared}
 
 -- Numbers are cleared frame by frame.
 pub record NumbersAreClearedByFrames : Type 0 where
-  pub frame : (c : List ℕ) → is_frame c ≡ true → numbers_cleared c ≡ take (nla_align (frame_length c)) (front_cleared c) ++ numbers_cleared (drop (nla_align (frame_length c)) c)
+  pub frame : (c : List ℕ) → is_frame c ≡ true → numbers_cleared c ≡ take (nla_align (frame_length c)) (first_frame_cleared c) ++ numbers_cleared (drop (nla_align (frame_length c)) c)
   pub none : (c : List ℕ) → is_frame c ≡ false → numbers_cleared c ≡ c
 
 -- A capture whose numbers are cleared has the first fault of the capture, and the cleared texts of the capture.

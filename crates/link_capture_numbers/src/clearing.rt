@@ -2,7 +2,7 @@
 
 ghost use Rattle.std.specs.Prelude.{◌≡◌, ◌+◌, ◌<◌, ◌≤◌, ◌^◌, ◌++◌, true, false, length, take, drop, IfSome, IfNone};
 ghost use Rattle.netlink_packet_core_grammar.specs.Frames.{frame_length};
-ghost use Rattle.link_capture_numbers.specs.Cleared.{is_frame, zeros_at, repeats_request, front_cleared, numbers_cleared};
+ghost use Rattle.link_capture_numbers.specs.Cleared.{is_frame, zeros_at, repeats_request, first_frame_cleared, numbers_cleared};
 
 use super::laws::numbers_are_cleared_by_frames;
 use netlink_packet_core::{NETLINK_HEADER_LEN, NLMSG_ERROR, NetlinkBuffer, nla_align};
@@ -33,12 +33,12 @@ fn frame_len(bytes: &[u8]) -> Option<usize>
     Some(size)
 }
 
-/// Writes zeros over the 8 bytes at `place`.
-fn clear_at(bytes: &mut [u8], place: usize)
-    requires { place + 8 ≤ length bytes.old }
-    ensures { bytes.new ≡ zeros_at place bytes.old }
+/// Writes zeros over the 8 bytes at `offset`.
+fn clear_at(bytes: &mut [u8], offset: usize)
+    requires { offset + 8 ≤ length bytes.old }
+    ensures { bytes.new ≡ zeros_at offset bytes.old }
 {
-    bytes[place..place + 8].copy_from_slice(&[0; 8]);
+    bytes[offset..offset + 8].copy_from_slice(&[0; 8]);
 }
 
 /// Returns whether the first frame, of this length, is an NLMSG_ERROR that repeats a request's
@@ -52,11 +52,11 @@ fn repeats(bytes: &[u8], size: usize) -> bool
 }
 
 /// Writes zeros over the numbers of the first frame, of this length.
-fn clear_front(bytes: &mut [u8], size: usize)
+fn clear_first_frame(bytes: &mut [u8], size: usize)
     requires low { 16 ≤ size }
     requires whole { size ≤ length bytes.old }
     requires size { size ≡ frame_length bytes.old }
-    ensures { bytes.new ≡ front_cleared bytes.old }
+    ensures { bytes.new ≡ first_frame_cleared bytes.old }
 {
     let has_request = repeats(bytes, size);
     clear_at(bytes, NUMBERS);
@@ -77,7 +77,7 @@ pub fn clear_numbers(text: &mut [u8])
     numbers_are_cleared_by_frames();
     let mut at = 0;
     'frames: while let Some(size) = frame_len(&text[at..]) {
-        clear_front(&mut text[at..], size);
+        clear_first_frame(&mut text[at..], size);
         at += nla_align(size).min(text.len() - at);
     }
 }

@@ -9,10 +9,10 @@ use Rattle.link_capture_grammar.specs.declared.fault.FaultKind.{FaultKind}
 use Rattle.link_capture_grammar.specs.declared.fault.FaultKind.TheVariants.{Cut}
 use Rattle.netlink_packet_core_grammar.specs.Attributes.{nla_align}
 use Rattle.netlink_packet_core_grammar.specs.Numbers.{u32_at}
-use Rattle.netlink_packet_core_grammar.specs.Laws.{NumbersStandAlone}
+use Rattle.netlink_packet_core_grammar.specs.Laws.{NumbersAreIndependent}
 use Rattle.netlink_packet_core_grammar.specs.Frames.{frame_length}
-use Rattle.link_capture_grammar.specs.Captures.{first_frame, HeaderStands}
-use Rattle.link_capture_grammar.specs.Laws.{FramesStandAlone}
+use Rattle.link_capture_grammar.specs.Captures.{first_frame, HeaderIsAllowed}
+use Rattle.link_capture_grammar.specs.Laws.{FramesAreIndependent}
 
 -- two appended strings, as one
 pub two_steps : (old piece one two : List ℕ) (m n : ℕ) → one ≡ old ++ take m piece → two ≡ one ++ take n (drop m piece) → two ≡ old ++ take (m + n) piece
@@ -21,7 +21,7 @@ two_steps old piece one two m n e f =
 
 -- A cut frame of 16 bytes or more, which was filled to exactly 16 at first, has a length in its header that is within
 -- the limit and more than its bytes.
-pub header_exact : NumbersStandAlone → FramesStandAlone link_body → (limit : ℕ) (old new : List ℕ) → first_frame limit old ≡ Err Cut → length new ≤ max 16 (length old) → (more : List ℕ) → new ≡ old ++ more → (length new ≤ 16) ⊎ ((u32_at 0 new ≡ u32_at 0 old) × (16 ≤ u32_at 0 old) × (u32_at 0 old ≤ limit) × (length new < u32_at 0 old))
+pub header_exact : NumbersAreIndependent → FramesAreIndependent link_body → (limit : ℕ) (old new : List ℕ) → first_frame limit old ≡ Err Cut → length new ≤ max 16 (length old) → (more : List ℕ) → new ≡ old ++ more → (length new ≤ 16) ⊎ ((u32_at 0 new ≡ u32_at 0 old) × (16 ≤ u32_at 0 old) × (u32_at 0 old ≤ limit) × (length new < u32_at 0 old))
 header_exact numbers frames limit old new h le more e =
     elim (frames.cut limit old h) [
       | inl a ↦ inl (omega arith)
@@ -31,7 +31,7 @@ header_exact numbers frames limit old new h le more e =
     ]
 
 -- a frame whose length is known, and is there, isn't cut
-pub not_cut_short : FramesStandAlone link_body → (limit : ℕ) (c : List ℕ) → 16 ≤ length c → (u32_at 0 c < 16) ⊎ (limit < u32_at 0 c) ⊎ (u32_at 0 c ≤ length c) → first_frame limit c ≢ Err Cut
+pub not_cut_short : FramesAreIndependent link_body → (limit : ℕ) (c : List ℕ) → 16 ≤ length c → (u32_at 0 c < 16) ⊎ (limit < u32_at 0 c) ⊎ (u32_at 0 c ≤ length c) → first_frame limit c ≢ Err Cut
 not_cut_short frames limit c h w e =
     elim (frames.cut limit c e) [
       | inl a ↦ omega arith
@@ -39,8 +39,8 @@ not_cut_short frames limit c h w e =
     ]
 
 -- the first n bytes of two joined strings are the first of the one, and as many of the other as are missing
-joined_front : (k p : List ℕ) (f n : ℕ) → f ≡ min (length k) n → take n (k ++ p) ≡ take f k ++ take (n - f) p
-joined_front k p f n e =
+joined_prefix : (k p : List ℕ) (f n : ℕ) → f ≡ min (length k) n → take n (k ++ p) ≡ take f k ++ take (n - f) p
+joined_prefix k p f n e =
     elim (cases_lt n (length k)) [
       | inl l ↦
           let f_is : f ≡ n = omega (arith, e, l) in
@@ -52,29 +52,29 @@ joined_front k p f n e =
           ap (λ m. take m (k ++ p)) all ∙ take-append-add k p (n - f) ∙ ap (λ x. x ++ take (n - f) p) (sym (take_all f k (omega (arith, f_is))))
     ]
 
-pub filled : (k p place one two : List ℕ) (f : ℕ) → f ≡ min (length k) (length place) → length place ≤ length k + length p → one ≡ take f k → two ≡ take (length place - f) p → put_mid f (length place - f) (one ++ drop f place) two ≡ take (length place) (k ++ p)
-filled k p place one two f e l g h =
-    let n = length place in
+pub filled : (k p target one two : List ℕ) (f : ℕ) → f ≡ min (length k) (length target) → length target ≤ length k + length p → one ≡ take f k → two ≡ take (length target - f) p → put_mid f (length target - f) (one ++ drop f target) two ≡ take (length target) (k ++ p)
+filled k p target one two f e l g h =
+    let n = length target in
     let size : length one ≡ f = ap length g ∙ length-take f k ∙ omega (arith, e) in
-    let rest : drop (n - f) (drop f (one ++ drop f place)) ≡ [] = drop_all (n - f) (drop f (one ++ drop f place)) (omega (arith, length-drop f (one ++ drop f place), length-append one (drop f place), length-drop f place, size)) in
-    ap (λ x. x ++ (two ++ drop (n - f) (drop f (one ++ drop f place)))) (take_at one (drop f place) f size)
+    let rest : drop (n - f) (drop f (one ++ drop f target)) ≡ [] = drop_all (n - f) (drop f (one ++ drop f target)) (omega (arith, length-drop f (one ++ drop f target), length-append one (drop f target), length-drop f target, size)) in
+    ap (λ x. x ++ (two ++ drop (n - f) (drop f (one ++ drop f target)))) (take_at one (drop f target) f size)
     ∙ ap (λ x. one ++ (two ++ x)) rest ∙ ap (λ x. one ++ x) (append-nil two) ∙ ap (λ x. x ++ two) g ∙ ap (λ x. take f k ++ x) h
-    ∙ sym (joined_front k p f n e)
+    ∙ sym (joined_prefix k p f n e)
 
 -- a whole header with a length that a frame may have isn't refused, whatever follows
-pub header_stands : NumbersStandAlone → (limit : ℕ) (c : List ℕ) → 16 ≤ length c → 16 ≤ frame_length (take 16 c) → frame_length (take 16 c) ≤ limit → HeaderStands limit c
-header_stands numbers limit c l low high =
+pub header_is_allowed : NumbersAreIndependent → (limit : ℕ) (c : List ℕ) → 16 ≤ length c → 16 ≤ frame_length (take 16 c) → frame_length (take 16 c) ≤ limit → HeaderIsAllowed limit c
+header_is_allowed numbers limit c l low high =
     let n : frame_length c ≡ frame_length (take 16 c) = ap frame_length (sym (take-append-drop 16 c)) ∙ numbers.four_bytes (take 16 c) (drop 16 c) (omega (arith, length-take 16 c)) in
     inr (omega (arith, low, n), omega (arith, high, n))
 
-pub header_cut : NumbersStandAlone → FramesStandAlone link_body → (limit : ℕ) (c : List ℕ) → 16 ≤ length c → first_frame limit (take 16 c) ≡ Err Cut → HeaderStands limit c
+pub header_cut : NumbersAreIndependent → FramesAreIndependent link_body → (limit : ℕ) (c : List ℕ) → 16 ≤ length c → first_frame limit (take 16 c) ≡ Err Cut → HeaderIsAllowed limit c
 header_cut numbers frames limit c l h =
     elim (frames.cut limit (take 16 c) h) [
       | inl a ↦ absurd (omega (arith, length-take 16 c, a))
-      | inr a ↦ header_stands numbers limit c l a.low a.high
+      | inr a ↦ header_is_allowed numbers limit c l a.low a.high
     ]
 
-pub header_refused : FramesStandAlone link_body → (limit : ℕ) (c : List ℕ) (kind : FaultKind) → kind ≢ Cut → first_frame limit (take 16 c) ≡ Err kind → first_frame limit c ≡ Err kind
+pub header_refused : FramesAreIndependent link_body → (limit : ℕ) (c : List ℕ) (kind : FaultKind) → kind ≢ Cut → first_frame limit (take 16 c) ≡ Err kind → first_frame limit c ≡ Err kind
 header_refused frames limit c kind n h =
     ap (first_frame limit) (sym (take-append-drop 16 c)) ∙ frames.unchanged_by_more limit (take 16 c) (drop 16 c) (λ e. n cc) ∙ h
 
@@ -85,12 +85,12 @@ whole old piece new m e =
 
 -- the frame that is whole now
 pub record Completed (limit : ℕ) (old piece new : List ℕ) (m claimed : ℕ) (text : List ℕ) : Type 0 where
-  pub front_is : first_frame limit (old ++ piece) ≡ Ok (claimed, text)
+  pub prefix_is : first_frame limit (old ++ piece) ≡ Ok (claimed, text)
   pub size : length new ≡ claimed
   pub total : length (old ++ piece) ≡ claimed + (length piece - m)
   pub left : drop (nla_align claimed) (old ++ piece) ≡ drop (m + (nla_align claimed - claimed)) piece
 
-pub completed : FramesStandAlone link_body → (limit : ℕ) (old piece new : List ℕ) (m claimed : ℕ) (text : List ℕ) → new ≡ old ++ take m piece → m ≤ length piece → length new ≤ max 16 (u32_at 0 new) → first_frame limit new ≡ Ok (claimed, text) → Completed limit old piece new m claimed text
+pub completed : FramesAreIndependent link_body → (limit : ℕ) (old piece new : List ℕ) (m claimed : ℕ) (text : List ℕ) → new ≡ old ++ take m piece → m ≤ length piece → length new ≤ max 16 (u32_at 0 new) → first_frame limit new ≡ Ok (claimed, text) → Completed limit old piece new m claimed text
 completed frames limit old piece new m claimed text e l x h =
     let a = frames.accepted limit new (claimed, text) h in
     let w = whole old piece new m e in
@@ -98,7 +98,7 @@ completed frames limit old piece new m claimed text e l x h =
     let total : length (old ++ piece) ≡ claimed + (length piece - m) = ap length w ∙ length-append new (drop m piece) ∙ omega (arith, length-drop m piece) in
     let reach : nla_align claimed ≡ length new + (nla_align claimed - claimed) = omega arith in
     record {
-      front_is = ap (first_frame limit) w ∙ frames.unchanged_by_more limit new (drop m piece) (λ q. cc) ∙ h;
+      prefix_is = ap (first_frame limit) w ∙ frames.unchanged_by_more limit new (drop m piece) (λ q. cc) ∙ h;
       size = size;
       total = total;
       left = ap (drop (nla_align claimed)) w ∙ ap (λ n. drop n (new ++ drop m piece)) reach ∙ drop-append-add new (drop m piece) (nla_align claimed - claimed) ∙ drop-drop (nla_align claimed - claimed) m piece;

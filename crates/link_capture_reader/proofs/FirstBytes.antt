@@ -4,10 +4,10 @@ use Rattle.std.proofs.lemmas.List.{take_min}
 use Rattle.std.proofs.Math.Seq.{take-append-add}
 
 -- as many bytes are appended as there is capacity for
-pub kept : (first bytes : List ℕ) (room : ℕ) → room + length first ≡ 4 → first ++ take (min room (length bytes)) bytes ≡ take 4 (first ++ bytes)
-kept first bytes room e =
-    let size : length first + room ≡ 4 = omega arith in
-    ap (λ t. first ++ t) (take_min room bytes) ∙ sym (take-append-add first bytes room) ∙ ap (λ n. take n (first ++ bytes)) size
+pub kept : (first bytes : List ℕ) (capacity : ℕ) → capacity + length first ≡ 4 → first ++ take (min capacity (length bytes)) bytes ≡ take 4 (first ++ bytes)
+kept first bytes capacity e =
+    let size : length first + capacity ≡ 4 = omega arith in
+    ap (λ t. first ++ t) (take_min capacity bytes) ∙ sym (take-append-add first bytes capacity) ∙ ap (λ n. take n (first ++ bytes)) size
 
 -- the first n elements stay the same if the first list is cut to n elements before the second is appended
 take_twice : (n : ℕ) (xs ys : List ℕ) → take n (take n xs ++ ys) ≡ take n (xs ++ ys)

@@ -7,11 +7,11 @@ use Rattle.link_capture_grammar.specs.declared.fault.CaptureFault.{CaptureFault}
 use Rattle.link_capture_grammar.specs.declared.fault.FaultKind.{FaultKind}
 use Rattle.link_capture_grammar.specs.declared.fault.FaultKind.TheVariants.{Cut}
 use Rattle.netlink_packet_core_grammar.specs.Attributes.{nla_align}
-use Rattle.link_capture_grammar.specs.Captures.{first_frame, first_fault, fault_after_under, texts, texts_after_under, raised, reach, reach_by, HeaderStands, IsLegal, StopsAt}
-use Rattle.link_capture_grammar.specs.Laws.{CapturesGoByFrames, FramesStandAlone}
-use Rattle.link_capture_grammar.proofs.Frames.{raised_add}
+use Rattle.link_capture_grammar.specs.Captures.{first_frame, first_fault, fault_after_under, texts, texts_after_under, shifted, reach, reach_by, HeaderIsAllowed, IsLegal, StopsAt}
+use Rattle.link_capture_grammar.specs.Laws.{CapturesUnfoldByFrames, FramesAreIndependent}
+use Rattle.link_capture_grammar.proofs.Frames.{shifted_add}
 use Rattle.link_capture_reader.specs.Readers.{Resumes}
-use Rattle.link_capture_reader.specs.Walks.{Goes, Faults, Lacks, Passed}
+use Rattle.link_capture_reader.specs.Walks.{ReadsTo, Faults, RunsOutOfMemory, Passed}
 
 -- an empty capture has no fault and no texts
 pub fault_nil : (limit : ℕ) → first_fault limit [] ≡ None
@@ -31,32 +31,32 @@ pub passed_none : (limit : ℕ) (c : List ℕ) → Passed limit c 0
 passed_none limit c = record { inside = omega arith; start = refl; legal = fault_nil limit }
 
 -- the header of an accepted frame isn't refused, nor is that of a cut one
-pub accepted_header : FramesStandAlone link_body → (limit : ℕ) (c : List ℕ) (frame : ℕ × List ℕ) → first_frame limit c ≡ Ok frame → HeaderStands limit c
+pub accepted_header : FramesAreIndependent link_body → (limit : ℕ) (c : List ℕ) (frame : ℕ × List ℕ) → first_frame limit c ≡ Ok frame → HeaderIsAllowed limit c
 accepted_header frames limit c frame h = let a = frames.accepted limit c frame h in inr (omega (arith, a.low, a.is), omega (arith, a.high, a.is))
 
-pub cut_header : FramesStandAlone link_body → (limit : ℕ) (c : List ℕ) → first_frame limit c ≡ Err Cut → HeaderStands limit c
+pub cut_header : FramesAreIndependent link_body → (limit : ℕ) (c : List ℕ) → first_frame limit c ≡ Err Cut → HeaderIsAllowed limit c
 cut_header frames limit c h = elim (frames.cut limit c h) [ inl a ↦ inl a | inr a ↦ inr (a.low, a.high) ]
 
-pub stop_zero : (limit : ℕ) (c : List ℕ) → 0 < length c → HeaderStands limit c → StopsAt limit c 0
-stop_zero limit c h stands = record { inside = h; start = refl; header = stands; legal = fault_nil limit }
+pub stop_zero : (limit : ℕ) (c : List ℕ) → 0 < length c → HeaderIsAllowed limit c → StopsAt limit c 0
+stop_zero limit c h header_allowed = record { inside = h; start = refl; header = header_allowed; legal = fault_nil limit }
 
 pub no_texts : (limit : ℕ) (old : List ℕ) → old ≡ old ++ texts limit []
 no_texts limit old = rw (texts_nil limit) (sym (append-nil old))
 
 -- the rest resumes as the whole does
-left_resumes : (c : List ℕ) (m : ℕ) (kept : List ℕ) (owed : ℕ) (f : Option CaptureFault) → m ≤ length c → m % 4 ≡ 0 → Resumes f (drop m c) kept owed → Resumes (raised m f) c kept owed
+left_resumes : (c : List ℕ) (m : ℕ) (kept : List ℕ) (owed : ℕ) (f : Option CaptureFault) → m ≤ length c → m % 4 ≡ 0 → Resumes f (drop m c) kept owed → Resumes (shifted m f) c kept owed
 left_resumes c m kept owed None l h r = (r.0, r.1 ∙ (let n = length-drop m c in omega (arith, n)))
 left_resumes c m kept owed (Some fault) l h r = (r.0, r.1 ∙ drop-drop fault.offset m c, r.2)
 
-module _ (go : CapturesGoByFrames link_body) where
+module _ (go : CapturesUnfoldByFrames link_body) where
   -- bytes that follow legal frames are judged and written independently
   legal_reach : (limit : ℕ) (a : List ℕ) → IsLegal limit a → length a % 4 ≡ 0 → reach limit a ≡ length a
   legal_reach limit a h m = ap (reach_by (length a)) h ∙ omega arith
 
-  joined_fault : (limit : ℕ) (a b : List ℕ) → IsLegal limit a → length a % 4 ≡ 0 → first_fault limit (a ++ b) ≡ raised (length a) (first_fault limit b)
+  joined_fault : (limit : ℕ) (a b : List ℕ) → IsLegal limit a → length a % 4 ≡ 0 → first_fault limit (a ++ b) ≡ shifted (length a) (first_fault limit b)
   joined_fault limit a b h m =
-      go.rest_fault limit a b ∙ ap (λ n. raised n (first_fault limit (drop n (a ++ b)))) (legal_reach limit a h m)
-      ∙ ap (λ c. raised (length a) (first_fault limit c)) (drop_at a b (length a) refl)
+      go.rest_fault limit a b ∙ ap (λ n. shifted n (first_fault limit (drop n (a ++ b)))) (legal_reach limit a h m)
+      ∙ ap (λ c. shifted (length a) (first_fault limit c)) (drop_at a b (length a) refl)
 
   joined_texts : (limit : ℕ) (a b : List ℕ) → IsLegal limit a → length a % 4 ≡ 0 → texts limit (a ++ b) ≡ texts limit a ++ texts limit b
   joined_texts limit a b h m =
@@ -64,12 +64,12 @@ module _ (go : CapturesGoByFrames link_body) where
       ∙ ap (λ c. texts limit a ++ texts limit c) (drop_at a b (length a) refl)
 
   -- the fault and the texts of a walk are those of the rest of the string
-  pub left_fault : (limit : ℕ) (c : List ℕ) (m : ℕ) → Passed limit c m → first_fault limit c ≡ raised m (first_fault limit (drop m c))
+  pub left_fault : (limit : ℕ) (c : List ℕ) (m : ℕ) → Passed limit c m → first_fault limit c ≡ shifted m (first_fault limit (drop m c))
   left_fault limit c m w =
       let n : length (take m c) ≡ m = length-take m c ∙ omega (arith, w.inside) in
       ap (first_fault limit) (sym (take-append-drop m c))
       ∙ joined_fault limit (take m c) (drop m c) w.legal (ap (λ k. k % 4) n ∙ w.start)
-      ∙ ap (λ k. raised k (first_fault limit (drop m c))) n
+      ∙ ap (λ k. shifted k (first_fault limit (drop m c))) n
 
   pub left_texts : (limit : ℕ) (c : List ℕ) (m : ℕ) → Passed limit c m → texts limit c ≡ texts limit (take m c) ++ texts limit (drop m c)
   left_texts limit c m w =
@@ -83,10 +83,10 @@ module _ (go : CapturesGoByFrames link_body) where
       record {
         inside = omega (arith, h.inside, length-drop m c);
         start = omega (arith, h.start, w.start);
-        header = subst (HeaderStands limit) (drop-drop at m c) h.header;
+        header = subst (HeaderIsAllowed limit) (drop-drop at m c) h.header;
         legal = ap (first_fault limit) (take-add m at c)
             ∙ joined_fault limit (take m c) (take at (drop m c)) w.legal (ap (λ k. k % 4) n ∙ w.start)
-            ∙ ap (raised (length (take m c))) h.legal;
+            ∙ ap (shifted (length (take m c))) h.legal;
       }
 
   pub left_stop_texts : (limit : ℕ) (c : List ℕ) (m at : ℕ) → Passed limit c m → texts limit (take (m + at) c) ≡ texts limit (take m c) ++ texts limit (take at (drop m c))
@@ -123,9 +123,9 @@ module _ (go : CapturesGoByFrames link_body) where
       subst (λ f. Resumes f c kept owed) (sym (left_fault limit c m w))
       (left_resumes c m kept owed (first_fault limit (drop m c)) w.inside w.start (subst (λ x. Resumes (first_fault limit x) x kept owed) l r))
 
-  pub then_fault : (limit : ℕ) (c : List ℕ) (m start at : ℕ) (left : List ℕ) (fault : CaptureFault) → Passed limit c m → left ≡ drop m c → at ≡ start + m → raised at (first_fault limit left) ≡ Some fault → raised start (first_fault limit c) ≡ Some fault
+  pub then_fault : (limit : ℕ) (c : List ℕ) (m start at : ℕ) (left : List ℕ) (fault : CaptureFault) → Passed limit c m → left ≡ drop m c → at ≡ start + m → shifted at (first_fault limit left) ≡ Some fault → shifted start (first_fault limit c) ≡ Some fault
   then_fault limit c m start at left fault w l e h =
-      ap (raised start) (left_fault limit c m w) ∙ raised_add start m at (first_fault limit (drop m c)) (sym e) ∙ ap (λ x. raised at (first_fault limit x)) (sym l) ∙ h
+      ap (shifted start) (left_fault limit c m w) ∙ shifted_add start m at (first_fault limit (drop m c)) (sym e) ∙ ap (λ x. shifted at (first_fault limit x)) (sym l) ∙ h
 
   pub then_stop : (limit : ℕ) (c : List ℕ) (m at : ℕ) (left : List ℕ) → Passed limit c m → left ≡ drop m c → StopsAt limit left at → StopsAt limit c (m + at)
   then_stop limit c m at left w l h = left_stop limit c m at w (subst (λ x. StopsAt limit x at) l h)
@@ -137,25 +137,25 @@ module _ (go : CapturesGoByFrames link_body) where
 
   -- a string that is cut in its first frame
   pub cut_resumes : (limit : ℕ) (c : List ℕ) → 0 < length c → first_frame limit c ≡ Err Cut → Resumes (first_fault limit c) c c 0
-  cut_resumes limit c l h = subst (λ f. Resumes f c c 0) (sym (go.front_fault limit c Cut l h)) (refl, refl, refl)
+  cut_resumes limit c l h = subst (λ f. Resumes f c c 0) (sym (go.first_frame_fault limit c Cut l h)) (refl, refl, refl)
 
-  pub start_fault : (limit start : ℕ) (c : List ℕ) (kind : FaultKind) → 0 < length c → first_frame limit c ≡ Err kind → raised start (first_fault limit c) ≡ Some (record { kind = kind; offset = start })
-  start_fault limit start c kind l h = let z : start + 0 ≡ start = omega arith in ap (raised start) (go.front_fault limit c kind l h) ∙ ap (λ n. Some (record { kind = kind; offset = n })) z
+  pub start_fault : (limit start : ℕ) (c : List ℕ) (kind : FaultKind) → 0 < length c → first_frame limit c ≡ Err kind → shifted start (first_fault limit c) ≡ Some (record { kind = kind; offset = start })
+  start_fault limit start c kind l h = let z : start + 0 ≡ start = omega arith in ap (shifted start) (go.first_frame_fault limit c kind l h) ∙ ap (λ n. Some (record { kind = kind; offset = n })) z
 
   pub start_texts : (limit : ℕ) (c old : List ℕ) (kind : FaultKind) → first_frame limit c ≡ Err kind → old ≡ old ++ texts limit c
-  start_texts limit c old kind h = sym (append-nil old) ∙ ap (λ x. old ++ x) (sym (go.front_texts limit c kind h))
+  start_texts limit c old kind h = sym (append-nil old) ∙ ap (λ x. old ++ x) (sym (go.first_frame_texts limit c kind h))
 
   -- What holds of the rest, as a statement about the whole.
-  pub then_goes : (limit : ℕ) (c : List ℕ) (m : ℕ) (left t old out new kept : List ℕ) (owed : ℕ) → Passed limit c m → left ≡ drop m c → texts limit (take m c) ≡ t → out ≡ old ++ t → Goes limit left out new kept owed → Goes limit c old new kept owed
-  then_goes limit c m left t old out new kept owed w l e o h =
+  pub then_reads_to : (limit : ℕ) (c : List ℕ) (m : ℕ) (left t old out new kept : List ℕ) (owed : ℕ) → Passed limit c m → left ≡ drop m c → texts limit (take m c) ≡ t → out ≡ old ++ t → ReadsTo limit left out new kept owed → ReadsTo limit c old new kept owed
+  then_reads_to limit c m left t old out new kept owed w l e o h =
       (then_resumes limit c m left kept owed w l h.0, then_texts limit c m left t old w l e o h.1)
 
   pub then_faults : (limit : ℕ) (c : List ℕ) (m start at : ℕ) (left t old out new : List ℕ) (fault : CaptureFault) → Passed limit c m → left ≡ drop m c → at ≡ start + m → texts limit (take m c) ≡ t → out ≡ old ++ t → Faults limit at left out new fault → Faults limit start c old new fault
   then_faults limit c m start at left t old out new fault w l a e o h = λ n.
       let q = h n in (q.0, then_fault limit c m start at left fault w l a q.1, then_texts limit c m left t old w l e o q.2)
 
-  pub then_lacks : (limit : ℕ) (c : List ℕ) (m start at : ℕ) (left t old out new : List ℕ) (fault : CaptureFault) → Passed limit c m → left ≡ drop m c → at ≡ start + m → texts limit (take m c) ≡ t → out ≡ old ++ t → Lacks limit at left out new fault → Lacks limit start c old new fault
-  then_lacks limit c m start at left t old out new fault w l a e o h = λ n.
+  pub then_runs_out : (limit : ℕ) (c : List ℕ) (m start at : ℕ) (left t old out new : List ℕ) (fault : CaptureFault) → Passed limit c m → left ≡ drop m c → at ≡ start + m → texts limit (take m c) ≡ t → out ≡ old ++ t → RunsOutOfMemory limit at left out new fault → RunsOutOfMemory limit start c old new fault
+  then_runs_out limit c m start at left t old out new fault w l a e o h = λ n.
       let q = h n in (m + q.0, omega (arith, q.1, a), then_stop limit c m q.0 left w l q.2, then_stop_texts limit c m q.0 left t old w l e o q.3)
 
   -- one frame further
@@ -164,7 +164,7 @@ module _ (go : CapturesGoByFrames link_body) where
       let n : length (take at c) ≡ at = length-take at c ∙ omega (arith, w.inside) in
       ap (first_fault limit) (take-add at (nla_align frame.0) c)
       ∙ joined_fault limit (take at c) (take (nla_align frame.0) (drop at c)) w.legal (ap (λ m. m % 4) n ∙ w.start)
-      ∙ ap (raised (length (take at c))) (go.one_legal limit (drop at c) frame h)
+      ∙ ap (shifted (length (take at c))) (go.one_legal limit (drop at c) frame h)
 
   pub passed_texts : (limit : ℕ) (c : List ℕ) (at : ℕ) (frame : ℕ × List ℕ) → Passed limit c at → first_frame limit (drop at c) ≡ Ok frame → texts limit (take (at + nla_align frame.0) c) ≡ texts limit (take at c) ++ frame.1
   passed_texts limit c at frame w h =
@@ -176,7 +176,7 @@ module _ (go : CapturesGoByFrames link_body) where
 
   pub passed_stop_texts : (limit : ℕ) (c : List ℕ) (at : ℕ) (kind : FaultKind) → Passed limit c at → first_frame limit (drop at c) ≡ Err kind → texts limit c ≡ texts limit (take at c)
   passed_stop_texts limit c at kind w h =
-      left_texts limit c at w ∙ ap (λ t. texts limit (take at c) ++ t) (go.front_texts limit (drop at c) kind h) ∙ append-nil (texts limit (take at c))
+      left_texts limit c at w ∙ ap (λ t. texts limit (take at c) ++ t) (go.first_frame_texts limit (drop at c) kind h) ∙ append-nil (texts limit (take at c))
 
   -- the bytes before the first fault are legal, and have these texts
   pub before_fault : (limit : ℕ) (c : List ℕ) (fault : CaptureFault) → first_fault limit c ≡ Some fault → IsLegal limit (take fault.offset c) × (texts limit (take fault.offset c) ≡ texts limit c)

@@ -8,7 +8,7 @@ use Rattle.link_capture_grammar.specs.declared.fault.FaultKind.{FaultKind}
 use Rattle.link_capture_grammar.specs.declared.fault.FaultKind.TheVariants.{Cut, Memory, Read, Write, TooLong, Failed}
 use Rattle.link_capture_grammar.specs.Captures.{first_fault, texts}
 use Rattle.link_capture_grammar.specs.Laws.{PrefixTexts}
-use Rattle.link_capture_reader.specs.Readers.{ReaderState, StandsFor, Resumes, Gains, FeedFault}
+use Rattle.link_capture_reader.specs.Readers.{ReaderState, IsConsistentWith, Resumes, Gains, FeedFault}
 use Rattle.link_capture_reader.specs.Outcomes.{IsOpen, IsPrefix, OutcomeAt}
 use Rattle.link_capture_reader.proofs.Passing.{texts_nil}
 use Rattle.std.proofs.KnownBytes.{Appends-nil, Consumes-nil}
@@ -16,15 +16,15 @@ use Rattle.std.proofs.KnownBytes.{Appends-nil, Consumes-nil}
 -- s was read and accepted, and its texts are written
 pub record Came (limit : ℕ) (reader : ReaderState) (written : ℕ) (come_old come_new holds_old holds_new : Option (List ℕ)) (s : List ℕ) : Type 0 where
   pub limit_is : reader.limit ≡ limit
-  pub stands : StandsFor reader s
+  pub is_consistent : IsConsistentWith reader s
   pub consumed : Consumes come_old come_new s
   pub wrote : Appends holds_old holds_new (texts limit s)
   pub count : written ≡ min (length (texts limit s)) (2 ^ 64 - 1)
 
-pub nothing_came : (limit : ℕ) (reader : ReaderState) (come holds : Option (List ℕ)) → reader.limit ≡ limit → StandsFor reader [] → Came limit reader 0 come come holds holds []
+pub nothing_came : (limit : ℕ) (reader : ReaderState) (come holds : Option (List ℕ)) → reader.limit ≡ limit → IsConsistentWith reader [] → Came limit reader 0 come come holds holds []
 nothing_came limit reader come holds e h = record {
   limit_is = e;
-  stands = h;
+  is_consistent = h;
   consumed = Consumes-nil come;
   wrote = subst (Appends holds holds) (sym (texts_nil limit)) (Appends-nil holds);
   count = ap (λ (t : List ℕ). min (length t) (2 ^ 64 - 1)) (sym (texts_nil limit));
@@ -38,8 +38,8 @@ all_is : (limit : ℕ) (s t out : List ℕ) → Gains limit s t [] out → texts
 all_is limit s t out g = ap (λ x. texts limit s ++ x) g.2 ∙ sym g.1
 
 -- What was written, followed by what `feed` appends to an empty vector, is a prefix of the texts.
-front_is : (limit : ℕ) (s t out : List ℕ) (whole : List ℕ) → Gains limit s t [] out → IsPrefix (texts limit t) whole → IsPrefix (texts limit s ++ out) whole
-front_is limit s t out whole g p = subst (λ x. IsPrefix x whole) (g.1 ∙ ap (λ x. texts limit s ++ x) (sym g.2)) p
+prefix_is : (limit : ℕ) (s t out : List ℕ) (whole : List ℕ) → Gains limit s t [] out → IsPrefix (texts limit t) whole → IsPrefix (texts limit s ++ out) whole
+prefix_is limit s t out whole g p = subst (λ x. IsPrefix x whole) (g.1 ∙ ap (λ x. texts limit s ++ x) (sym g.2)) p
 
 nothing_more : (limit : ℕ) (s out : List ℕ) (whole : List ℕ) → out ≡ [] → IsPrefix (texts limit s) whole → IsPrefix (texts limit s ++ out) whole
 nothing_more limit s out whole e p = subst (λ x. IsPrefix x whole) (sym (append-nil (texts limit s)) ∙ ap (λ x. texts limit s ++ x) (sym e)) p
@@ -51,33 +51,33 @@ whole_is limit c = ([], sym (append-nil (texts limit c)))
 prefix_take : PrefixTexts link_body → (limit n : ℕ) (c : List ℕ) → IsPrefix (texts limit (take n c)) (texts limit c)
 prefix_take stay limit n c = subst (λ x. IsPrefix (texts limit (take n c)) (texts limit x)) (take-append-drop n c) (stay limit (take n c) (drop n c))
 
-fed_front_at : PrefixTexts link_body → (limit : ℕ) (s p out : List ℕ) (kind : FaultKind) (at : ℕ) → FeedFault limit s p [] out kind at → IsPrefix (texts limit s ++ out) (texts limit (s ++ p))
-fed_front_at stay limit s p out Cut at h = absurd h
-fed_front_at stay limit s p out Memory at h = front_is limit s (take at (s ++ p)) out (texts limit (s ++ p)) h.2 (prefix_take stay limit at (s ++ p))
-fed_front_at stay limit s p out Read at h = absurd h
-fed_front_at stay limit s p out Write at h = absurd h
-fed_front_at stay limit s p out TooLong at h = nothing_more limit s out (texts limit (s ++ p)) h.2 (stay limit s p)
-fed_front_at stay limit s p out Failed at h = absurd h
-fed_front_at stay limit s p out kind at h = front_is limit s (s ++ p) out (texts limit (s ++ p)) h.2 (whole_is limit (s ++ p))
+fed_prefix_at : PrefixTexts link_body → (limit : ℕ) (s p out : List ℕ) (kind : FaultKind) (at : ℕ) → FeedFault limit s p [] out kind at → IsPrefix (texts limit s ++ out) (texts limit (s ++ p))
+fed_prefix_at stay limit s p out Cut at h = absurd h
+fed_prefix_at stay limit s p out Memory at h = prefix_is limit s (take at (s ++ p)) out (texts limit (s ++ p)) h.2 (prefix_take stay limit at (s ++ p))
+fed_prefix_at stay limit s p out Read at h = absurd h
+fed_prefix_at stay limit s p out Write at h = absurd h
+fed_prefix_at stay limit s p out TooLong at h = nothing_more limit s out (texts limit (s ++ p)) h.2 (stay limit s p)
+fed_prefix_at stay limit s p out Failed at h = absurd h
+fed_prefix_at stay limit s p out kind at h = prefix_is limit s (s ++ p) out (texts limit (s ++ p)) h.2 (whole_is limit (s ++ p))
 
 -- the contract of `feed` for a reader that is consistent with s
 abbrev pub FeedOk : ReaderState → ReaderState → List ℕ → List ℕ → List ℕ → Type 0
-FeedOk reader then p old out = (s : List ℕ) → StandsFor reader s → (length s + length p < 2 ^ 64) × StandsFor then (s ++ p) × Gains reader.limit s (s ++ p) old out
+FeedOk reader then p old out = (s : List ℕ) → IsConsistentWith reader s → (length s + length p < 2 ^ 64) × IsConsistentWith then (s ++ p) × Gains reader.limit s (s ++ p) old out
 
 abbrev pub FeedErr : ReaderState → List ℕ → List ℕ → List ℕ → CaptureFault → Type 0
-FeedErr reader p old out fault = (s : List ℕ) → StandsFor reader s → FeedFault reader.limit s p old out fault.kind fault.offset
+FeedErr reader p old out fault = (s : List ℕ) → IsConsistentWith reader s → FeedFault reader.limit s p old out fault.kind fault.offset
 
-pub fed_front : PrefixTexts link_body → (limit : ℕ) (reader then : ReaderState) (s p old out : List ℕ) (r : Result (Unit {0}) CaptureFault) → reader.limit ≡ limit → old ≡ [] → StandsFor reader s → OnOk r (FeedOk reader then p old out) → IfErr r (FeedErr reader p old out) → IsPrefix (texts limit s ++ out) (texts limit (s ++ p))
-fed_front stay limit reader then s p old out (Ok x) l e h a b =
+pub fed_prefix : PrefixTexts link_body → (limit : ℕ) (reader then : ReaderState) (s p old out : List ℕ) (r : Result (Unit {0}) CaptureFault) → reader.limit ≡ limit → old ≡ [] → IsConsistentWith reader s → OnOk r (FeedOk reader then p old out) → IfErr r (FeedErr reader p old out) → IsPrefix (texts limit s ++ out) (texts limit (s ++ p))
+fed_prefix stay limit reader then s p old out (Ok x) l e h a b =
     subst (λ n. IsPrefix (texts n s ++ out) (texts n (s ++ p))) l
-    (front_is reader.limit s (s ++ p) out (texts reader.limit (s ++ p)) (subst (λ o. Gains reader.limit s (s ++ p) o out) e (a s h).2) (whole_is reader.limit (s ++ p)))
-fed_front stay limit reader then s p old out (Err fault) l e h a b =
+    (prefix_is reader.limit s (s ++ p) out (texts reader.limit (s ++ p)) (subst (λ o. Gains reader.limit s (s ++ p) o out) e (a s h).2) (whole_is reader.limit (s ++ p)))
+fed_prefix stay limit reader then s p old out (Err fault) l e h a b =
     subst (λ n. IsPrefix (texts n s ++ out) (texts n (s ++ p))) l
-    (fed_front_at stay reader.limit s p out fault.kind fault.offset (subst (λ o. FeedFault reader.limit s p o out fault.kind fault.offset) e (b s h)))
+    (fed_prefix_at stay reader.limit s p out fault.kind fault.offset (subst (λ o. FeedFault reader.limit s p o out fault.kind fault.offset) e (b s h)))
 
 -- a prefix of what `feed` appended
-pub part_front : (a out whole : List ℕ) (n : ℕ) → IsPrefix (a ++ out) whole → IsPrefix (a ++ take n out) whole
-part_front a out whole n h = (
+pub part_prefix : (a out whole : List ℕ) (n : ℕ) → IsPrefix (a ++ out) whole → IsPrefix (a ++ take n out) whole
+part_prefix a out whole n h = (
   drop n out ++ h.0,
   h.1 ∙ ap (λ x. (a ++ x) ++ h.0) (sym (take-append-drop n out)) ∙ simp append_assoc,
 )
@@ -86,7 +86,7 @@ part_front a out whole n h = (
 pub failed_write : (E R W : Type 0) (limit : ℕ) (s a out : List ℕ) (written n : ℕ) (fault : CaptureFault) → W → IsPrefix (a ++ out) (texts limit s) → n ≤ length out → written ≡ min (length a) (2 ^ 64 - 1) → fault.kind ≡ Write → fault.offset ≡ min (written + n) (2 ^ 64 - 1) → OutcomeAt E R W limit s (a ++ take n out) fault.kind fault.offset
 failed_write E R W limit s a out written n fault w p l c k o =
     let size : length (a ++ take n out) ≡ length a + n = length-append a (take n out) ∙ omega (arith, length-take n out) in
-    subst (λ x. OutcomeAt E R W limit s (a ++ take n out) x fault.offset) (sym k) (w, omega (arith, size), part_front a out (texts limit s) n p)
+    subst (λ x. OutcomeAt E R W limit s (a ++ take n out) x fault.offset) (sym k) (w, omega (arith, size), part_prefix a out (texts limit s) n p)
 
 -- a fault of `feed` is the fault of the engine, once what `feed` appended is written
 pub fed_fault : (E R W : Type 0) (limit : ℕ) (s p out : List ℕ) (kind : FaultKind) (at : ℕ) → length p ≤ 65536 → IsOpen (first_fault limit s) → FeedFault limit s p [] out kind at → OutcomeAt E R W limit (s ++ p) (texts limit s ++ out) kind at
@@ -100,13 +100,13 @@ fed_fault E R W limit s p out TooLong at z o h =
       long = omega (arith, h.0, length-append s p);
       inside = omega (arith, h.1, length-append s p);
       last = omega (arith, h.1, length-append s p);
-      going = subst (λ x. IsOpen (first_fault limit x)) (sym e) o;
+      open = subst (λ x. IsOpen (first_fault limit x)) (sym e) o;
       written = ap (λ x. texts limit s ++ x) h.2 ∙ append-nil (texts limit s) ∙ ap (texts limit) (sym e);
     }
 fed_fault E R W limit s p out Failed at z o h = absurd h
 fed_fault E R W limit s p out kind at z o h = (h.1, all_is limit s (s ++ p) out h.2)
 
-pub fed_outcome : (E R W : Type 0) (limit : ℕ) (reader : ReaderState) (s p old out : List ℕ) (fault : CaptureFault) → reader.limit ≡ limit → old ≡ [] → length p ≤ 65536 → StandsFor reader s → FeedErr reader p old out fault → OutcomeAt E R W limit (s ++ p) (texts limit s ++ out) fault.kind fault.offset
+pub fed_outcome : (E R W : Type 0) (limit : ℕ) (reader : ReaderState) (s p old out : List ℕ) (fault : CaptureFault) → reader.limit ≡ limit → old ≡ [] → length p ≤ 65536 → IsConsistentWith reader s → FeedErr reader p old out fault → OutcomeAt E R W limit (s ++ p) (texts limit s ++ out) fault.kind fault.offset
 fed_outcome E R W limit reader s p old out fault l e z h b =
     subst (λ n. OutcomeAt E R W n (s ++ p) (texts n s ++ out) fault.kind fault.offset) l
     (fed_fault E R W reader.limit s p out fault.kind fault.offset z (open_from _ s reader.kept reader.owed h.rest) (subst (λ o. FeedFault reader.limit s p o out fault.kind fault.offset) e (b s h)))

@@ -7,11 +7,11 @@ use Rattle.link_capture_grammar.specs.Body.{link_body}
 use Rattle.link_capture_grammar.specs.declared.fault.CaptureFault.{CaptureFault}
 use Rattle.link_capture_grammar.specs.declared.fault.FaultKind.{FaultKind}
 use Rattle.link_capture_grammar.specs.declared.fault.FaultKind.TheVariants.{Cut, Memory, Read, Write, TooLong, Failed}
-use Rattle.link_capture_grammar.specs.Captures.{first_frame, first_frame_under, first_fault, texts, raised, reach, reach_by, StopsAt, IsOfFrames}
-use Rattle.link_capture_grammar.specs.Laws.{FramesStandAlone, CapturesGoByFrames, FaultsStand}
+use Rattle.link_capture_grammar.specs.Captures.{first_frame, first_frame_under, first_fault, texts, shifted, reach, reach_by, StopsAt, IsOfFrames}
+use Rattle.link_capture_grammar.specs.Laws.{FramesAreIndependent, CapturesUnfoldByFrames, FaultsAreAtFrames}
 use Rattle.link_capture_reader.proofs.Passing.{fault_nil, texts_nil, left_fault, left_stop_texts, then_resumes, then_stop, resume_passed, resume_texts}
-use Rattle.link_capture_reader.specs.Readers.{IsReader, StandsFor, Resumes, Gains, FeedFault}
-use Rattle.link_capture_reader.specs.Walks.{Goes, Faults, Lacks, Passed}
+use Rattle.link_capture_reader.specs.Readers.{IsReader, IsConsistentWith, Resumes, Gains, FeedFault}
+use Rattle.link_capture_reader.specs.Walks.{ReadsTo, Faults, RunsOutOfMemory, Passed}
 
 -- an empty string has no frame
 cut_nil : (limit : ℕ) → first_frame limit [] ≡ Err Cut
@@ -27,11 +27,11 @@ judged (Some f) = inr (f, refl)
 pub new_reader : (limit : ℕ) → 16 ≤ limit → IsReader (record { limit = limit; accepted = 0; kept = []; owed = 0; failed = None })
 new_reader limit h = record { limit = h; cut = cut_nil limit; small = omega arith; inside = omega arith; owed = inl refl; padding = omega arith; failed = tt }
 
-pub new_stands : (limit : ℕ) → StandsFor (record { limit = limit; accepted = 0; kept = []; owed = 0; failed = None }) []
-new_stands limit = record { going = refl; accepted = refl; rest = subst (λ f. Resumes f [] [] 0) (sym (fault_nil limit)) (refl, refl) }
+pub new_is_consistent : (limit : ℕ) → IsConsistentWith (record { limit = limit; accepted = 0; kept = []; owed = 0; failed = None }) []
+new_is_consistent limit = record { unfailed = refl; accepted = refl; rest = subst (λ f. Resumes f [] [] 0) (sym (fault_nil limit)) (refl, refl) }
 
 -- a piece that has only padding
-module _ (go : CapturesGoByFrames link_body) where
+module _ (go : CapturesUnfoldByFrames link_body) where
   pub padding_resumes : (limit : ℕ) (s p kept : List ℕ) (owed : ℕ) → length p ≤ owed → Resumes (first_fault limit s) s kept owed → Resumes (first_fault limit (s ++ p)) (s ++ p) kept (owed - length p)
   padding_resumes limit s p kept owed l r =
       elim (judged (first_fault limit s)) [
@@ -40,8 +40,8 @@ module _ (go : CapturesGoByFrames link_body) where
             let at : reach limit s ≡ nla_align (length s) = ap (reach_by (length s)) w in
             let n = length-append s p in
             let none : first_fault limit (s ++ p) ≡ None =
-            go.rest_fault limit s p ∙ ap (λ x. raised (reach limit s) (first_fault limit x)) (drop_all (reach limit s) (s ++ p) (omega (arith, n, at, q.1)))
-            ∙ ap (raised (reach limit s)) (fault_nil limit) in
+            go.rest_fault limit s p ∙ ap (λ x. shifted (reach limit s) (first_fault limit x)) (drop_all (reach limit s) (s ++ p) (omega (arith, n, at, q.1)))
+            ∙ ap (shifted (reach limit s)) (fault_nil limit) in
             subst (λ f. Resumes f (s ++ p) kept (owed - length p)) (sym none) (q.0, omega (arith, n, q.1))
         | inr w ↦
             let q = subst (λ f. Resumes f s kept owed) w.1 r in
@@ -72,8 +72,8 @@ pub record Resumed (limit : ℕ) (s p kept : List ℕ) (owed start : ℕ) : Type
   pub left : kept ++ drop owed p ≡ drop (reach limit s) (s ++ p)
   pub passed : Passed limit (s ++ p) (reach limit s)
 
-pub resumed : CapturesGoByFrames link_body → FaultsStand link_body → (limit : ℕ) (s p kept : List ℕ) (owed start : ℕ) → owed < length p → Resumes (first_fault limit s) s kept owed → start + length kept ≡ length s + owed → Resumed limit s p kept owed start
-resumed go stand limit s p kept owed start l r e =
+pub resumed : CapturesUnfoldByFrames link_body → FaultsAreAtFrames link_body → (limit : ℕ) (s p kept : List ℕ) (owed start : ℕ) → owed < length p → Resumes (first_fault limit s) s kept owed → start + length kept ≡ length s + owed → Resumed limit s p kept owed start
+resumed go frames_independent limit s p kept owed start l r e =
     let n = length-append s p in
     elim (judged (first_fault limit s)) [
       | inl w ↦
@@ -89,7 +89,7 @@ resumed go stand limit s p kept owed start l r e =
       | inr w ↦
           let q = subst (λ f. Resumes f s kept owed) w.1 r in
           let at : reach limit s ≡ w.0.offset = ap (reach_by (length s)) w.1 in
-          let inside : w.0.offset < length s = (stand limit s w.0 w.1).0 in
+          let inside : w.0.offset < length s = (frames_independent limit s w.0 w.1).0 in
           let z = ap length q.1 ∙ length-drop w.0.offset s in
           record {
             at = omega (arith, z, q.2, at, inside);
@@ -98,11 +98,11 @@ resumed go stand limit s p kept owed start l r e =
           }
     ]
 
-gained : CapturesGoByFrames link_body → (limit : ℕ) (s p kept : List ℕ) (owed start : ℕ) → Resumed limit s p kept owed start → texts limit (s ++ p) ≡ texts limit s ++ texts limit (kept ++ drop owed p)
+gained : CapturesUnfoldByFrames link_body → (limit : ℕ) (s p kept : List ℕ) (owed start : ℕ) → Resumed limit s p kept owed start → texts limit (s ++ p) ≡ texts limit s ++ texts limit (kept ++ drop owed p)
 gained go limit s p kept owed start w = go.rest_texts limit s p ∙ ap (λ x. texts limit s ++ texts limit x) (sym w.left)
 
-pub goes_on : CapturesGoByFrames link_body → (limit : ℕ) (s p kept : List ℕ) (owed start : ℕ) (old new more : List ℕ) (then : ℕ) → Resumed limit s p kept owed start → Goes limit (kept ++ drop owed p) old new more then → Resumes (first_fault limit (s ++ p)) (s ++ p) more then × Gains limit s (s ++ p) old new
-goes_on go limit s p kept owed start old new more then w h = (
+pub owed_after : CapturesUnfoldByFrames link_body → (limit : ℕ) (s p kept : List ℕ) (owed start : ℕ) (old new more : List ℕ) (then : ℕ) → Resumed limit s p kept owed start → ReadsTo limit (kept ++ drop owed p) old new more then → Resumes (first_fault limit (s ++ p)) (s ++ p) more then × Gains limit s (s ++ p) old new
+owed_after go limit s p kept owed start old new more then w h = (
   then_resumes go limit (s ++ p) (reach limit s) (kept ++ drop owed p) more then w.passed w.left h.0,
   (texts limit (kept ++ drop owed p), gained go limit s p kept owed start w, h.1),
 )
@@ -124,8 +124,8 @@ is_memory : (kind : FaultKind) → (kind ≡ Memory) ⊎ (kind ≢ Memory)
 is_memory Memory = inl refl
 is_memory kind = inr (λ e. cc)
 
-pub faults_on : CapturesGoByFrames link_body → FaultsStand link_body → (limit : ℕ) (s p kept : List ℕ) (owed start : ℕ) (old new : List ℕ) (fault : CaptureFault) → length s + length p < 2 ^ 64 → Resumed limit s p kept owed start → Faults limit start (kept ++ drop owed p) old new fault → Lacks limit start (kept ++ drop owed p) old new fault → FeedFault limit s p old new fault.kind fault.offset
-faults_on go stand limit s p kept owed start old new fault l w h k =
+pub faults_on : CapturesUnfoldByFrames link_body → FaultsAreAtFrames link_body → (limit : ℕ) (s p kept : List ℕ) (owed start : ℕ) (old new : List ℕ) (fault : CaptureFault) → length s + length p < 2 ^ 64 → Resumed limit s p kept owed start → Faults limit start (kept ++ drop owed p) old new fault → RunsOutOfMemory limit start (kept ++ drop owed p) old new fault → FeedFault limit s p old new fault.kind fault.offset
+faults_on go frames_independent limit s p kept owed start old new fault l w h k =
     let d = kept ++ drop owed p in
     elim (is_memory fault.kind) [
       | inl e ↦
@@ -141,13 +141,13 @@ faults_on go stand limit s p kept owed start old new fault l w h k =
       | inr e ↦
           let q = h e in
           let f : first_fault limit (s ++ p) ≡ Some fault =
-          left_fault go limit (s ++ p) (reach limit s) w.passed ∙ ap (λ x. raised (reach limit s) (first_fault limit x)) (sym w.left) ∙ ap (λ n. raised n (first_fault limit d)) w.at ∙ q.1 in
-          feed_fault limit s p old new fault.kind fault.offset q.0 (stand limit (s ++ p) fault f).2 l f (texts limit d, gained go limit s p kept owed start w, q.2)
+          left_fault go limit (s ++ p) (reach limit s) w.passed ∙ ap (λ x. shifted (reach limit s) (first_fault limit x)) (sym w.left) ∙ ap (λ n. shifted n (first_fault limit d)) w.at ∙ q.1 in
+          feed_fault limit s p old new fault.kind fault.offset q.0 (frames_independent limit (s ++ p) fault f).2 l f (texts limit d, gained go limit s p kept owed start w, q.2)
     ]
 
 -- what is kept and owed after a string is the state of a reader
-pub resumes_reader : CapturesGoByFrames link_body → FramesStandAlone link_body → (limit accepted : ℕ) (c kept : List ℕ) (owed : ℕ) → 16 ≤ limit → length c ≤ accepted → Resumes (first_fault limit c) c kept owed → IsReader (record { limit = limit; accepted = accepted; kept = kept; owed = owed; failed = None })
-resumes_reader go alone limit accepted c kept owed h l r =
+pub resumes_reader : CapturesUnfoldByFrames link_body → FramesAreIndependent link_body → (limit accepted : ℕ) (c kept : List ℕ) (owed : ℕ) → 16 ≤ limit → length c ≤ accepted → Resumes (first_fault limit c) c kept owed → IsReader (record { limit = limit; accepted = accepted; kept = kept; owed = owed; failed = None })
+resumes_reader go independent limit accepted c kept owed h l r =
     elim (judged (first_fault limit c)) [
       | inl w ↦
           let q = subst (λ f. Resumes f c kept owed) w r in
@@ -168,7 +168,7 @@ resumes_reader go alone limit accepted c kept owed h l r =
           record {
             limit = h;
             cut = cut;
-            small = elim (alone.cut limit kept cut) [ inl a ↦ omega arith | inr a ↦ omega (arith, a.short, a.high) ];
+            small = elim (independent.cut limit kept cut) [ inl a ↦ omega arith | inr a ↦ omega (arith, a.short, a.high) ];
             inside = omega (arith, z);
             owed = inl q.2;
             padding = omega (arith, q.2);
@@ -186,13 +186,13 @@ pub failed_reader : (limit accepted offset : ℕ) → 16 ≤ limit → IsReader 
 failed_reader limit accepted offset h = record { limit = h; cut = cut_nil limit; small = omega arith; inside = omega arith; owed = inl refl; padding = omega arith; failed = refl }
 
 -- no frame is cut if none of its bytes is there
-pub nothing_cut : FaultsStand link_body → (limit : ℕ) (s : List ℕ) (owed : ℕ) → Resumes (first_fault limit s) s [] owed → first_fault limit s ≡ None
-nothing_cut stand limit s owed r =
+pub nothing_cut : FaultsAreAtFrames link_body → (limit : ℕ) (s : List ℕ) (owed : ℕ) → Resumes (first_fault limit s) s [] owed → first_fault limit s ≡ None
+nothing_cut frames_independent limit s owed r =
     elim (judged (first_fault limit s)) [
       | inl w ↦ w
       | inr w ↦
           let q = subst (λ f. Resumes f s [] owed) w.1 r in
           let z = ap length q.1 ∙ length-drop w.0.offset s in
-          let inside : w.0.offset < length s = (stand limit s w.0 w.1).0 in
+          let inside : w.0.offset < length s = (frames_independent limit s w.0 w.1).0 in
           absurd (omega (arith, z, inside))
     ]

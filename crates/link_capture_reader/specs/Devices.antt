@@ -13,8 +13,8 @@ counted b n = cond b (risen n) n
 
 -- The result of a read reports the end: nothing was read, although the buffer had capacity.
 abbrev pub is_end : Result ℕ DeviceFailed → ℕ → Bool
-is_end (Ok n) room = nat_eq n 0 && nat_lt 0 room
-is_end (Err e) room = false
+is_end (Ok n) capacity = nat_eq n 0 && nat_lt 0 capacity
+is_end (Err e) capacity = false
 
 -- A source failed: it returned an error.
 abbrev pub read_failed : Result ℕ DeviceFailed → Bool
@@ -31,5 +31,5 @@ abbrev pub Rises : ℕ → ℕ → Type 0
 Rises old new = new ≡ risen old
 
 -- The source reported its end, and if the bytes to come are known, there are none.
-abbrev pub TellsItsEnd : ℕ → ℕ → Option (List ℕ) → Type 0
-TellsItsEnd old new to_come = Rises old new × IsAtEnd to_come
+abbrev pub ReportsItsEnd : ℕ → ℕ → Option (List ℕ) → Type 0
+ReportsItsEnd old new to_come = Rises old new × IsAtEnd to_come

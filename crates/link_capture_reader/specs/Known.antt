@@ -10,8 +10,8 @@ abbrev pub slice_rest : SliceSource → List ℕ
 slice_rest s = s.rest.now
 
 -- How often the end of a slice was reported.
-abbrev pub slice_ends_told : SliceSource → ℕ
-slice_ends_told s = s.ends_told
+abbrev pub slice_ends_reported : SliceSource → ℕ
+slice_ends_reported s = s.ends_reported
 
 -- The reader of a source.
 abbrev pub source_reader : {R : Type 0} → ReadSource R → R
@@ -22,16 +22,16 @@ abbrev pub source_failures : {R : Type 0} → ReadSource R → ℕ
 source_failures s = s.failures
 
 -- How often the reader of a source reported its end.
-abbrev pub source_ends_told : {R : Type 0} → ReadSource R → ℕ
-source_ends_told s = s.ends_told
+abbrev pub source_ends_reported : {R : Type 0} → ReadSource R → ℕ
+source_ends_reported s = s.ends_reported
 
 -- The bytes that a sink in memory holds.
 abbrev pub sink_bytes : VecSink → List ℕ
 sink_bytes s = s.bytes.items
 
 -- The capacity of a sink in memory, in bytes.
-abbrev pub sink_room : VecSink → ℕ
-sink_room s = vec_capacity s.bytes
+abbrev pub sink_capacity : VecSink → ℕ
+sink_capacity s = vec_capacity s.bytes
 
 -- How often an allocation failed in a sink in memory.
 abbrev pub growths_refused : VecSink → ℕ

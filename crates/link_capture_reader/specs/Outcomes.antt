@@ -14,7 +14,7 @@ IsOpen (Some fault) = fault.kind ≡ Cut
 
 -- One string of bytes is a prefix of another.
 abbrev pub IsPrefix : List ℕ → List ℕ → Type 0
-IsPrefix front whole = (rest : List ℕ) × (whole ≡ front ++ rest)
+IsPrefix prefix whole = (rest : List ℕ) × (whole ≡ prefix ++ rest)
 
 -- More bytes than 64 bits can count were read: s. All but the last piece, of at most 65,536 bytes, were accepted, and
 -- their texts w are written.
@@ -22,7 +22,7 @@ pub record PassesLength (limit : ℕ) (s w : List ℕ) (at : ℕ) : Type 0 where
   pub long : 2 ^ 64 ≤ length s
   pub inside : at ≤ length s
   pub last : length s ≤ at + 65536
-  pub going : IsOpen (first_fault limit (take at s))
+  pub open : IsOpen (first_fault limit (take at s))
   pub written : w ≡ texts limit (take at s)
 
 -- What holds if s was read, w was written, and a fault of this kind is returned at the offset `at`. The propositions
@@ -42,12 +42,12 @@ abbrev pub Outcome : Type 0 → Type 0 → Type 0 → ℕ → List ℕ → List 
 Outcome ended read_failed write_failed limit s w (Ok x) = ended × IsLegal limit s × (w ≡ texts limit s)
 Outcome ended read_failed write_failed limit s w (Err fault) = OutcomeAt ended read_failed write_failed limit s w fault.kind fault.offset
 
--- The source had the bytes `from` to come and has `left` then; the sink held `held` and holds `holds` then. The
+-- The source had the bytes `from` to come and has `left` then; the sink held `held_before` and holds `holds` then. The
 -- difference is what was read and what was written, for which the outcome holds.
 abbrev pub Normalizes : Option (List ℕ) → Option (List ℕ) → Option (List ℕ) → Option (List ℕ)
     → Type 0 → Type 0 → Type 0 → ℕ → Result (Unit {0}) CaptureFault → Type 0
-Normalizes from left held holds ended read_failed write_failed limit result =
-    (s w : List ℕ) × Consumes from left s × Appends held holds w × Outcome ended read_failed write_failed limit s w result
+Normalizes from left held_before holds ended read_failed write_failed limit result =
+    (s w : List ℕ) × Consumes from left s × Appends held_before holds w × Outcome ended read_failed write_failed limit s w result
 
 -- The fault of `read_all` has this kind, after it has read s; the source's count of failures was `old` and is `new`.
 abbrev pub ReadFault : ℕ → ℕ → List ℕ → FaultKind → Type 0

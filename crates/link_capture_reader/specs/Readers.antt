@@ -33,12 +33,12 @@ Resumes None s kept owed = (kept ≡ []) × (owed ≡ nla_align (length s) - len
 Resumes (Some fault) s kept owed = (fault.kind ≡ Cut) × (kept ≡ drop fault.offset s) × (owed ≡ 0)
 
 -- The state of a reader without a fault.
-abbrev pub going : ℕ → ℕ → List ℕ → ℕ → ReaderState
-going limit accepted kept owed = record { limit = limit; accepted = accepted; kept = kept; owed = owed; failed = None }
+abbrev pub unfailed : ℕ → ℕ → List ℕ → ℕ → ReaderState
+unfailed limit accepted kept owed = record { limit = limit; accepted = accepted; kept = kept; owed = owed; failed = None }
 
 -- The reader is consistent with the string s: it has met no fault, and it has accepted and kept what a reader of s has.
-pub record StandsFor (r : ReaderState) (s : List ℕ) : Type 0 where
-  pub going : r.failed ≡ None
+pub record IsConsistentWith (r : ReaderState) (s : List ℕ) : Type 0 where
+  pub unfailed : r.failed ≡ None
   pub accepted : r.accepted ≡ length s
   pub rest : Resumes (first_fault r.limit s) s r.kept r.owed
 
@@ -58,23 +58,23 @@ FeedFault limit s piece old new kind at =
     (length s + length piece < 2 ^ 64) × (first_fault limit (s ++ piece) ≡ Some (record { kind = kind; offset = at })) × Gains limit s (s ++ piece) old new
 
 -- At the offset `at` of c a frame can start.
-abbrev pub IsPlaceOf : List ℕ → ℕ → Type 0
-IsPlaceOf c at = (at < length c) × (at % 4 ≡ 0)
+abbrev pub IsFrameOffsetOf : List ℕ → ℕ → Type 0
+IsFrameOffsetOf c at = (at < length c) × (at % 4 ≡ 0)
 
 -- The frame at the offset `at` is accepted, and the vector had less capacity than the frame's text and the texts before
 -- it need.
-abbrev pub LacksRoomAt : {Z : Type 0} → ℕ → List ℕ → ℕ → Vec ℕ Z → Type 0
-LacksRoomAt limit c at old =
+abbrev pub LacksCapacityAt : {Z : Type 0} → ℕ → List ℕ → ℕ → Vec ℕ Z → Type 0
+LacksCapacityAt limit c at old =
     (n : ℕ) × (text : List ℕ) × (first_frame limit (drop at c) ≡ Ok (n, text)) × (vec_capacity old < length old.items + (length (texts limit (take at c)) + length text))
 
 -- Why an allocation failed at the offset `at`: the vector lacked capacity, or the frame is cut, and its bytes had to be
 -- kept.
-abbrev pub WantsMemory : {Z : Type 0} → ℕ → List ℕ → ℕ → Vec ℕ Z → Type 0
-WantsMemory limit c at old = LacksRoomAt limit c at old ⊎ (first_frame limit (drop at c) ≡ Err Cut)
+abbrev pub NeedsMemory : {Z : Type 0} → ℕ → List ℕ → ℕ → Vec ℕ Z → Type 0
+NeedsMemory limit c at old = LacksCapacityAt limit c at old ⊎ (first_frame limit (drop at c) ≡ Err Cut)
 
 -- The fault, whose offset counts from `start` bytes before c, has the kind `Memory` only for such a reason.
-abbrev pub TellsWant : {Z : Type 0} → ℕ → ℕ → List ℕ → CaptureFault → Vec ℕ Z → Type 0
-TellsWant limit start c fault old = fault.kind ≡ Memory → (at : ℕ) × (fault.offset ≡ start + at) × WantsMemory limit c at old
+abbrev pub MemoryFaultIsJustified : {Z : Type 0} → ℕ → ℕ → List ℕ → CaptureFault → Vec ℕ Z → Type 0
+MemoryFaultIsJustified limit start c fault old = fault.kind ≡ Memory → (at : ℕ) × (fault.offset ≡ start + at) × NeedsMemory limit c at old
 
 -- The vector has gained the texts of c up to its first fault.
 abbrev pub GainsTexts : {Y Z : Type 0} → ℕ → List ℕ → Vec ℕ Y → Vec ℕ Z → Type 0

@@ -8,7 +8,7 @@ use Rattle.link_capture_reader.specs.Outcomes.{IsPrefix}
 pub record SourceState : Type 0 where
   pub to_come : Option (List ℕ)
   pub failures : ℕ
-  pub ends_told : ℕ
+  pub ends_reported : ℕ
 
 -- The state of a sink: the bytes that it holds, if they are known; and how often it failed.
 pub record SinkState : Type 0 where
@@ -17,17 +17,17 @@ pub record SinkState : Type 0 where
 
 -- The state of a source, by the ghost functions of its trait.
 abbrev pub source_state : {S : Type 0} → (S → Option (List ℕ)) → (S → ℕ) → (S → ℕ) → S → SourceState
-source_state to_come failures ends_told s = record { to_come = to_come s; failures = failures s; ends_told = ends_told s }
+source_state to_come failures ends_reported s = record { to_come = to_come s; failures = failures s; ends_reported = ends_reported s }
 
 -- The state of a sink, by the ghost functions of its trait.
 abbrev pub sink_state : {K : Type 0} → (K → Option (List ℕ)) → (K → ℕ) → K → SinkState
 sink_state holds failures k = record { holds = holds k; failures = failures k }
 
 -- All of a text was written to a sink, or a prefix of it, after which the sink failed.
-abbrev pub IsTold : SinkState → SinkState → List ℕ → Bool → Type 0
-IsTold before after text true = Appends before.holds after.holds text × (after.failures ≡ before.failures)
-IsTold before after text false = Rises before.failures after.failures × ((front : List ℕ) × IsPrefix front text × Appends before.holds after.holds front)
+abbrev pub IsReported : SinkState → SinkState → List ℕ → Bool → Type 0
+IsReported before after text true = Appends before.holds after.holds text × (after.failures ≡ before.failures)
+IsReported before after text false = Rises before.failures after.failures × ((prefix : List ℕ) × IsPrefix prefix text × Appends before.holds after.holds prefix)
 
 -- A text was written to a sink, all of it or a prefix.
-abbrev pub Tells : SinkState → SinkState → List ℕ → Type 0
-Tells before after text = (told : Bool) × IsTold before after text told
+abbrev pub IsReportedOrCut : SinkState → SinkState → List ℕ → Type 0
+IsReportedOrCut before after text = (complete : Bool) × IsReported before after text complete

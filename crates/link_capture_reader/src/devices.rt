@@ -21,7 +21,7 @@ pub trait Source {
     ghost failures: { Self → ℕ };
 
     /// How often it reported its end.
-    ghost ends_told: { Self → ℕ };
+    ghost ends_reported: { Self → ℕ };
 
     /// Reads bytes to the start of the buffer, and returns how many; 0 reports the end, if the
     /// buffer isn't empty.
@@ -35,8 +35,8 @@ pub trait Source {
         // unchanged.
         ensures bytes { ReadConsumes (to_come self.old) (to_come self.new) result buffer.new }
         ensures failures { failures self.new ≡ counted (read_failed result) (failures self.old) }
-        ensures ends { ends_told self.new
-            ≡ counted (is_end result (length buffer.new)) (ends_told self.old) };
+        ensures ends { ends_reported self.new
+            ≡ counted (is_end result (length buffer.new)) (ends_reported self.old) };
 }
 
 /// A sink for bytes.

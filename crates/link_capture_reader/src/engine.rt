@@ -2,7 +2,7 @@
 
 ghost use Rattle.std.specs.Prelude.{◌≡◌, ◌+◌, ◌-◌, ◌^◌, ◌≤◌, ℕ, List, length, take, min, IfOk, IfErr, MatchResult};
 ghost use Rattle.std.specs.Io.KnownBytes.{Consumes, Appends};
-ghost use Rattle.link_capture_reader.specs.Devices.{Rises, TellsItsEnd};
+ghost use Rattle.link_capture_reader.specs.Devices.{Rises, ReportsItsEnd};
 ghost use Rattle.link_capture_reader.specs.Outcomes.{Normalizes, ReadFault};
 
 use super::devices::{Sink, Source};
@@ -62,7 +62,7 @@ pub fn normalize<S: Source, K: Sink>(
     requires { 16 ≤ limit }
     ensures { Normalizes (S.to_come source.old) (S.to_come source.new)
         (K.holds sink.old) (K.holds sink.new)
-        (TellsItsEnd (S.ends_told source.old) (S.ends_told source.new) (S.to_come source.new))
+        (ReportsItsEnd (S.ends_reported source.old) (S.ends_reported source.new) (S.to_come source.new))
         (Rises (S.failures source.old) (S.failures source.new))
         (Rises (K.failures sink.old) (K.failures sink.new)) limit result }
 {
@@ -99,7 +99,7 @@ pub fn read_all<S: Source>(alloc: Global, source: &mut S) -> Result<Vec<u8>, Cap
     ensures { (s : List ℕ) × Consumes (S.to_come source.old) (S.to_come source.new) s
         × MatchResult result
         (λ bytes. (bytes.items ≡ s) × (S.failures source.new ≡ S.failures source.old)
-        × TellsItsEnd (S.ends_told source.old) (S.ends_told source.new) (S.to_come source.new))
+        × ReportsItsEnd (S.ends_reported source.old) (S.ends_reported source.new) (S.to_come source.new))
         (λ fault. ReadFault (S.failures source.old) (S.failures source.new) s fault.kind
         × (fault.offset ≡ length s)) }
 {
@@ -120,7 +120,7 @@ pub fn read_all_keeping_first<S: Source>(
     ensures { (s : List ℕ) × Consumes (S.to_come source.old) (S.to_come source.new) s
         × MatchResult result
         (λ bytes. (bytes.items ≡ s) × (S.failures source.new ≡ S.failures source.old)
-        × TellsItsEnd (S.ends_told source.old) (S.ends_told source.new) (S.to_come source.new))
+        × ReportsItsEnd (S.ends_reported source.old) (S.ends_reported source.new) (S.to_come source.new))
         (λ fault. ReadFault (S.failures source.old) (S.failures source.new) s fault.kind
         × (fault.offset ≡ length s))
         × (first.new.items ≡ take 4 s) }

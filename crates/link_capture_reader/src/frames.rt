@@ -2,11 +2,11 @@
 
 ghost use Rattle.std.specs.Prelude.{◌≡◌, ◌≢◌, ◌+◌, ◌≤◌, ◌<◌, length, take, Some, IfErr, OnOk};
 ghost use Rattle.link_capture_grammar.specs.Captures.{first_fault, IsLegal, StopsAt};
-ghost use Rattle.link_capture_reader.specs.Readers.{GainsTexts, IsPlaceOf, LacksRoomAt};
+ghost use Rattle.link_capture_reader.specs.Readers.{GainsTexts, IsFrameOffsetOf, LacksCapacityAt};
 
 use link_capture_checks::push_frame;
 use link_capture_grammar::fault::{CaptureFault, FaultKind};
-use link_capture_grammar::laws::{captures_go_by_frames, frames_stand_alone};
+use link_capture_grammar::laws::{captures_unfold_by_frames, frames_are_independent};
 use netlink_packet_core::nla_align;
 
 /// Appends the texts of these bytes to `out`. Fails with their first fault if they aren't legal,
@@ -17,15 +17,15 @@ pub(crate) fn push_frames(bytes: &[u8], limit: u32, out: &mut Vec<u8>) -> Result
     ensures fault { IfErr result
         (λ fault. fault.kind ≢ FaultKind.Memory → (first_fault limit bytes.now ≡ Some fault)
         × GainsTexts limit bytes.now out.old out.new) }
-    ensures place { IfErr result (λ fault. IsPlaceOf bytes.now fault.offset) }
+    ensures offset { IfErr result (λ fault. IsFrameOffsetOf bytes.now fault.offset) }
     ensures memory { IfErr result
         (λ fault. fault.kind ≡ FaultKind.Memory → StopsAt limit bytes.now fault.offset
         × GainsTexts limit (take fault.offset bytes.now) out.old out.new) }
-    ensures room { IfErr result
-        (λ fault. fault.kind ≡ FaultKind.Memory → LacksRoomAt limit bytes.now fault.offset out.old) }
+    ensures capacity { IfErr result
+        (λ fault. fault.kind ≡ FaultKind.Memory → LacksCapacityAt limit bytes.now fault.offset out.old) }
 {
-    captures_go_by_frames();
-    frames_stand_alone();
+    captures_unfold_by_frames();
+    frames_are_independent();
     let mut at = 0usize;
     while at < bytes.len() {
         match push_frame(&bytes[at..], limit, out) {

@@ -10,7 +10,7 @@ mod pieces;
 mod reader;
 mod sinks;
 mod sources;
-mod telling;
+mod reporting;
 mod whole;
 
 pub use devices::{DeviceFailed, Sink, Source};
@@ -19,5 +19,5 @@ pub use first::{FirstBytes, keep_first};
 pub use reader::CaptureReader;
 pub use sinks::{VecSink, WriteSink};
 pub use sources::{ReadSource, SliceSource};
-pub use telling::tell;
+pub use reporting::report_text;
 pub use whole::normalize_bytes;

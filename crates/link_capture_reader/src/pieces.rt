@@ -4,18 +4,18 @@ ghost use Rattle.std.specs.Prelude.{◌≡◌, ◌≢◌, ◌+◌, ◌-◌, ◌^
 ghost use Rattle.std.specs.Prelude.{IfErr, OnOk, OnErr, Err};
 ghost use Rattle.netlink_packet_core.specs.Attributes.{nla_align};
 ghost use Rattle.netlink_packet_core.specs.Frames.{frame_length};
-ghost use Rattle.link_capture_grammar.specs.Captures.{first_frame, first_fault, HeaderStands, IsOfFrames};
-ghost use Rattle.link_capture_reader.specs.Readers.{IsReader, Resumes, Gains, FeedFault, TellsWant, going};
-ghost use Rattle.link_capture_reader.specs.Walks.{Goes, Faults, Lacks};
+ghost use Rattle.link_capture_grammar.specs.Captures.{first_frame, first_fault, HeaderIsAllowed, IsOfFrames};
+ghost use Rattle.link_capture_reader.specs.Readers.{IsReader, Resumes, Gains, FeedFault, MemoryFaultIsJustified, unfailed};
+ghost use Rattle.link_capture_reader.specs.Walks.{ReadsTo, Faults, RunsOutOfMemory};
 
 use super::frames::push_frames;
 use link_capture_checks::{frame_len, push_frame};
 use link_capture_grammar::fault::{CaptureFault, FaultKind};
 use link_capture_grammar::laws::{
-    captures_go_by_frames, faults_stand_at_frames, frames_are_judged, frames_stand_alone,
+    captures_unfold_by_frames, faults_are_at_frames, frames_are_judged, frames_are_independent,
 };
 use netlink_packet_core::{NETLINK_HEADER_LEN, NetlinkBuffer, nla_align};
-use netlink_packet_core_grammar::laws::numbers_stand_alone;
+use netlink_packet_core_grammar::laws::numbers_are_independent;
 use std::alloc::AllocError;
 
 /// Returns the number of zeros after a frame of this length, up to a multiple of 4.
@@ -53,16 +53,16 @@ fn joined_header(kept: &[u8], piece: &[u8]) -> [u8; NETLINK_HEADER_LEN]
     ensures { result ≡ take 16 (kept.now ++ piece.now) }
 {
     let mut header = [0u8; NETLINK_HEADER_LEN];
-    let front = kept.len().min(NETLINK_HEADER_LEN);
-    header[..front].copy_from_slice(&kept[..front]);
-    header[front..].copy_from_slice(&piece[..NETLINK_HEADER_LEN - front]);
+    let kept_size = kept.len().min(NETLINK_HEADER_LEN);
+    header[..kept_size].copy_from_slice(&kept[..kept_size]);
+    header[kept_size..].copy_from_slice(&piece[..NETLINK_HEADER_LEN - kept_size]);
     header
 }
 
 /// Judges the header of a frame that begins with the kept bytes and continues with the piece. Fails
 /// if the header is whole and its length is one that no frame may have. Allocates nothing.
 fn judge_header(kept: &[u8], piece: &[u8], limit: u32) -> Result<(), FaultKind>
-    ensures ok { OnOk result (HeaderStands limit (kept.now ++ piece.now)) }
+    ensures ok { OnOk result (HeaderIsAllowed limit (kept.now ++ piece.now)) }
     ensures err { IfErr result
         (λ kind. (kind ≢ FaultKind.Cut) × (first_frame limit (kept.now ++ piece.now) ≡ Err kind)) }
     ensures of_frames { IfErr result (λ kind. IsOfFrames kind) }
@@ -70,8 +70,8 @@ fn judge_header(kept: &[u8], piece: &[u8], limit: u32) -> Result<(), FaultKind>
     if piece.len() < NETLINK_HEADER_LEN.saturating_sub(kept.len()) {
         return Ok(());
     }
-    numbers_stand_alone();
-    frames_stand_alone();
+    numbers_are_independent();
+    frames_are_independent();
     frames_are_judged();
     let header = joined_header(kept, piece);
     match frame_len(&header, limit) {
@@ -100,8 +100,8 @@ fn complete_frame(kept: &mut Vec<u8>, piece: &[u8], limit: u32) -> Result<usize,
     if kept.len() < NETLINK_HEADER_LEN {
         return Ok(header);
     }
-    numbers_stand_alone();
-    frames_stand_alone();
+    numbers_are_independent();
+    frames_are_independent();
     let claimed = claimed_length(kept.as_slice());
     let more = fill(kept, &piece[header..], claimed as usize)?;
     Ok(header + more)
@@ -120,12 +120,12 @@ fn read_frames(
     requires empty { kept.old.items ≡ [] }
     requires fits { start + length bytes.now < 2 ^ 64 }
     ensures ok { IfOk result
-        (λ owed. Goes limit bytes.now out.old.items out.new.items kept.new.items owed) }
+        (λ owed. ReadsTo limit bytes.now out.old.items out.new.items kept.new.items owed) }
     ensures fault { IfErr result
         (λ fault. Faults limit start bytes.now out.old.items out.new.items fault) }
     ensures memory { IfErr result
-        (λ fault. Lacks limit start bytes.now out.old.items out.new.items fault) }
-    ensures room { IfErr result (λ fault. TellsWant limit start bytes.now fault out.old) }
+        (λ fault. RunsOutOfMemory limit start bytes.now out.old.items out.new.items fault) }
+    ensures capacity { IfErr result (λ fault. MemoryFaultIsJustified limit start bytes.now fault out.old) }
 {
     match push_frames(bytes, limit, out) {
         Ok(()) => Ok(padding(bytes.len())),
@@ -133,8 +133,8 @@ fn read_frames(
             FaultKind::Cut => match kept.extend_from_slice(&bytes[fault.offset as usize..]) {
                 Ok(()) => Ok(0),
                 Err(_) => {
-                    captures_go_by_frames();
-                    frames_stand_alone();
+                    captures_unfold_by_frames();
+                    frames_are_independent();
                     Err(CaptureFault {
                         kind: FaultKind::Memory,
                         offset: start + fault.offset,
@@ -162,20 +162,20 @@ fn resume_frame(
     requires cut { first_frame limit kept.old.items ≡ Err FaultKind.Cut }
     requires more { 0 < length bytes.now }
     requires fits { start + (length kept.old.items + length bytes.now) < 2 ^ 64 }
-    ensures ok { IfOk result (λ owed. Goes limit (kept.old.items ++ bytes.now)
+    ensures ok { IfOk result (λ owed. ReadsTo limit (kept.old.items ++ bytes.now)
         out.old.items out.new.items kept.new.items owed) }
     ensures fault { IfErr result (λ fault. Faults limit start (kept.old.items ++ bytes.now)
         out.old.items out.new.items fault) }
-    ensures memory { IfErr result (λ fault. Lacks limit start (kept.old.items ++ bytes.now)
+    ensures memory { IfErr result (λ fault. RunsOutOfMemory limit start (kept.old.items ++ bytes.now)
         out.old.items out.new.items fault) }
-    ensures room { IfErr result
-        (λ fault. kept.old.items ≡ [] → TellsWant limit start bytes.now fault out.old) }
+    ensures capacity { IfErr result
+        (λ fault. kept.old.items ≡ [] → MemoryFaultIsJustified limit start bytes.now fault out.old) }
 {
     if kept.is_empty() {
         return read_frames(start, kept, bytes, limit, out);
     }
-    frames_stand_alone();
-    captures_go_by_frames();
+    frames_are_independent();
+    captures_unfold_by_frames();
     if let Err(kind) = judge_header(kept.as_slice(), bytes, limit) {
         return Err(CaptureFault {
             kind,
@@ -219,10 +219,10 @@ pub(crate) fn accept_piece(
     limit: u32,
     out: &mut Vec<u8>,
 ) -> Result<usize, CaptureFault>
-    requires reader { IsReader (going limit accepted kept.old.items owed) }
+    requires reader { IsReader (unfailed limit accepted kept.old.items owed) }
     ensures fits { OnOk result (accepted + length piece.now < 2 ^ 64) }
     ensures reader { IfOk result
-        (λ more. IsReader (going limit (accepted + length piece.now) kept.new.items more)) }
+        (λ more. IsReader (unfailed limit (accepted + length piece.now) kept.new.items more)) }
     ensures ok { IfOk result (λ more. (s : List ℕ) → accepted ≡ length s
         → Resumes (first_fault limit s) s kept.old.items owed
         → Resumes (first_fault limit (s ++ piece.now)) (s ++ piece.now) kept.new.items more
@@ -230,8 +230,8 @@ pub(crate) fn accept_piece(
     ensures fault { IfErr result (λ fault. (s : List ℕ) → accepted ≡ length s
         → Resumes (first_fault limit s) s kept.old.items owed
         → FeedFault limit s piece.now out.old.items out.new.items fault.kind fault.offset) }
-    ensures room { IfErr result (λ fault. kept.old.items ≡ [] → owed ≡ 0
-        → TellsWant limit accepted piece.now fault out.old) }
+    ensures capacity { IfErr result (λ fault. kept.old.items ≡ [] → owed ≡ 0
+        → MemoryFaultIsJustified limit accepted piece.now fault out.old) }
 {
     if piece.len() as u64 > u64::MAX - accepted {
         return Err(CaptureFault {
@@ -239,9 +239,9 @@ pub(crate) fn accept_piece(
             offset: accepted,
         });
     }
-    frames_stand_alone();
-    captures_go_by_frames();
-    faults_stand_at_frames();
+    frames_are_independent();
+    captures_unfold_by_frames();
+    faults_are_at_frames();
     if piece.len() <= owed {
         return Ok(owed - piece.len());
     }

@@ -2,11 +2,11 @@
 
 ghost use Rattle.std.specs.Prelude.{◌≡◌, ◌+◌, ◌^◌, ◌<◌, ◌≤◌, ◌++◌, ℕ, List, [], length, OnOk, OnErr, IfErr, IfSome, None, Some, Err};
 ghost use Rattle.link_capture_grammar.specs.Captures.{first_fault};
-ghost use Rattle.link_capture_reader.specs.Readers.{ReaderState, IsReader, StandsFor, Gains, FeedFault, TellsWant};
+ghost use Rattle.link_capture_reader.specs.Readers.{ReaderState, IsReader, IsConsistentWith, Gains, FeedFault, MemoryFaultIsJustified};
 
 use super::pieces::accept_piece;
 use link_capture_grammar::fault::{CaptureFault, FaultKind};
-use link_capture_grammar::laws::faults_stand_at_frames;
+use link_capture_grammar::laws::faults_are_at_frames;
 use std::alloc::Global;
 use std::marker::Model;
 
@@ -50,7 +50,7 @@ impl CaptureReader {
     /// message, as read and as written.
     pub fn new(alloc: Global, limit: u32) -> CaptureReader
         requires { 16 ≤ limit }
-        ensures empty { StandsFor result [] }
+        ensures empty { IsConsistentWith result [] }
         ensures limit { result.limit ≡ limit }
         ensures start { (result.accepted ≡ 0) × (result.kept ≡ []) × (result.owed ≡ 0) }
     {
@@ -74,22 +74,22 @@ impl CaptureReader {
     /// at its offset, and leaves `out` unchanged.
     pub fn feed(&mut self, piece: &[u8], out: &mut Vec<u8>) -> Result<(), CaptureFault>
         // The capture is continued by the piece, and `out` by the texts that it gains.
-        ensures ok { OnOk result ((s : List ℕ) → StandsFor self.old s
-            → (length s + length piece.now < 2 ^ 64) × StandsFor self.new (s ++ piece.now)
+        ensures ok { OnOk result ((s : List ℕ) → IsConsistentWith self.old s
+            → (length s + length piece.now < 2 ^ 64) × IsConsistentWith self.new (s ++ piece.now)
             × Gains self.old.limit s (s ++ piece.now) out.old.items out.new.items) }
         // The fault is that of the capture with the piece, and the texts before it are in `out`.
-        ensures fault { IfErr result (λ fault. (s : List ℕ) → StandsFor self.old s
+        ensures fault { IfErr result (λ fault. (s : List ℕ) → IsConsistentWith self.old s
             → FeedFault self.old.limit s piece.now out.old.items out.new.items
             fault.kind fault.offset) }
         // If no bytes were kept and no padding is owed, an allocation fails only for a text for
         // which `out` lacked capacity, or for the bytes of a cut frame.
-        ensures room { IfErr result (λ fault. self.old.kept ≡ [] → self.old.owed ≡ 0
-            → TellsWant self.old.limit self.old.accepted piece.now fault out.old) }
+        ensures capacity { IfErr result (λ fault. self.old.kept ≡ [] → self.old.owed ≡ 0
+            → MemoryFaultIsJustified self.old.limit self.old.accepted piece.now fault out.old) }
         // A fault is final.
         ensures failed { IfErr result (λ fault. self.new.failed ≡ Some fault.offset) }
         // Neither a piece with a fault nor any later piece is counted.
         ensures accepted { OnErr result (self.new.accepted ≡ self.old.accepted) }
-        ensures again { IfSome self.old.failed (λ offset.
+        ensures failed_before { IfSome self.old.failed (λ offset.
             (result ≡ Err (record { kind = FaultKind.Failed; offset = offset }))
             × (out.new.items ≡ out.old.items)) }
         ensures limit { self.new.limit ≡ self.old.limit }
@@ -124,10 +124,10 @@ impl CaptureReader {
     /// if a call of `feed` has failed.
     pub fn finish(self) -> Result<(), CaptureFault>
         ensures ok { OnOk result
-            ((s : List ℕ) → StandsFor self s → first_fault self.limit s ≡ None) }
-        ensures fault { IfErr result (λ fault. (s : List ℕ) → StandsFor self s
+            ((s : List ℕ) → IsConsistentWith self s → first_fault self.limit s ≡ None) }
+        ensures fault { IfErr result (λ fault. (s : List ℕ) → IsConsistentWith self s
             → (fault.kind ≡ FaultKind.Cut) × (first_fault self.limit s ≡ Some fault)) }
-        ensures again { IfSome self.failed (λ offset.
+        ensures failed_before { IfSome self.failed (λ offset.
             result ≡ Err (record { kind = FaultKind.Failed; offset = offset })) }
     {
         if let Some(offset) = self.failed {
@@ -136,7 +136,7 @@ impl CaptureReader {
                 offset,
             });
         }
-        faults_stand_at_frames();
+        faults_are_at_frames();
         if self.kept.is_empty() {
             return Ok(());
         }

@@ -3,7 +3,7 @@
 ghost use Rattle.std.specs.Prelude.{◌≡◌, ◌<◌, ◌≤◌, ◌+◌, [], Some, length, IfOk, OnErr};
 ghost use Rattle.std.specs.Io.KnownBytes.{WriteAppends};
 ghost use Rattle.link_capture_reader.specs.Devices.{write_failed, counted};
-ghost use Rattle.link_capture_reader.specs.Known.{sink_bytes, sink_room, growths_refused, sink_writer, sink_failures};
+ghost use Rattle.link_capture_reader.specs.Known.{sink_bytes, sink_capacity, growths_refused, sink_writer, sink_failures};
 
 use super::devices::{DeviceFailed, Sink};
 use std::alloc::Global;
@@ -49,8 +49,8 @@ impl Sink for VecSink {
         ensures failures { growths_refused self.new
             ≡ counted (write_failed result (length bytes.now)) (growths_refused self.old) }
         ensures whole { IfOk result (λ n. n ≡ length bytes.now) }
-        ensures room { OnErr result
-            (sink_room self.old < length (sink_bytes self.old) + length bytes.now) }
+        ensures capacity { OnErr result
+            (sink_capacity self.old < length (sink_bytes self.old) + length bytes.now) }
     {
         match self.bytes.extend_from_slice(bytes) {
             Ok(()) => Ok(bytes.len()),

@@ -1,7 +1,7 @@
 //! Sources: the bytes of a slice, and those of a reader.
 
 ghost use Rattle.std.specs.Prelude.{◌≡◌, Some};
-ghost use Rattle.link_capture_reader.specs.Known.{slice_rest, slice_ends_told, source_reader, source_failures, source_ends_told};
+ghost use Rattle.link_capture_reader.specs.Known.{slice_rest, slice_ends_reported, source_reader, source_failures, source_ends_reported};
 
 use super::devices::{DeviceFailed, Source};
 use std::io::Read;
@@ -10,18 +10,18 @@ use std::io::Read;
 #[derive(Drop)]
 pub struct SliceSource<'a> {
     rest: &'a [u8],
-    ends_told: u64,
+    ends_reported: u64,
 }
 
 impl<'a> SliceSource<'a> {
     /// Returns a source of all bytes of a slice, which has counted no end.
     pub fn new(bytes: &'a [u8]) -> SliceSource<'a>
         ensures rest { slice_rest result ≡ bytes.now }
-        ensures ends { slice_ends_told result ≡ 0 }
+        ensures ends { slice_ends_reported result ≡ 0 }
     {
         SliceSource {
             rest: bytes,
-            ends_told: 0,
+            ends_reported: 0,
         }
     }
 }
@@ -31,15 +31,15 @@ impl Source for SliceSource<'_> {
 
     ghost failures = { λ _. 0 };
 
-    ghost ends_told = { λ s. s.ends_told };
+    ghost ends_reported = { λ s. s.ends_reported };
 
     fn read(&mut self, buffer: &mut [u8]) -> Result<usize, DeviceFailed> {
         let count = self.rest.len().min(buffer.len());
-        let (front, rest) = self.rest.split_at(count);
-        buffer[..count].copy_from_slice(front);
+        let (first, rest) = self.rest.split_at(count);
+        buffer[..count].copy_from_slice(first);
         self.rest = rest;
         if count == 0 && !buffer.is_empty() {
-            self.ends_told = self.ends_told.saturating_add(1);
+            self.ends_reported = self.ends_reported.saturating_add(1);
         }
         Ok(count)
     }
@@ -50,7 +50,7 @@ impl Source for SliceSource<'_> {
 pub struct ReadSource<R> {
     reader: R,
     failures: u64,
-    ends_told: u64,
+    ends_reported: u64,
 }
 
 impl<R: Read> ReadSource<R> {
@@ -59,12 +59,12 @@ impl<R: Read> ReadSource<R> {
     pub fn new(reader: R) -> ReadSource<R>
         ensures reader { source_reader result ≡ reader }
         ensures failures { source_failures result ≡ 0 }
-        ensures ends { source_ends_told result ≡ 0 }
+        ensures ends { source_ends_reported result ≡ 0 }
     {
         ReadSource {
             reader,
             failures: 0,
-            ends_told: 0,
+            ends_reported: 0,
         }
     }
 }
@@ -74,13 +74,13 @@ impl<R: Read> Source for ReadSource<R> {
 
     ghost failures = { λ s. s.failures };
 
-    ghost ends_told = { λ s. s.ends_told };
+    ghost ends_reported = { λ s. s.ends_reported };
 
     fn read(&mut self, buffer: &mut [u8]) -> Result<usize, DeviceFailed> {
         match self.reader.read(buffer) {
             Ok(count) => {
                 if count == 0 && !buffer.is_empty() {
-                    self.ends_told = self.ends_told.saturating_add(1);
+                    self.ends_reported = self.ends_reported.saturating_add(1);
                 }
                 Ok(count)
             }

@@ -4,7 +4,7 @@ ghost use Rattle.std.specs.Prelude.{◌≡◌, ◌≢◌, ◌≤◌, ◌*◌, �
 ghost use Rattle.link_capture_grammar.specs.Captures.{first_fault, texts, IsLegal, StopsAt};
 ghost use Rattle.link_capture_grammar.specs.Same.{SameCapture};
 ghost use Rattle.link_capture_reader.specs.Joined.{IsJoined};
-ghost use Rattle.link_capture_reader.specs.Readers.{GainsTexts, IsPlaceOf, LacksRoomAt};
+ghost use Rattle.link_capture_reader.specs.Readers.{GainsTexts, IsFrameOffsetOf, LacksCapacityAt};
 
 use super::frames::push_frames;
 use link_capture_grammar::fault::{CaptureFault, FaultKind};
@@ -32,7 +32,7 @@ pub fn normalize_bytes(bytes: &[u8], limit: u32, out: &mut Vec<u8>) -> Result<()
         (λ fault. fault.kind ≢ FaultKind.Memory → (first_fault limit bytes.now ≡ Some fault)
         × GainsTexts limit bytes.now out.old out.new) }
     // A fault is at the start of a frame.
-    ensures place { IfErr result (λ fault. IsPlaceOf bytes.now fault.offset) }
+    ensures offset { IfErr result (λ fault. IsFrameOffsetOf bytes.now fault.offset) }
     // A normal text is legal, and already canonical.
     ensures normal { IsLegal limit (texts limit bytes.now)
         × (texts limit (texts limit bytes.now) ≡ texts limit bytes.now) }
@@ -42,8 +42,8 @@ pub fn normalize_bytes(bytes: &[u8], limit: u32, out: &mut Vec<u8>) -> Result<()
         × GainsTexts limit (take fault.offset bytes.now) out.old out.new) }
     // Memory runs out only for the text of an accepted frame, if `out` had less capacity than that
     // and the texts before it need.
-    ensures room { IfErr result
-        (λ fault. fault.kind ≡ FaultKind.Memory → LacksRoomAt limit bytes.now fault.offset out.old) }
+    ensures capacity { IfErr result
+        (λ fault. fault.kind ≡ FaultKind.Memory → LacksCapacityAt limit bytes.now fault.offset out.old) }
     // A legal capture and its normal text mean the same.
     ensures same { IsLegal limit bytes.now → SameCapture limit bytes.now (texts limit bytes.now) }
     // A normal text is at most 77 times as long.

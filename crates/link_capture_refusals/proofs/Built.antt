@@ -41,12 +41,12 @@ abbrev paired : Rows → Pairs
 paired end = []
 paired (row l n s t) = (l, s) ∷ paired t
 
-abbrev held : Held → Payload
-held h = payload_of table_of info_payload h
+abbrev content : Held → Payload
+content h = payload_of table_of info_payload h
 
 abbrev paired_rows : List NamedRow → Pairs
 paired_rows [] = []
-paired_rows (r ∷ rs) = (r.0, held r.2) ∷ paired_rows rs
+paired_rows (r ∷ rs) = (r.0, content r.2) ∷ paired_rows rs
 
 abbrev at : ℕ → Pairs → Option Payload
 at k [] = None
@@ -60,11 +60,11 @@ by_lines end k = refl
 by_lines (row l n s t) k = elim (k == l) as (λ b. line_payload (cond b (Some (record { is_nested = n; payload = s })) (line_at t k)) ≡ cond b (Some s) (at k (paired t))) [ true ↦ refl | false ↦ by_lines t k ]
 
 abbrev row_payload : Option NamedRow → Option Payload
-row_payload o = option_map (λ r. held r.2) o
+row_payload o = option_map (λ r. content r.2) o
 
 by_rows : (rs : List NamedRow) (k : ℕ) → row_payload (find k rs) ≡ at k (paired_rows rs)
 by_rows [] k = refl
-by_rows (r ∷ rs) k = elim (k == r.0) as (λ b. row_payload (cond b (Some r) (find k rs)) ≡ cond b (Some (held r.2)) (at k (paired_rows rs))) [ true ↦ refl | false ↦ by_rows rs k ]
+by_rows (r ∷ rs) k = elim (k == r.0) as (λ b. row_payload (cond b (Some r) (find k rs)) ≡ cond b (Some (content r.2)) (at k (paired_rows rs))) [ true ↦ refl | false ↦ by_rows rs k ]
 
 -- tables one after another
 paired_at : (ls : List (List NamedRow)) (ts : List Rows) (n : ℕ) → map paired_rows ls ≡ map paired ts → paired_rows (get_or ls n []) ≡ paired (get_or ts n end)
@@ -85,12 +85,12 @@ module _ (law : RowsAreLookedUp) (judged : Bool) where
   unfolding grammar_at
   of_rows t h = elim (is_link_info t) as (λ b. not b ≡ true → rows_of p (table_of t.0) ≡ cond b (info_grammar_under p) (rows_of p (table_of t.0))) [ true ↦ (λ e. absurd cc) | false ↦ (λ e. refl) ] h
 
-  held_is : (h : Held) → has_rows h ≡ true → held_rule p h ≡ inside_rule judged (inside_of h)
+  content_is : (h : Held) → has_rows h ≡ true → held_rule p h ≡ inside_rule judged (inside_of h)
   unfolding rows_rule grammar_at link_info_of info_grammar_under info_payload
-  held_is (H.Plain s) e = refl
-  held_is H.Peer e = refl
-  held_is (H.List f t) e = law.named p _ (table_of t.0) ∙ ap (list_rule (form_of f)) (of_rows t e)
-  held_is H.LinkInfo e = refl
+  content_is (H.Plain s) e = refl
+  content_is H.Peer e = refl
+  content_is (H.List f t) e = law.named p _ (table_of t.0) ∙ ap (list_rule (form_of f)) (of_rows t e)
+  content_is H.LinkInfo e = refl
 
   line_rule : (o : Option Line) → (row_of_line p o).rule ≡ rule_or_raw p (line_payload o)
   line_rule None = refl
@@ -98,7 +98,7 @@ module _ (law : RowsAreLookedUp) (judged : Bool) where
 
   some_is : (o : Option NamedRow) → ((r : NamedRow) → o ≡ Some r → row_has_rows r ≡ true) → rule_or_raw p (row_payload o) ≡ row_rule judged (R.table_row o)
   some_is None h = refl
-  some_is (Some r) h = held_is r.2 (h r refl)
+  some_is (Some r) h = content_is r.2 (h r refl)
 
   found_is : (t : ℕ) (k : ℕ) → (table_row p (table_of t) k).rule ≡ row_rule judged (R.table_row (find k (get_or table_rows t [])))
   found_is t k =
@@ -112,12 +112,12 @@ module _ (law : RowsAreLookedUp) (judged : Bool) where
     kind_is : (o : Option (List ℕ)) → (row_in_force o (named p kinds)).rule ≡ inside_rule judged (info_inside 2 (data_under o))
     unfolding data_under
     kind_is None = refl
-    kind_is (Some n) = names p kinds n ∙ ap (λ ns. rule_or_raw p (payload_at ns n)) (sym kinds_built) ∙ sym (found_name p table_of info_payload KINDS n) ∙ held_is (held_by_name KINDS n) (held_all has_rows refl KINDS n refl)
+    kind_is (Some n) = names p kinds n ∙ ap (λ ns. rule_or_raw p (payload_at ns n)) (sym kinds_built) ∙ sym (found_name p table_of info_payload KINDS n) ∙ content_is (held_by_name KINDS n) (held_all has_rows refl KINDS n refl)
 
     port_is : (o : Option (List ℕ)) → (row_in_force o (named p port_kinds)).rule ≡ inside_rule judged (info_inside 5 (port_data_under o))
     unfolding port_data_under
     port_is None = refl
-    port_is (Some n) = names p port_kinds n ∙ ap (λ ns. rule_or_raw p (payload_at ns n)) (sym port_kinds_built) ∙ sym (found_name p table_of info_payload PORT_KINDS n) ∙ held_is (held_by_name PORT_KINDS n) (held_all has_rows refl PORT_KINDS n refl)
+    port_is (Some n) = names p port_kinds n ∙ ap (λ ns. rule_or_raw p (payload_at ns n)) (sym port_kinds_built) ∙ sym (found_name p table_of info_payload PORT_KINDS n) ∙ content_is (held_by_name PORT_KINDS n) (held_all has_rows refl PORT_KINDS n refl)
 
     statistics_is : (o : Option (List ℕ)) → (row_in_force o (λ n. shape_rule shapes.raw)).rule ≡ inside_rule judged (info_inside 3 (statistics_under o))
     statistics_is None = refl

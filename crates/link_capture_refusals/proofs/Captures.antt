@@ -9,13 +9,13 @@ use Rattle.attribute_tables_grammar.specs.Rules.{Rule}
 use Rattle.link_message_grammar.specs.Body.{link_body}
 use Rattle.link_capture_grammar.specs.Bodies.{Refusal, refused, empty_ports, unfit, body_text, body_text_under, done_text, error_text, is_link_type, ruled_text}
 use Rattle.link_capture_grammar.specs.Captures.{Judged, first_fault, first_frame, first_frame_under, judged_text}
-use Rattle.link_capture_grammar.specs.Laws.{CapturesGoByFrames}
+use Rattle.link_capture_grammar.specs.Laws.{CapturesUnfoldByFrames}
 use Rattle.link_capture_grammar.specs.declared.fault.CaptureFault.{CaptureFault}
 use Rattle.link_capture_grammar.specs.declared.fault.FaultKind.{FaultKind}
 use Rattle.link_capture_grammar.specs.declared.fault.FaultKind.TheVariants.{Cut, ShortLength, OverLimit, Refused, TextOverLimit}
-use Rattle.link_capture_refusals.specs.RefusalLaws.{IsBetween, LinksAreAccepted, RefusedBodiesAreTold, RefusedFramesAreWhole, StandsIn}
-use Rattle.link_capture_refusals.specs.Refusals.{Found, code_refusal, fault_refusal, frame_refusal, link_refusal, list_refusal, refusal, told_refusal}
-use Rattle.link_capture_refusals.proofs.Places.{Placed, link_placed}
+use Rattle.link_capture_refusals.specs.RefusalLaws.{IsBetween, LinksAreAccepted, RefusedBodiesHaveRefusals, RefusedFramesAreWhole, IsInFrame}
+use Rattle.link_capture_refusals.specs.Refusals.{Found, code_refusal, fault_refusal, frame_refusal, link_refusal, list_refusal, refusal, first_fault_refusal}
+use Rattle.link_capture_refusals.proofs.Offsets.{IsPlacedBetween, link_between}
 
 -- ---- a refused frame
 
@@ -42,8 +42,8 @@ frame_refused limit c h =
       body = judged_refused limit c (body_text (frame_type c) (frame_body c)) t.3;
     }
 
-pub frames : CapturesGoByFrames link_body → RefusedFramesAreWhole
-frames law limit place c h = (frame_refused limit (drop place c) (law.fault_there limit c (record { kind = Refused; offset = place }) h)).frame
+pub frames : CapturesUnfoldByFrames link_body → RefusedFramesAreWhole
+frames law limit offset c h = (frame_refused limit (drop offset c) (law.fault_there limit c (record { kind = Refused; offset = offset }) h)).frame
 
 -- ---- the body of a link
 
@@ -71,46 +71,46 @@ some_of : (o : Option Found) → is_none o ≡ false → IsSome o
 some_of None h = absurd cc
 some_of (Some f) h = refl
 
-module _ (law : CapturesGoByFrames link_body) (w : FirstIsWithin) (links : LinksAreAccepted) where
-  told_frame : (place : ℕ) (c : List ℕ) (l : Bool) → is_link_type (frame_type c) ≡ l → body_text (frame_type c) (frame_body c) ≡ Err refused →
-      IsSome (cond l (link_refusal list_refusal true (place + 16) (place + 16) (frame_body c)) (Some (code_refusal (frame_body c))))
-  told_frame place c true l h =
-      some_of (link_refusal list_refusal true (place + 16) (place + 16) (frame_body c)) (sym (links true (place + 16) (place + 16) (frame_body c)) ∙ link_refused (frame_type c) (frame_body c) l h)
-  told_frame place c false l h = refl
+module _ (law : CapturesUnfoldByFrames link_body) (w : FirstIsWithin) (links : LinksAreAccepted) where
+  refused_frame_has_refusal : (offset : ℕ) (c : List ℕ) (l : Bool) → is_link_type (frame_type c) ≡ l → body_text (frame_type c) (frame_body c) ≡ Err refused →
+      IsSome (cond l (link_refusal list_refusal true (offset + 16) (offset + 16) (frame_body c)) (Some (code_refusal (frame_body c))))
+  refused_frame_has_refusal offset c true l h =
+      some_of (link_refusal list_refusal true (offset + 16) (offset + 16) (frame_body c)) (sym (links true (offset + 16) (offset + 16) (frame_body c)) ∙ link_refused (frame_type c) (frame_body c) l h)
+  refused_frame_has_refusal offset c false l h = refl
 
-  is_told : (limit place : ℕ) (c : List ℕ) → first_fault limit c ≡ Some (record { kind = Refused; offset = place }) → IsSome (refusal limit c)
+  has_refusal : (limit offset : ℕ) (c : List ℕ) → first_fault limit c ≡ Some (record { kind = Refused; offset = offset }) → IsSome (refusal limit c)
   unfolding frame_refusal
-  is_told limit place c h =
-      let r = frame_refused limit (drop place c) (law.fault_there limit c (record { kind = Refused; offset = place }) h) in
-      subst (λ o. IsSome (told_refusal c o)) (sym h) (told_frame place (drop place c) (is_link_type (frame_type (drop place c))) refl r.body)
+  has_refusal limit offset c h =
+      let r = frame_refused limit (drop offset c) (law.fault_there limit c (record { kind = Refused; offset = offset }) h) in
+      subst (λ o. IsSome (first_fault_refusal c o)) (sym h) (refused_frame_has_refusal offset (drop offset c) (is_link_type (frame_type (drop offset c))) refl r.body)
 
   -- ---- the offset of a refusal
 
-  in_frame : (place : ℕ) (c : List ℕ) (f : Found) (l : Bool) → IsFrame c → is_link_type (frame_type c) ≡ l →
-      cond l (link_refusal list_refusal true (place + 16) (place + 16) (frame_body c)) (Some (code_refusal (frame_body c))) ≡ Some f → cond l (IsBetween place (place + frame_length c) f.place) (f.place ≡ None)
-  in_frame place c f true i e h =
+  in_frame : (offset : ℕ) (c : List ℕ) (f : Found) (l : Bool) → IsFrame c → is_link_type (frame_type c) ≡ l →
+      cond l (link_refusal list_refusal true (offset + 16) (offset + 16) (frame_body c)) (Some (code_refusal (frame_body c))) ≡ Some f → cond l (IsBetween offset (offset + frame_length c) f.offset) (f.offset ≡ None)
+  in_frame offset c f true i e h =
       let b = frame_body c in
       let s = length-take (frame_length c - 16) (drop 16 c) in
-      let p : Placed (place + 16) (place + 16 + length b) (Some f) = subst (Placed (place + 16) (place + 16 + length b)) h (link_placed w true (place + 16) b) in
-      by_place f.place s p
+      let p : IsPlacedBetween (offset + 16) (offset + 16 + length b) (Some f) = subst (IsPlacedBetween (offset + 16) (offset + 16 + length b)) h (link_between w true (offset + 16) b) in
+      by_offset f.offset s p
     where
-      by_place : (o : Option ℕ) → length (take (frame_length c - 16) (drop 16 c)) ≡ min (frame_length c - 16) (length (drop 16 c)) → IsBetween (place + 16) (place + 16 + length (frame_body c)) o → IsBetween place (place + frame_length c) o
-      by_place None s p = p
-      by_place (Some x) s p = let covers = i.covers_header in (omega (arith, p.0), omega (arith, p.1, s, covers))
-  in_frame place c f false i e h = let same : code_refusal (frame_body c) ≡ f = cc in sym (ap (λ (x : Found). x.place) same)
+      by_offset : (o : Option ℕ) → length (take (frame_length c - 16) (drop 16 c)) ≡ min (frame_length c - 16) (length (drop 16 c)) → IsBetween (offset + 16) (offset + 16 + length (frame_body c)) o → IsBetween offset (offset + frame_length c) o
+      by_offset None s p = p
+      by_offset (Some x) s p = let covers = i.covers_header in (omega (arith, p.0), omega (arith, p.1, s, covers))
+  in_frame offset c f false i e h = let same : code_refusal (frame_body c) ≡ f = cc in sym (ap (λ (x : Found). x.offset) same)
 
-  by_kind : (limit place : ℕ) (c : List ℕ) (f : Found) (kind : FaultKind) → first_fault limit c ≡ Some (record { kind = kind; offset = place }) → fault_refusal c place kind ≡ Some f →
-      (at : ℕ) × (first_fault limit c ≡ Some (record { kind = Refused; offset = at })) × StandsIn at (drop at c) f
+  by_kind : (limit offset : ℕ) (c : List ℕ) (f : Found) (kind : FaultKind) → first_fault limit c ≡ Some (record { kind = kind; offset = offset }) → fault_refusal c offset kind ≡ Some f →
+      (at : ℕ) × (first_fault limit c ≡ Some (record { kind = Refused; offset = at })) × IsInFrame at (drop at c) f
   unfolding frame_refusal
-  by_kind limit place c f Refused h e =
-      let r = frame_refused limit (drop place c) (law.fault_there limit c (record { kind = Refused; offset = place }) h) in
-      (place, h, in_frame place (drop place c) f (is_link_type (frame_type (drop place c))) r.frame refl e)
-  by_kind limit place c f kind h e = absurd cc
+  by_kind limit offset c f Refused h e =
+      let r = frame_refused limit (drop offset c) (law.fault_there limit c (record { kind = Refused; offset = offset }) h) in
+      (offset, h, in_frame offset (drop offset c) f (is_link_type (frame_type (drop offset c))) r.frame refl e)
+  by_kind limit offset c f kind h e = absurd cc
 
-  by_fault : (limit : ℕ) (c : List ℕ) (f : Found) (o : Option CaptureFault) → first_fault limit c ≡ o → told_refusal c o ≡ Some f →
-      (at : ℕ) × (first_fault limit c ≡ Some (record { kind = Refused; offset = at })) × StandsIn at (drop at c) f
+  by_fault : (limit : ℕ) (c : List ℕ) (f : Found) (o : Option CaptureFault) → first_fault limit c ≡ o → first_fault_refusal c o ≡ Some f →
+      (at : ℕ) × (first_fault limit c ≡ Some (record { kind = Refused; offset = at })) × IsInFrame at (drop at c) f
   by_fault limit c f None h e = absurd cc
   by_fault limit c f (Some fault) h e = by_kind limit fault.offset c f fault.kind h e
 
-  pub told : RefusedBodiesAreTold
-  told = record { told = is_told; stands = λ limit c f e. by_fault limit c f (first_fault limit c) refl e }
+  pub refused_body_has_refusal : RefusedBodiesHaveRefusals
+  refused_body_has_refusal = record { refused_body_has_refusal = has_refusal; offset_in_frame = λ limit c f e. by_fault limit c f (first_fault limit c) refl e }

@@ -1,9 +1,9 @@
 pub mod Built
 pub mod Lookups
-pub mod ListSteps
+pub mod ListUnfolding
 pub mod Accepted
-pub mod Going
-pub mod Words
-pub mod Places
+pub mod Continuing
+pub mod PathTexts
+pub mod Offsets
 pub mod Captures
-pub mod Alone
+pub mod Independent

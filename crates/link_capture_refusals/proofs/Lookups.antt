@@ -26,8 +26,8 @@ use Rattle.link_tables.specs.Tables.{is_link_info, table_of}
 use Rattle.attribute_tables_grammar.specs.Lists.{Context}
 use Rattle.link_capture_refusals.specs.declared.tables.Inside.{Inside}
 use Rattle.link_capture_refusals.specs.declared.tables.Inside.TheVariants as I
-use Rattle.link_capture_refusals.specs.RowRules.{behind, grammar_at, grammar_of, peer_of}
-use Rattle.link_capture_refusals.specs.RefusalTables.{IsLower, Listing, NamedRow, data_rows, depth, find, info_inside, inside_depth, inside_of, is_name, message_rows, said, table_rows}
+use Rattle.link_capture_refusals.specs.RowRules.{following, grammar_at, grammar_of, peer_of}
+use Rattle.link_capture_refusals.specs.RefusalTables.{IsLower, Listing, NamedRow, data_rows, depth, find, info_inside, inside_depth, inside_of, is_name, message_rows, row_values, table_rows}
 
 -- a row in code, and its value
 abbrev pub Row : Type 0
@@ -37,7 +37,7 @@ abbrev pub row : Row → NamedRow
 row r = (r.0, r.1.now, r.2)
 
 abbrev pub rows : List Row → List NamedRow
-rows rs = said (λ n. n.now) rs
+rows rs = row_values (λ n. n.now) rs
 
 ascii : (n : List ℕ) → is_name n ≡ true → IsAscii n
 ascii [] h = IsAscii-nil
@@ -51,7 +51,7 @@ text n h = IsUtf8-from_ascii n (ascii n h)
 -- the table of a list has rows
 abbrev pub has_rows : Held → Bool
 has_rows (H.List f t) = not (is_link_info t)
-has_rows held = true
+has_rows content = true
 
 abbrev pub row_has_rows : NamedRow → Bool
 row_has_rows r = has_rows r.2
@@ -156,9 +156,9 @@ unfolding info_grammar_under
 next_in judged true t c e h = refl
 next_in judged false t c e h = absurd cc
 
-pub info_behind : (l : Listing) (e : Attribute) → is_link_info l.table ≡ true → is_kept (form_of l.form) e ≡ true → record l { context = info_next l.context (proper_kind e.kind) e.payload } ≡ behind l e
+pub info_rest : (l : Listing) (e : Attribute) → is_link_info l.table ≡ true → is_kept (form_of l.form) e ≡ true → record l { context = info_next l.context (proper_kind e.kind) e.payload } ≡ following l e
 unfolding grammar_at
-info_behind l e h k =
+info_rest l e h k =
     ap (λ c. record l { context = c })
     (sym (next_in l.judged (is_link_info l.table) l.table l.context e h) ∙ ap (λ b. cond b ((grammar_at l.judged l.table).next l.context e) l.context) (sym k))
 

@@ -1,7 +1,7 @@
-pub mod ReasonWords
+pub mod ReasonTexts
 pub mod RefusalTables
 pub mod RowRules
 pub mod Refusals
-pub mod RefusalWords
+pub mod RefusalTexts
 pub mod RefusalViews
 pub mod RefusalLaws

@@ -23,20 +23,20 @@ abbrev pub NamedRow : Type 0
 NamedRow = ℕ × List ℕ × Held
 
 -- The rows of a table in code, as the specification has them.
-abbrev pub said : {N : Type 0} → (N → List ℕ) → List (ℕ × N × Held) → List NamedRow
-said f rs = map (λ r. (r.0, f r.1, r.2)) rs
+abbrev pub row_values : {N : Type 0} → (N → List ℕ) → List (ℕ × N × Held) → List NamedRow
+row_values f rs = map (λ r. (r.0, f r.1, r.2)) rs
 
 -- The rows of tables in code, table by table.
-abbrev pub all_said : {B N : Type 0} → (B → List (ℕ × N × Held)) → (N → List ℕ) → List B → List (List NamedRow)
-all_said g f bs = map (λ b. said f (g b)) bs
+abbrev pub all_row_values : {B N : Type 0} → (B → List (ℕ × N × Held)) → (N → List ℕ) → List B → List (List NamedRow)
+all_row_values g f bs = map (λ b. row_values f (g b)) bs
 
 -- The rows of the tables of link messages.
 unfoldable pub message_rows : List (List NamedRow)
-message_rows = all_said (λ b. b.now) (λ n. n.now) MESSAGE_ROWS
+message_rows = all_row_values (λ b. b.now) (λ n. n.now) MESSAGE_ROWS
 
 -- The rows of the tables of data.
 unfoldable pub data_rows : List (List NamedRow)
-data_rows = all_said (λ b. b.now) (λ n. n.now) DATA_ROWS
+data_rows = all_row_values (λ b. b.now) (λ n. n.now) DATA_ROWS
 
 -- The rows of all tables, by the index of the table.
 unfoldable pub table_rows : List (List NamedRow)
@@ -62,7 +62,7 @@ inside_of H.LinkInfo = I.List NonEmpty LINK_INFO
 
 -- The content of an attribute of link info; if no kind that it depends on is in force, the reason why it is refused.
 abbrev pub info_inside : ℕ → Option Held → Inside
-info_inside k (Some held) = inside_of held
+info_inside k (Some content) = inside_of content
 info_inside k None = I.Refused (cond (k == 5) NoPortKind NoKind)
 
 -- The name of a kind in link info.

@@ -5,7 +5,7 @@ use Rattle.link_capture_refusals.specs.declared.refusal.Refusal.{Refusal}
 
 -- The value of a refusal in code.
 abbrev pub found : Refusal → Found
-found r = record { path = map (λ n. n.now) r.path.items; place = r.place; reason = r.reason }
+found r = record { path = map (λ n. n.now) r.path.items; offset = r.offset; reason = r.reason }
 
 -- The value of an optional refusal in code.
 abbrev pub all_found : Option Refusal → Option Found

@@ -33,8 +33,8 @@ abbrev pub is_accepted : Listing → Attribute → Bool
 is_accepted l e = cond (is_kept (form_of l.form) e) ((row_of (grammar_of l) l.context e).rule.accepted e.payload) true
 
 -- The rest of a list after an attribute.
-abbrev pub behind : Listing → Attribute → Listing
-behind l e = record { form = l.form; table = l.table; context = cond (is_kept (form_of l.form) e) ((grammar_of l).next l.context e) l.context; judged = l.judged }
+abbrev pub following : Listing → Attribute → Listing
+following l e = record { form = l.form; table = l.table; context = cond (is_kept (form_of l.form) e) ((grammar_of l).next l.context e) l.context; judged = l.judged }
 
 -- ---- the rules of contents
 

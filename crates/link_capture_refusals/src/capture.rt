@@ -12,35 +12,35 @@ use crate::walk::link_refusal;
 use arrayvec::ArrayVec;
 use link_capture_checks::{check, frame_body};
 use link_capture_grammar::fault::{CaptureFault, FaultKind};
-use link_capture_grammar::laws::faults_stand_at_frames;
+use link_capture_grammar::laws::faults_are_at_frames;
 use link_capture_grammar::link_types::is_link_type;
 use netlink_packet_core::{NETLINK_HEADER_LEN, NetlinkBuffer};
 
-/// Returns the bytes after the first `front`.
-fn behind(bytes: &[u8], front: u64) -> &[u8]
-    requires { front ≤ length bytes.now }
-    ensures { result.now ≡ drop front bytes.now }
+/// Returns the bytes after the first `skipped`.
+fn following(bytes: &[u8], skipped: u64) -> &[u8]
+    requires { skipped ≤ length bytes.now }
+    ensures { result.now ≡ drop skipped bytes.now }
 {
-    &bytes[front as usize..]
+    &bytes[skipped as usize..]
 }
 
 /// Returns the reason why the first frame of `frame`, whose fault is a refused body, is refused.
-/// `place` is the frame's offset in the capture, in bytes. Bytes after the frame change nothing
-/// (`refused_frames_stand_alone`). Allocates nothing.
+/// `offset` is the frame's offset in the capture, in bytes. Bytes after the frame change nothing
+/// (`refusals_are_independent`). Allocates nothing.
 #[tactic(auto, unfolding(crate::specs::Refusals::frame_refusal))]
-pub fn why_frame(frame: &[u8], place: u64) -> Option<Refusal>
+pub fn why_frame(frame: &[u8], offset: u64) -> Option<Refusal>
     requires frame { IsFrame frame.now }
-    requires near { place + length frame.now < 2 ^ 63 }
-    ensures { all_found result ≡ frame_refusal place frame.now }
+    requires near { offset + length frame.now < 2 ^ 63 }
+    ensures { all_found result ≡ frame_refusal offset frame.now }
 {
     let body = frame_body(frame);
-    let start = place + NETLINK_HEADER_LEN as u64;
+    let start = offset + NETLINK_HEADER_LEN as u64;
     if is_link_type(NetlinkBuffer::new(frame).message_type()) {
         return link_refusal(true, start, start, body);
     }
     Some(Refusal {
         path: ArrayVec::new(),
-        place: None,
+        offset: None,
         reason: Reason::CutCode(body.len()),
     })
 }
@@ -52,13 +52,13 @@ pub fn why_frame(frame: &[u8], place: u64) -> Option<Refusal>
 pub fn why(bytes: &[u8], limit: u32) -> Option<Refusal>
     ensures { all_found result ≡ refusal limit bytes.now }
 {
-    faults_stand_at_frames();
+    faults_are_at_frames();
     refused_frames_are_whole();
     let Err(CaptureFault { kind, offset }) = check(bytes, limit) else {
         return None;
     };
     match kind {
-        FaultKind::Refused => why_frame(behind(bytes, offset), offset),
+        FaultKind::Refused => why_frame(following(bytes, offset), offset),
         _ => None,
     }
 }

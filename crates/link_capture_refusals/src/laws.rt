@@ -1,14 +1,14 @@
 //! Laws of the definitions. The functions here call only laws of the crates below.
 
 ghost use Rattle.link_capture_refusals.specs.RowRules.{LinksAreTables, RowsAreTheTables};
-ghost use Rattle.link_capture_refusals.specs.RefusalLaws.{LinksAreAccepted, ListsAreAccepted, ListsGoBySteps};
-ghost use Rattle.link_capture_refusals.specs.RefusalLaws.{RefusedBodiesAreTold, RefusedFramesAreWhole, RefusedFramesStandAlone};
+ghost use Rattle.link_capture_refusals.specs.RefusalLaws.{LinksAreAccepted, ListsAreAccepted, ListsUnfoldByAttributes};
+ghost use Rattle.link_capture_refusals.specs.RefusalLaws.{RefusedBodiesHaveRefusals, RefusedFramesAreWhole, RefusalsAreIndependent};
 
 use attribute_tables_grammar::laws::{
-    measures_go_by_steps, measures_tell_rules, names_are_looked_up, rows_are_looked_up,
+    measures_unfold, measures_determine_rules, names_are_looked_up, rows_are_looked_up,
 };
-use link_capture_grammar::laws::captures_go_by_frames;
-use netlink_packet_core_grammar::laws::{first_attributes_are_within, numbers_stand_alone};
+use link_capture_grammar::laws::captures_unfold_by_frames;
+use netlink_packet_core_grammar::laws::{first_attributes_are_within, numbers_are_independent};
 
 /// The content of each row is that of the row in the grammar's table.
 #[tactic(auto, using(crate::proofs::Built::tables))]
@@ -28,9 +28,9 @@ pub fn links_are_tables()
 }
 
 /// The refusal of a list is that of its first attribute, or else that of the attributes after it.
-#[tactic(auto, using(crate::proofs::ListSteps::steps))]
-pub fn lists_go_by_steps()
-    ensures { ListsGoBySteps }
+#[tactic(auto, using(crate::proofs::ListUnfolding::steps))]
+pub fn lists_unfold_by_attributes()
+    ensures { ListsUnfoldByAttributes }
 {
     first_attributes_are_within();
 }
@@ -41,8 +41,8 @@ pub fn lists_are_accepted()
     ensures { ListsAreAccepted }
 {
     first_attributes_are_within();
-    measures_go_by_steps();
-    measures_tell_rules();
+    measures_unfold();
+    measures_determine_rules();
     rows_are_the_tables();
 }
 
@@ -52,8 +52,8 @@ pub fn links_are_accepted()
     ensures { LinksAreAccepted }
 {
     first_attributes_are_within();
-    measures_go_by_steps();
-    measures_tell_rules();
+    measures_unfold();
+    measures_determine_rules();
     rows_are_the_tables();
     links_are_tables();
 }
@@ -62,25 +62,25 @@ pub fn links_are_accepted()
 pub fn refused_frames_are_whole()
     ensures { RefusedFramesAreWhole }
 {
-    captures_go_by_frames();
+    captures_unfold_by_frames();
 }
 
 /// A capture has a refusal if and only if its first fault is a refused body. For a link the refusal
 /// has an offset, from the start of the faulty frame to its end, which is included; for other
 /// messages it has none.
-#[tactic(auto, using(crate::proofs::Captures::told))]
-pub fn refused_bodies_are_told()
-    ensures { RefusedBodiesAreTold }
+#[tactic(auto, using(crate::proofs::Captures::refused_body_has_refusal))]
+pub fn refused_bodies_have_refusals()
+    ensures { RefusedBodiesHaveRefusals }
 {
-    captures_go_by_frames();
+    captures_unfold_by_frames();
     first_attributes_are_within();
     links_are_accepted();
 }
 
 /// The refusal of a frame depends only on the frame's bytes, whatever follows.
-#[tactic(auto, using(crate::proofs::Alone::alone))]
-pub fn refused_frames_stand_alone()
-    ensures { RefusedFramesStandAlone }
+#[tactic(auto, using(crate::proofs::Independent::independent))]
+pub fn refusals_are_independent()
+    ensures { RefusalsAreIndependent }
 {
-    numbers_stand_alone();
+    numbers_are_independent();
 }

@@ -12,4 +12,4 @@ mod walk;
 
 pub use capture::{why, why_frame};
 pub use reason::Reason;
-pub use refusal::{Refusal, behind_name};
+pub use refusal::{Refusal, separator_after_name};

@@ -1,15 +1,15 @@
 //! Names and rows by kind.
 
 ghost use Rattle.std.specs.Prelude.{◌≡◌, ◌<◌, true, [], get_or, length, option_map};
-ghost use Rattle.link_capture_refusals.specs.RefusalTables.{all_said, find, is_name, said};
+ghost use Rattle.link_capture_refusals.specs.RefusalTables.{all_row_values, find, is_name, row_values};
 
 use crate::rows::NamedRow;
 
 /// Returns the rows of the table with an index.
 pub(crate) fn rows_at<'a>(tables: &'a [&'a [NamedRow]], index: u8) -> &'a [NamedRow]
     requires { index < length tables.now }
-    ensures { said (λ n. n.now) result.now
-        ≡ get_or (all_said (λ b. b.now) (λ n. n.now) tables.now) index [] }
+    ensures { row_values (λ n. n.now) result.now
+        ≡ get_or (all_row_values (λ b. b.now) (λ n. n.now) tables.now) index [] }
 {
     tables[index as usize]
 }
@@ -17,7 +17,7 @@ pub(crate) fn rows_at<'a>(tables: &'a [&'a [NamedRow]], index: u8) -> &'a [Named
 /// Returns the row of a kind, which has no flag bits.
 pub(crate) fn find(rows: &[NamedRow], kind: u16) -> Option<NamedRow>
     ensures { option_map (λ r. (r.0, r.1.now, r.2)) result
-        ≡ find kind (said (λ n. n.now) rows.now) }
+        ≡ find kind (row_values (λ n. n.now) rows.now) }
 {
     for row in rows {
         let row = *row;

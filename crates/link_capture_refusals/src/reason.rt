@@ -1,7 +1,7 @@
 //! Why something is refused.
 
 ghost use Rattle.std.specs.Prelude.{◌≡◌, ◌+◌, ◌≤◌, Some, length};
-ghost use Rattle.link_capture_refusals.specs.ReasonWords.{counted, words, shape_reason};
+ghost use Rattle.link_capture_refusals.specs.ReasonTexts.{counted, words, shape_reason};
 
 use arrayvec::ArrayString;
 use itoa::Buffer;
@@ -62,16 +62,16 @@ fn plain(text: &str) -> ArrayString<160>
 }
 
 /// Returns a number in decimal between two texts.
-fn counted(before: &str, count: usize, behind: &str) -> ArrayString<160>
-    requires { length before.now + length behind.now ≤ 64 }
-    ensures text { result.bytes ≡ counted before.now count behind.now }
+fn counted(before: &str, count: usize, following: &str) -> ArrayString<160>
+    requires { length before.now + length following.now ≤ 64 }
+    ensures text { result.bytes ≡ counted before.now count following.now }
     ensures short { length result.bytes ≤ 104 }
 {
     let mut digits = Buffer::new();
     let mut words = ArrayString::new();
     words.push_str(before);
     words.push_str(digits.format(count));
-    words.push_str(behind);
+    words.push_str(following);
     words
 }
 

@@ -1,10 +1,10 @@
 //! Refusals: the attribute that isn't accepted, its offset and the reason.
 
 ghost use Rattle.std.specs.Prelude.{◌≡◌, ◌≤◌, ◌<◌, ◌+◌, ◌++◌, length, map, Some};
-ghost use Rattle.link_capture_refusals.specs.ReasonWords.{words};
+ghost use Rattle.link_capture_refusals.specs.ReasonTexts.{words};
 ghost use Rattle.link_capture_refusals.specs.Refusals.{found_at, named};
 ghost use Rattle.link_capture_refusals.specs.RefusalViews.{found};
-ghost use Rattle.link_capture_refusals.specs.RefusalWords.{behind_name, path_text, place_text, refusal_text};
+ghost use Rattle.link_capture_refusals.specs.RefusalTexts.{separator_after_name, path_text, offset_text, refusal_text};
 ghost use Rattle.std.specs.Fmt.{WritesOnOk, WritesStyledOnOk};
 
 use crate::reason::Reason;
@@ -23,19 +23,19 @@ pub struct Refusal {
     pub path: ArrayVec<&'static str, DEPTH>,
     /// The offset at which the attribute begins, or the bytes that are no attribute, in bytes from
     /// the capture's start. NLMSG_ERROR and NLMSG_DONE have none.
-    pub place: Option<u64>,
+    pub offset: Option<u64>,
     pub reason: Reason,
 }
 
 impl Refusal {
     /// Returns a refusal outside of all attributes, at an offset.
-    pub(crate) fn at(place: u64, reason: Reason) -> Self
-        ensures found { found result ≡ found_at place reason }
+    pub(crate) fn at(offset: u64, reason: Reason) -> Self
+        ensures found { found result ≡ found_at offset reason }
         ensures bare { length result.path.items ≡ 0 }
     {
         Refusal {
             path: ArrayVec::new(),
-            place: Some(place),
+            offset: Some(offset),
             reason,
         }
     }
@@ -53,21 +53,21 @@ impl Refusal {
     /// Returns the text after the names: the reason, and the offset if there is one. Allocates
     /// nothing.
     pub fn reason_text(&self) -> ArrayString<256>
-        ensures { result.bytes ≡ words self.now.reason ++ place_text self.now.place }
+        ensures { result.bytes ≡ words self.now.reason ++ offset_text self.now.offset }
     {
         let mut text = ArrayString::new();
         text.push_str(self.reason.text().as_str());
-        if let Some(place) = self.place {
+        if let Some(offset) = self.offset {
             text.push_str(" at ");
-            text.push_str(Buffer::new().format(place));
+            text.push_str(Buffer::new().format(offset));
         }
         text
     }
 }
 
 /// Returns the separator after a name, before the names of attributes inside it.
-pub fn behind_name(rest: &[&'static str]) -> &'static str
-    ensures { result.now ≡ behind_name (map (λ n. n.now) rest.now) }
+pub fn separator_after_name(rest: &[&'static str]) -> &'static str
+    ensures { result.now ≡ separator_after_name (map (λ n. n.now) rest.now) }
 {
     if rest.is_empty() { ": " } else { " > " }
 }
@@ -80,7 +80,7 @@ fn write_path<W: fmt::Write>(f: &mut fmt::Formatter<W>, path: &[&'static str]) -
     let mut left = path;
     'names: while let [name, rest @ ..] = left {
         f.write_str(name)?;
-        f.write_str(behind_name(rest))?;
+        f.write_str(separator_after_name(rest))?;
         left = rest;
     }
     Ok(())

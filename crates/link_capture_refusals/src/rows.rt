@@ -5,8 +5,8 @@ use crate::named_rows;
 use link_tables::Form::{Any, OfKindOne, Ports};
 use link_tables::Held::{LinkInfo, List, Peer, Plain};
 use link_tables::Shape::{
-    AtMost, Either, Exact, FixedRecord, IdAndTruth, NonzeroByte, OneByte, Presence, Raw, Resized,
-    Text, TruthOfFour,
+    AtMost, Either, Exact, FixedRecord, IdAndBoolean, NonzeroByte, OneByte, Presence, Raw, Resized,
+    Text, BooleanOfFour,
 };
 use link_tables::table::{
     BRIDGE_PORT, BRIDGE_SPECIFIC, DEVLINK_PORT, DPLL_PIN, INET, INET6, INET6_PROTOCOL,
@@ -28,12 +28,12 @@ pub type NamedRow = (u16, &'static [u8], Held);
 macro_rules! named_rows {
     ($(
         $kind:literal
-        $(-> $held_name:literal, $held:expr)?
+        $(-> $held_name:literal, $content:expr)?
         $(=> $nested_name:literal, $nested:expr)?
         $(, $name:literal $(, $shape:expr, $shown:expr)?)?;
     )*) => {
         [$(
-            $(($kind, $held_name, $held),)?
+            $(($kind, $held_name, $content),)?
             $(($kind, $nested_name, $nested),)?
             $($(($kind, $name, Plain($shape)),)?)?
         )*]

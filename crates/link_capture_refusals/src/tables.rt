@@ -7,7 +7,7 @@ ghost use Rattle.link_tables.specs.InForce.{held_in_force, in_force};
 ghost use Rattle.link_tables.specs.Rows.{form_of};
 ghost use Rattle.link_capture_refusals.specs.RefusalTables.{IsLower, data_rows, find, info_inside, info_row, inside_of};
 ghost use Rattle.link_capture_refusals.specs.RefusalTables.{listing, message_rows, row_in, table_row, table_rows, whole};
-ghost use Rattle.link_capture_refusals.specs.RowRules.{behind};
+ghost use Rattle.link_capture_refusals.specs.RowRules.{following};
 
 use crate::names::{find, rows_at, text_of};
 use crate::reason::Reason;
@@ -57,10 +57,10 @@ impl<'a> Listed<'a> {
 }
 
 /// Returns the content of a payload.
-fn inside_of(held: Held) -> Inside
-    ensures { result ≡ inside_of held }
+fn inside_of(content: Held) -> Inside
+    ensures { result ≡ inside_of content }
 {
-    match held {
+    match content {
         Held::Plain(shape) => Inside::Value(shape),
         Held::Peer => Inside::Peer,
         Held::List(form, table) => Inside::List(form, table),
@@ -74,7 +74,7 @@ fn info_inside(force: InForce<'_>, kind: u16) -> Inside
     ensures lower { IsLower LINK_INFO.0 result }
 {
     match info_held(force, kind) {
-        Some(held) => inside_of(held),
+        Some(content) => inside_of(content),
         None if kind == IFLA_INFO_SLAVE_DATA => Inside::Refused(Reason::NoPortKind),
         None => Inside::Refused(Reason::NoKind),
     }
@@ -133,7 +133,7 @@ fn table_row(table: Table, kind: u16) -> Option<(&'static str, Inside)>
     ensures lower { IfSome result (λ x. IsLower table.0 x.1) }
 {
     match named_row(table, kind) {
-        Some((_, name, held)) => Some((text_of(name), inside_of(held))),
+        Some((_, name, content)) => Some((text_of(name), inside_of(content))),
         None => None,
     }
 }
@@ -158,7 +158,7 @@ pub fn is_kept(form: Form, kind: u16) -> bool
 {
     match form {
         Form::OfKindOne | Form::Ports => kind % KIND_BOUND == 1,
-        Form::Any | Form::NonEmpty | Form::FirstAlone => true,
+        Form::Any | Form::NonEmpty | Form::FirstOnly => true,
     }
 }
 
@@ -166,7 +166,7 @@ pub fn is_kept(form: Form, kind: u16) -> bool
 #[tactic(auto, unfolding(crate::specs::RowRules::grammar_at))]
 pub fn next_list<'a>(list: Listed<'a>, kind: u16, payload: &'a [u8]) -> Listed<'a>
     ensures { listing result
-        ≡ behind (listing list.entry) (record { kind = kind; payload = payload.now }) }
+        ≡ following (listing list.entry) (record { kind = kind; payload = payload.now }) }
 {
     if !is_kept(list.form, kind) || !list.table.is_link_info() {
         return list;

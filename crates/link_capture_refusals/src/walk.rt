@@ -4,18 +4,18 @@ ghost use Rattle.std.specs.Prelude.{◌≡◌, ◌≤◌, ◌<◌, ◌+◌, ◌^
 ghost use Rattle.link_tables.specs.Rows.{shape_of};
 ghost use Rattle.link_interpreter.specs.Sameness.{attribute_of};
 ghost use Rattle.attribute_tables_grammar.specs.Shapes.{accepts};
-ghost use Rattle.link_capture_refusals.specs.ReasonWords.{shape_reason};
+ghost use Rattle.link_capture_refusals.specs.ReasonTexts.{shape_reason};
 ghost use Rattle.link_capture_refusals.specs.RefusalTables.{depth, inside_depth, listing};
 ghost use Rattle.link_capture_refusals.specs.RowRules.{inside_rule, peer_of};
-ghost use Rattle.link_capture_refusals.specs.Refusals.{attribute_refusal, found_at, goes_on, inside_refusal, link_refusal};
+ghost use Rattle.link_capture_refusals.specs.Refusals.{attribute_refusal, found_at, list_rest, inside_refusal, link_refusal};
 ghost use Rattle.link_capture_refusals.specs.Refusals.{list_refusal, no_attribute, peer_refusal, whole_refusal};
 ghost use Rattle.link_capture_refusals.specs.RefusalViews.{all_found};
 
-use crate::laws::{links_are_accepted, lists_are_accepted, lists_go_by_steps, rows_are_the_tables};
+use crate::laws::{links_are_accepted, lists_are_accepted, lists_unfold_by_attributes, rows_are_the_tables};
 use crate::reason::{Reason, shape_reason};
 use crate::refusal::Refusal;
 use crate::tables::{Inside, Listed, is_kept, next_list, row_in};
-use attribute_tables_grammar::laws::measures_tell_rules;
+use attribute_tables_grammar::laws::measures_determine_rules;
 use link_interpreter::{Attribute, KIND_BOUND, PeerSet, first_attribute, measure_shape};
 use link_message_checks::{LinkPeer, has_empty_ports};
 use link_tables::{Form, LINK_HEADER_LEN, Shape, family_table};
@@ -33,99 +33,99 @@ fn no_attribute(bytes: &[u8]) -> Reason
     }
 }
 
-/// Returns the refusal of a value in the attribute at `own`.
-fn value_refusal(shape: Shape, own: u64, payload: &[u8]) -> Option<Refusal>
+/// Returns the refusal of a value in the attribute at `attribute_offset`.
+fn value_refusal(shape: Shape, attribute_offset: u64, payload: &[u8]) -> Option<Refusal>
     ensures found { all_found result ≡ cond (accepts (shape_of shape) payload.now) None
-        (Some (found_at own (shape_reason shape (length payload.now)))) }
+        (Some (found_at attribute_offset (shape_reason shape (length payload.now)))) }
     ensures bare { IfSome result (λ r. length r.path.items ≡ 0) }
 {
-    measures_tell_rules();
+    measures_determine_rules();
     if measure_shape(shape, payload).is_some() {
         return None;
     }
-    Some(Refusal::at(own, shape_reason(shape, payload.len())))
+    Some(Refusal::at(attribute_offset, shape_reason(shape, payload.len())))
 }
 
-/// Returns the refusal of a link's body at `place`: of its header, or of one of its attributes.
+/// Returns the refusal of a link's body at `offset`: of its header, or of one of its attributes.
 #[cycle(refusal)]
-pub(crate) fn link_refusal(judged: bool, own: u64, place: u64, body: &[u8]) -> Option<Refusal>
-    requires near { place + length body.now < 2 ^ 63 }
-    ensures found { all_found result ≡ link_refusal list_refusal judged own place body.now }
-    ensures room { IfSome result (λ r. length r.path.items ≤ cond judged 7 4) }
+pub(crate) fn link_refusal(judged: bool, attribute_offset: u64, offset: u64, body: &[u8]) -> Option<Refusal>
+    requires near { offset + length body.now < 2 ^ 63 }
+    ensures found { all_found result ≡ link_refusal list_refusal judged attribute_offset offset body.now }
+    ensures path_fits { IfSome result (λ r. length r.path.items ≤ cond judged 7 4) }
 {
     if body.len() < LINK_HEADER_LEN {
-        return Some(Refusal::at(own, Reason::CutLink(body.len())));
+        return Some(Refusal::at(attribute_offset, Reason::CutLink(body.len())));
     }
     let list = Listed::new(Form::Any, family_table(body[0]), judged);
-    list_refusal(list, place + 16, &body[LINK_HEADER_LEN..])
+    list_refusal(list, offset + 16, &body[LINK_HEADER_LEN..])
 }
 
-/// Returns the refusal of a peer in the attribute at `own`.
+/// Returns the refusal of a peer in the attribute at `attribute_offset`.
 #[cycle(refusal)]
-fn peer_refusal(judged: bool, own: u64, payload: &[u8]) -> Option<Refusal>
-    requires near { own + 4 + length payload.now < 2 ^ 63 }
+fn peer_refusal(judged: bool, attribute_offset: u64, payload: &[u8]) -> Option<Refusal>
+    requires near { attribute_offset + 4 + length payload.now < 2 ^ 63 }
     ensures found { all_found result
-        ≡ cond ((peer_of judged).accepted payload.now) None (peer_refusal list_refusal own payload.now) }
-    ensures room { IfSome result (λ r. length r.path.items ≤ cond judged 4 0) }
+        ≡ cond ((peer_of judged).accepted payload.now) None (peer_refusal list_refusal attribute_offset payload.now) }
+    ensures path_fits { IfSome result (λ r. length r.path.items ≤ cond judged 4 0) }
 {
-    measures_tell_rules();
+    measures_determine_rules();
     links_are_accepted();
     if !judged || LinkPeer.measure_peer(payload).is_some() {
         return None;
     }
-    let found = link_refusal(false, own, own + 4, payload);
+    let found = link_refusal(false, attribute_offset, attribute_offset + 4, payload);
     if found.is_some() {
         return found;
     }
     if has_empty_ports(payload) {
-        return Some(Refusal::at(own, Reason::EmptyPorts));
+        return Some(Refusal::at(attribute_offset, Reason::EmptyPorts));
     }
-    Some(Refusal::at(own, Reason::Unfit))
+    Some(Refusal::at(attribute_offset, Reason::Unfit))
 }
 
-/// Returns the refusal of a list in the attribute at `own`.
+/// Returns the refusal of a list in the attribute at `attribute_offset`.
 #[cycle(refusal)]
-fn whole_refusal(list: Listed<'_>, own: u64, payload: &[u8]) -> Option<Refusal>
-    requires near { own + 4 + length payload.now < 2 ^ 63 }
+fn whole_refusal(list: Listed<'_>, attribute_offset: u64, payload: &[u8]) -> Option<Refusal>
+    requires near { attribute_offset + 4 + length payload.now < 2 ^ 63 }
     ensures found { all_found result
-        ≡ whole_refusal list_refusal (listing list.entry) own payload.now }
-    ensures room { IfSome result
+        ≡ whole_refusal list_refusal (listing list.entry) attribute_offset payload.now }
+    ensures path_fits { IfSome result
         (λ r. length r.path.items ≤ depth list.entry.judged list.entry.table.0) }
 {
     if !payload.is_empty() {
-        return list_refusal(list, own + 4, payload);
+        return list_refusal(list, attribute_offset + 4, payload);
     }
     match list.form {
-        Form::NonEmpty | Form::Ports => Some(Refusal::at(own, Reason::EmptyList)),
-        Form::FirstAlone => Some(Refusal::at(own + 4, Reason::CutHeader(0))),
+        Form::NonEmpty | Form::Ports => Some(Refusal::at(attribute_offset, Reason::EmptyList)),
+        Form::FirstOnly => Some(Refusal::at(attribute_offset + 4, Reason::CutHeader(0))),
         Form::Any | Form::OfKindOne => None,
     }
 }
 
-/// Returns the refusal of a payload in the attribute at `own`.
+/// Returns the refusal of a payload in the attribute at `attribute_offset`.
 #[cycle(refusal)]
-fn inside_refusal(judged: bool, inside: Inside, own: u64, payload: &[u8]) -> Option<Refusal>
-    requires near { own + 4 + length payload.now < 2 ^ 63 }
+fn inside_refusal(judged: bool, inside: Inside, attribute_offset: u64, payload: &[u8]) -> Option<Refusal>
+    requires near { attribute_offset + 4 + length payload.now < 2 ^ 63 }
     ensures found { all_found result ≡ cond ((inside_rule judged inside).accepted payload.now) None
-        (inside_refusal list_refusal judged inside own payload.now) }
-    ensures room { IfSome result (λ r. length r.path.items ≤ inside_depth judged inside) }
+        (inside_refusal list_refusal judged inside attribute_offset payload.now) }
+    ensures path_fits { IfSome result (λ r. length r.path.items ≤ inside_depth judged inside) }
 {
     lists_are_accepted();
     match inside {
-        Inside::Refused(reason) => Some(Refusal::at(own, reason)),
-        Inside::Value(shape) => value_refusal(shape, own, payload),
-        Inside::List(form, table) => whole_refusal(Listed::new(form, table, judged), own, payload),
-        Inside::Peer => peer_refusal(judged, own, payload),
+        Inside::Refused(reason) => Some(Refusal::at(attribute_offset, reason)),
+        Inside::Value(shape) => value_refusal(shape, attribute_offset, payload),
+        Inside::List(form, table) => whole_refusal(Listed::new(form, table, judged), attribute_offset, payload),
+        Inside::Peer => peer_refusal(judged, attribute_offset, payload),
     }
 }
 
-/// Returns the refusal of an attribute at `place`.
+/// Returns the refusal of an attribute at `offset`.
 #[cycle(refusal)]
-fn attribute_refusal(list: Listed<'_>, place: u64, attribute: Attribute<'_>) -> Option<Refusal>
-    requires near { place + 4 + length attribute.payload.now < 2 ^ 63 }
-    ensures found { all_found result ≡ attribute_refusal list_refusal (listing list.entry) place
+fn attribute_refusal(list: Listed<'_>, offset: u64, attribute: Attribute<'_>) -> Option<Refusal>
+    requires near { offset + 4 + length attribute.payload.now < 2 ^ 63 }
+    ensures found { all_found result ≡ attribute_refusal list_refusal (listing list.entry) offset
         (attribute_of attribute.entry) }
-    ensures room { IfSome result
+    ensures path_fits { IfSome result
         (λ r. length r.path.items ≤ depth list.entry.judged list.entry.table.0) }
 {
     rows_are_the_tables();
@@ -135,45 +135,45 @@ fn attribute_refusal(list: Listed<'_>, place: u64, attribute: Attribute<'_>) -> 
     let Some((name, inside)) = row_in(list, attribute.kind % KIND_BOUND) else {
         return None;
     };
-    match inside_refusal(list.judged, inside, place, attribute.payload) {
+    match inside_refusal(list.judged, inside, offset, attribute.payload) {
         Some(found) => Some(found.inside(name)),
         None => None,
     }
 }
 
 /// Returns the bytes with which a list continues after an attribute.
-fn goes_on(form: Form, after: &[u8]) -> &[u8]
-    ensures { result.now ≡ goes_on form after.now }
+fn list_rest(form: Form, after: &[u8]) -> &[u8]
+    ensures { result.now ≡ list_rest form after.now }
 {
     match form {
-        Form::FirstAlone => &[],
+        Form::FirstOnly => &[],
         Form::Any | Form::NonEmpty | Form::OfKindOne | Form::Ports => after,
     }
 }
 
-/// Returns the refusal of a list whose bytes begin at `place`.
+/// Returns the refusal of a list whose bytes begin at `offset`.
 #[cycle(refusal)]
-fn list_refusal(list: Listed<'_>, place: u64, bytes: &[u8]) -> Option<Refusal>
-    requires near { place + length bytes.now < 2 ^ 63 }
-    ensures found { all_found result ≡ list_refusal (listing list.entry) place bytes.now }
-    ensures room { IfSome result
+fn list_refusal(list: Listed<'_>, offset: u64, bytes: &[u8]) -> Option<Refusal>
+    requires near { offset + length bytes.now < 2 ^ 63 }
+    ensures found { all_found result ≡ list_refusal (listing list.entry) offset bytes.now }
+    ensures path_fits { IfSome result
         (λ r. length r.path.items ≤ depth list.entry.judged list.entry.table.0) }
 {
-    lists_go_by_steps();
+    lists_unfold_by_attributes();
     let mut list = list;
-    let mut place = place;
+    let mut offset = offset;
     let mut rest = bytes;
     while !rest.is_empty() {
         let Some((attribute, after)) = first_attribute(rest) else {
-            return Some(Refusal::at(place, no_attribute(rest)));
+            return Some(Refusal::at(offset, no_attribute(rest)));
         };
-        let found = attribute_refusal(list, place, attribute);
+        let found = attribute_refusal(list, offset, attribute);
         if found.is_some() {
             return found;
         }
         list = next_list(list, attribute.kind, attribute.payload);
-        place += nla_align(4 + attribute.payload.len()) as u64;
-        rest = goes_on(list.form, after);
+        offset += nla_align(4 + attribute.payload.len()) as u64;
+        rest = list_rest(list.form, after);
     }
     None
 }

@@ -7,16 +7,16 @@ use Rattle.attribute_tables_grammar.specs.Peers.{Peer, bytes_peer}
 use Rattle.link_message_grammar.specs.Body.{header_text, attribute_bytes, family, list_rule_of, body_rule, link_peer, link_body}
 use Rattle.link_message_grammar.specs.LinkMessage.{family_of, unspec, bridge, inet_6, other}
 use Rattle.link_message_grammar.proofs.Body.{written_header}
-use Rattle.link_capture_spellings.specs.declared.placed.Spelling.TheVariants.{HeaderByte}
-use Rattle.link_capture_spellings.specs.declared.tables.Table.TheVariants.{Unspec, Bridge, Link}
-use Rattle.link_capture_spellings.specs.SpellingRows.{told_if, header_spelling}
-use Rattle.link_capture_spellings.specs.SpellingTables.{family_table}
-use Rattle.link_capture_spellings.specs.SpellingLists.{told_at, list_told}
-use Rattle.link_capture_spellings.specs.SpellingLaws.{ListsGoBySteps, link_list, WrittenAttributesHaveNone}
-use Rattle.link_capture_spellings.specs.Spellings.{body_list, link_told}
-use Rattle.link_capture_spellings.proofs.Lists.{Silent}
-use Rattle.link_capture_spellings.proofs.KindData.{PeerHasNone}
-use Rattle.link_capture_spellings.proofs.Links.{attributes-none}
+use Rattle.link_capture_quirks.specs.declared.quirk_at.Quirk.TheVariants.{HeaderByte}
+use Rattle.link_capture_quirks.specs.declared.tables.Table.TheVariants.{Unspec, Bridge, Link}
+use Rattle.link_capture_quirks.specs.QuirkRows.{quirk_if, header_quirk}
+use Rattle.link_capture_quirks.specs.QuirkTables.{family_table}
+use Rattle.link_capture_quirks.specs.QuirkLists.{quirks_at, list_quirks}
+use Rattle.link_capture_quirks.specs.QuirkLaws.{ListsUnfoldByAttributes, link_list, WrittenAttributesHaveNone}
+use Rattle.link_capture_quirks.specs.CaptureQuirks.{body_list, link_quirks}
+use Rattle.link_capture_quirks.proofs.Lists.{NoneInside}
+use Rattle.link_capture_quirks.proofs.KindData.{PeerHasNone}
+use Rattle.link_capture_quirks.proofs.Links.{attributes-none}
 
 -- the list kind of a family is determined by the first byte
 family-list : (n : ℕ) → family_table n ≡ link_list (family_of n)
@@ -36,47 +36,47 @@ second-byte : (b more : List ℕ) → nat_le 16 (length b) ≡ true → slice_in
 second-byte (f ∷ x ∷ k ∷ l ∷ tail) more h = refl
 second-byte b more h = absurd cc
 
-header-none : (t : ℕ) (b more : List ℕ) → nat_le 16 (length b) ≡ true → (place : ℕ) → told_at place (header_spelling t (header_text b ++ more)) ≡ []
-header-none t b more h place =
-    ap (λ n. told_at place (told_if (eqb t 18 && not (eqb n 0)) HeaderByte)) (second-byte b more h)
-    ∙ ap (λ x. told_at place (told_if x HeaderByte)) (and-false (eqb t 18))
+header-none : (t : ℕ) (b more : List ℕ) → nat_le 16 (length b) ≡ true → (offset : ℕ) → quirks_at offset (header_quirk t (header_text b ++ more)) ≡ []
+header-none t b more h offset =
+    ap (λ n. quirks_at offset (quirk_if (eqb t 18 && not (eqb n 0)) HeaderByte)) (second-byte b more h)
+    ∙ ap (λ x. quirks_at offset (quirk_if x HeaderByte)) (and-false (eqb t 18))
 
-module _ (s : ListsGoBySteps) (w : WrittenAttributesHaveNone) (p : Peer) (j : Bool) (peers : PeerHasNone p j) where
+module _ (s : ListsUnfoldByAttributes) (w : WrittenAttributesHaveNone) (p : Peer) (j : Bool) (peers : PeerHasNone p j) where
   -- the attributes of the text of a body
-  pub list-none : (b : List ℕ) → (body_rule p).accepted b ≡ true → (place : ℕ) →
-      list_told (record { table = family_table (slice_index ((body_rule p).canonical b) 0); judged = j }) place (drop 16 ((body_rule p).canonical b)) ≡ []
+  pub list-none : (b : List ℕ) → (body_rule p).accepted b ≡ true → (offset : ℕ) →
+      list_quirks (record { table = family_table (slice_index ((body_rule p).canonical b) 0); judged = j }) offset (drop 16 ((body_rule p).canonical b)) ≡ []
   unfolding body_rule
-  list-none b a place =
+  list-none b a offset =
       let h = and_parts (nat_le 16 (length b)) ((list_rule_of p (family b)).accepted (attribute_bytes b)) a in
       let text = (list_rule_of p (family b)).canonical (attribute_bytes b) in
       let rest : List ℕ = drop 16 (header_text b ++ text) in
-      ap (λ n. list_told (record { table = family_table n; judged = j }) place rest) (first-byte b text h.0)
-      ∙ ap (λ t. list_told (record { table = t; judged = j }) place rest) (family-list (slice_index b 0))
-      ∙ ap (list_told (record { table = link_list (family b); judged = j }) place) ((written_header b h.0).rest text)
-      ∙ attributes-none s w p j peers (family b) place (attribute_bytes b) h.1
+      ap (λ n. list_quirks (record { table = family_table n; judged = j }) offset rest) (first-byte b text h.0)
+      ∙ ap (λ t. list_quirks (record { table = t; judged = j }) offset rest) (family-list (slice_index b 0))
+      ∙ ap (list_quirks (record { table = link_list (family b); judged = j }) offset) ((written_header b h.0).rest text)
+      ∙ attributes-none s w p j peers (family b) offset (attribute_bytes b) h.1
 
 -- ---- peers that are bytes, and peers that are link bodies
 
 bytes-none : PeerHasNone bytes_peer false
-bytes-none b a place = refl
+bytes-none b a offset = refl
 
-module _ (s : ListsGoBySteps) (w : WrittenAttributesHaveNone) where
+module _ (s : ListsUnfoldByAttributes) (w : WrittenAttributesHaveNone) where
   links-none : PeerHasNone link_peer true
   unfolding link_peer
   links-none b a = go (leb 16 (length ((body_rule bytes_peer).canonical b)) && true)
     where
-      go : (x : Bool) → Silent (cond x (Some (record { table = family_table (slice_index ((body_rule bytes_peer).canonical b) 0); judged = false }, 16)) None) ((body_rule bytes_peer).canonical b)
-      go true place =
+      go : (x : Bool) → NoneInside (cond x (Some (record { table = family_table (slice_index ((body_rule bytes_peer).canonical b) 0); judged = false }, 16)) None) ((body_rule bytes_peer).canonical b)
+      go true offset =
           let h = and_parts ((body_rule bytes_peer).accepted b && not ((body_rule bytes_peer).empty_ports b)) ((body_rule bytes_peer).fits b) a in
           let g = and_parts ((body_rule bytes_peer).accepted b) (not ((body_rule bytes_peer).empty_ports b)) h.0 in
-          list-none s w bytes_peer false bytes-none b g.0 (place + 16)
-      go false place = refl
+          list-none s w bytes_peer false bytes-none b g.0 (offset + 16)
+      go false offset = refl
 
   -- the body of a link's message
-  pub body-none : (place t : ℕ) (b : List ℕ) → link_body.accepted b ≡ true → link_told place t (link_body.canonical b) ≡ []
-  unfolding link_told body_rule
-  body-none place t b a =
+  pub body-none : (offset t : ℕ) (b : List ℕ) → link_body.accepted b ≡ true → link_quirks offset t (link_body.canonical b) ≡ []
+  unfolding link_quirks body_rule
+  body-none offset t b a =
       let h = and_parts (nat_le 16 (length b)) ((list_rule_of link_peer (family b)).accepted (attribute_bytes b)) a in
       let text = link_body.canonical b in
-      ap (λ z. z ++ list_told (body_list text) (place + 16) (drop 16 text)) (header-none t b ((list_rule_of link_peer (family b)).canonical (attribute_bytes b)) h.0 (place + 1))
-      ∙ list-none s w link_peer true links-none b a (place + 16)
+      ap (λ z. z ++ list_quirks (body_list text) (offset + 16) (drop 16 text)) (header-none t b ((list_rule_of link_peer (family b)).canonical (attribute_bytes b)) h.0 (offset + 1))
+      ∙ list-none s w link_peer true links-none b a (offset + 16)

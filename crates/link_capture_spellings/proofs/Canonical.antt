@@ -10,9 +10,9 @@ use Rattle.netlink_packet_core_grammar.specs.Attributes.{Attribute, proper_kind,
 use Rattle.netlink_packet_core_grammar.specs.Laws.{WrittenIsFirst}
 use Rattle.netlink_packet_core_grammar.specs.Numbers.{u32_at}
 use Rattle.netlink_packet_core_grammar.specs.Texts.{without_nul}
-use Rattle.netlink_packet_core_grammar.specs.Truths.{truth_of, one_of}
-use Rattle.attribute_tables_grammar.specs.Shapes.{number, number_truth}
-use Rattle.attribute_tables_grammar.specs.Lists.{Row, nothing, rewrite, rewritten, written_kind, row_of, first_alone, kept, if_read, all_accepted, list_rule}
+use Rattle.netlink_packet_core_grammar.specs.Booleans.{boolean_of, one_of}
+use Rattle.attribute_tables_grammar.specs.Shapes.{number, number_boolean}
+use Rattle.attribute_tables_grammar.specs.Lists.{Row, nothing, rewrite, rewritten, written_kind, row_of, first_only, kept, if_read, all_accepted, list_rule}
 use Rattle.attribute_tables_grammar.specs.LookUps.{table_row}
 use Rattle.attribute_tables_grammar.specs.Peers.{Peer}
 use Rattle.attribute_tables_grammar.specs.Tables.{Table as Rows, grammar}
@@ -21,23 +21,23 @@ use Rattle.link_info_grammar.specs.Families.{vxlan, geneve, gre, gre6, ip_tunnel
 use Rattle.link_message_grammar.specs.Body.{attribute_row_under, header_text}
 use Rattle.link_message_grammar.specs.LinkMessage.{Family, unspec, bridge}
 use Rattle.link_message_grammar.specs.NestedTables.{inet, xdp, resized, vf_infos}
-use Rattle.link_capture_spellings.specs.declared.placed.Spelling.{Spelling}
-use Rattle.link_capture_spellings.specs.declared.placed.Spelling.TheVariants.{NestedPortSettings, PathDiscoveryOverOne, LongAlias, NameWithoutNul, FlagWithPayload, TruthOverOne, StrayNestedBit, ShortMap}
-use Rattle.link_capture_spellings.specs.declared.tables.Data.{Data}
-use Rattle.link_capture_spellings.specs.declared.tables.Data.TheVariants.{Vxlan, Geneve, Gre, Gre6, IpTunnel, BareUdp, Batadv, Netkit, Pair}
-use Rattle.link_capture_spellings.specs.declared.tables.Table.TheVariants.{Inet, Programs, Functions, OfKind}
-use Rattle.link_capture_spellings.specs.declared.tables.Listed.{Listed}
-use Rattle.link_capture_spellings.specs.SpellingRows.{told_if, over_one_byte, over_one_word, has_nul, is_long_alias, link_spelling, data_spelling, is_flag, is_strict, bit_spelling, payload_spelling, header_spelling}
-use Rattle.link_capture_spellings.specs.SpellingLists.{told_at, own_told, inside_of, list_behind, inside_told, list_told}
-use Rattle.link_capture_spellings.specs.SpellingTables.{family_table, inside}
-use Rattle.link_capture_spellings.proofs.Inside.{at_kind, either, split}
-use Rattle.link_capture_spellings.specs.SpellingLaws.{ListsGoBySteps, link_list, IsDataTable, WrittenAttributesHaveNone}
+use Rattle.link_capture_quirks.specs.declared.quirk_at.Quirk.{Quirk}
+use Rattle.link_capture_quirks.specs.declared.quirk_at.Quirk.TheVariants.{NestedPortSettings, PathDiscoveryOverOne, LongAlias, NameWithoutNul, FlagWithPayload, BooleanOverOne, StrayNestedBit, ShortMap}
+use Rattle.link_capture_quirks.specs.declared.tables.Data.{Data}
+use Rattle.link_capture_quirks.specs.declared.tables.Data.TheVariants.{Vxlan, Geneve, Gre, Gre6, IpTunnel, BareUdp, Batadv, Netkit, Pair}
+use Rattle.link_capture_quirks.specs.declared.tables.Table.TheVariants.{Inet, Programs, Functions, OfKind}
+use Rattle.link_capture_quirks.specs.declared.tables.Listed.{Listed}
+use Rattle.link_capture_quirks.specs.QuirkRows.{quirk_if, over_one_byte, over_one_u32, has_nul, is_long_alias, link_quirk, data_quirk, is_flag, is_strict, bit_quirk, payload_quirk, header_quirk}
+use Rattle.link_capture_quirks.specs.QuirkLists.{quirks_at, direct_quirks, inside_of, list_kind_after, inside_quirks, list_quirks}
+use Rattle.link_capture_quirks.specs.QuirkTables.{family_table, inside}
+use Rattle.link_capture_quirks.proofs.Inside.{at_kind, either, split}
+use Rattle.link_capture_quirks.specs.QuirkLaws.{ListsUnfoldByAttributes, link_list, IsDataTable, WrittenAttributesHaveNone}
 
-abbrev pub Untold : Option Spelling → Type 0
-Untold o = o ≡ None
+abbrev pub NoQuirk : Option Quirk → Type 0
+NoQuirk o = o ≡ None
 
-pub no : (b : Bool) (s : Spelling) → b ≡ false → Untold (told_if b s)
-no b s h = ap (λ z. told_if z s) h
+pub no : (b : Bool) (s : Quirk) → b ≡ false → NoQuirk (quirk_if b s)
+no b s h = ap (λ z. quirk_if z s) h
 
 -- ---- payloads
 
@@ -45,12 +45,12 @@ pub and-no : (b c : Bool) → (b ≡ true → c ≡ false) → (b && c) ≡ fals
 and-no true c f = f refl
 and-no false c f = refl
 
-pub byte-truth : (p : List ℕ) → over_one_byte (map truth_of p) ≡ false
-byte-truth [] = refl
-byte-truth (zero ∷ []) = refl
-byte-truth (suc b ∷ []) = refl
-byte-truth (a ∷ b ∷ p) =
-    let m : List ℕ = map truth_of p in and-no (eqb (suc (suc (length m))) 1) _ (λ h. absurd (let n : suc (suc (length m)) ≡ 1 = eqb-true (suc (suc (length m))) 1 h in omega (arith, n)))
+pub byte-boolean : (p : List ℕ) → over_one_byte (map boolean_of p) ≡ false
+byte-boolean [] = refl
+byte-boolean (zero ∷ []) = refl
+byte-boolean (suc b ∷ []) = refl
+byte-boolean (a ∷ b ∷ p) =
+    let m : List ℕ = map boolean_of p in and-no (eqb (suc (suc (length m))) 1) _ (λ h. absurd (let n : suc (suc (length m)) ≡ 1 = eqb-true (suc (suc (length m))) 1 h in omega (arith, n)))
 
 pub byte-one : (p : List ℕ) → over_one_byte (map one_of p) ≡ false
 byte-one [] = refl
@@ -80,18 +80,18 @@ ended-short p =
     get_or-append_right p (0 ∷ []) 254 0 (omega (arith, n)) ∙ ap (λ k. slice_index (0 ∷ []) (254 - k)) n in
     ap (λ k. not (eqb k 0)) last)
 
-pub word-truth : (p : List ℕ) → over_one_word (number_truth p) ≡ false
+pub word-boolean : (p : List ℕ) → over_one_u32 (number_boolean p) ≡ false
 unfolding u32_at
-word-truth p = elim (number p) as (λ n. over_one_word (truth_of n ∷ 0 ∷ 0 ∷ 0 ∷ []) ≡ false) [ zero ↦ refl | suc n ↦ refl ]
+word-boolean p = elim (number p) as (λ n. over_one_u32 (boolean_of n ∷ 0 ∷ 0 ∷ 0 ∷ []) ≡ false) [ zero ↦ refl | suc n ↦ refl ]
 
 -- ---- the nested bit of a kind that is written without it
 
-bit-no : (b c : Bool) (s : Spelling) → (c ≡ true → b ≡ false) → Untold (cond b (told_if c s) None)
+bit-no : (b c : Bool) (s : Quirk) → (c ≡ true → b ≡ false) → NoQuirk (cond b (quirk_if c s) None)
 bit-no true true s f = ap (λ b. cond b (Some s) None) (f refl)
 bit-no true false s f = refl
 bit-no false c s f = refl
 
-both-none : (b : Bool) → Untold (cond b None None)
+both-none : (b : Bool) → NoQuirk (cond b None None)
 both-none true = refl
 both-none false = refl
 
@@ -99,7 +99,7 @@ low : (k : ℕ) → leb 0x8000 (proper_kind k + 0) ≡ false
 low k = grind arith
 
 -- the row of such a kind is typed and not nested, so the bit is cleared; the bit of other kinds is no quirk
-cleared : (s : Spelling) (r : Row) (k : ℕ) (c : Bool) → (c ≡ true → (r.is_typed ≡ true) × (r.is_nested ≡ false)) → Untold (cond (leb 0x8000 (written_kind r k)) (told_if c s) None)
+cleared : (s : Quirk) (r : Row) (k : ℕ) (c : Bool) → (c ≡ true → (r.is_typed ≡ true) × (r.is_nested ≡ false)) → NoQuirk (cond (leb 0x8000 (written_kind r k)) (quirk_if c s) None)
 cleared s r k c f =
     bit-no _ c s (λ h.
     let t = f h in
@@ -113,15 +113,15 @@ map-size p h =
     let t : length (take 28 p) ≡ 28 = length-take-le 28 p (leb-true 28 (length p) h) in
     ap (λ n. ltb n 32) (s ∙ ap (λ n. n + 4) t)
 
-pub link-payload : (p : Peer) (f : Family) (k : ℕ) (b : List ℕ) → (attribute_row_under p f k).rule.accepted b ≡ true → Untold (link_spelling k ((attribute_row_under p f k).rule.canonical b))
-unfolding link_spelling
+pub link-payload : (p : Peer) (f : Family) (k : ℕ) (b : List ℕ) → (attribute_row_under p f k).rule.accepted b ≡ true → NoQuirk (link_quirk k ((attribute_row_under p f k).rule.canonical b))
+unfolding link_quirk
 link-payload p f k b h =
-    split Untold (eqb k 3) _ _ (λ e. at_kind (λ n. Untold (told_if (eqb (length ((attribute_row_under p f n).rule.canonical b)) 0) NameWithoutNul)) k 3 e (no _ _ (ended-filled (without_nul b))))
-    (split Untold (eqb k 14) _ _ (λ e. at_kind (λ n. (attribute_row_under p f n).rule.accepted b ≡ true → Untold (told_if (ltb (length ((attribute_row_under p f n).rule.canonical b)) 32) ShortMap)) k 14 e (λ a. no _ _ (map-size b a)) h)
-    (split Untold (eqb k 20) _ _ (λ e. at_kind (λ n. Untold (told_if (is_long_alias ((attribute_row_under p f n).rule.canonical b)) LongAlias)) k 20 e (no _ _ (ended-short (without_nul b))))
-    (split Untold (eqb k 56) _ _ (λ e. at_kind (λ n. Untold (told_if (not (has_nul ((attribute_row_under p f n).rule.canonical b))) NameWithoutNul)) k 56 e (no _ _ (ended-nul (without_nul b)))) refl)))
+    split NoQuirk (eqb k 3) _ _ (λ e. at_kind (λ n. NoQuirk (quirk_if (eqb (length ((attribute_row_under p f n).rule.canonical b)) 0) NameWithoutNul)) k 3 e (no _ _ (ended-filled (without_nul b))))
+    (split NoQuirk (eqb k 14) _ _ (λ e. at_kind (λ n. (attribute_row_under p f n).rule.accepted b ≡ true → NoQuirk (quirk_if (ltb (length ((attribute_row_under p f n).rule.canonical b)) 32) ShortMap)) k 14 e (λ a. no _ _ (map-size b a)) h)
+    (split NoQuirk (eqb k 20) _ _ (λ e. at_kind (λ n. NoQuirk (quirk_if (is_long_alias ((attribute_row_under p f n).rule.canonical b)) LongAlias)) k 20 e (no _ _ (ended-short (without_nul b))))
+    (split NoQuirk (eqb k 56) _ _ (λ e. at_kind (λ n. NoQuirk (quirk_if (not (has_nul ((attribute_row_under p f n).rule.canonical b))) NameWithoutNul)) k 56 e (no _ _ (ended-nul (without_nul b)))) refl)))
 
-link-bit : (p : Peer) (f : Family) (k : ℕ) → Untold (bit_spelling (link_list f) (written_kind (attribute_row_under p f (proper_kind k)) k))
+link-bit : (p : Peer) (f : Family) (k : ℕ) → NoQuirk (bit_quirk (link_list f) (written_kind (attribute_row_under p f (proper_kind k)) k))
 link-bit p bridge k =
     let r = attribute_row_under p bridge (proper_kind k) in
     cleared NestedPortSettings r k _ (λ h.
@@ -131,36 +131,36 @@ link-bit p f k = both-none _
 
 -- ---- data of kinds of links
 
-flag-at : (p : Peer) (t : Rows) (b : List ℕ) (k n : ℕ) → (table_row p t n).rule.canonical b ≡ [] → eqb k n ≡ true → Untold (told_if (not (eqb (length ((table_row p t k).rule.canonical b)) 0)) FlagWithPayload)
-flag-at p t b k n h e = at_kind (λ m. Untold (told_if (not (eqb (length ((table_row p t m).rule.canonical b)) 0)) FlagWithPayload)) k n e (ap (λ x. told_if (not (eqb (length x) 0)) FlagWithPayload) h)
+flag-at : (p : Peer) (t : Rows) (b : List ℕ) (k n : ℕ) → (table_row p t n).rule.canonical b ≡ [] → eqb k n ≡ true → NoQuirk (quirk_if (not (eqb (length ((table_row p t k).rule.canonical b)) 0)) FlagWithPayload)
+flag-at p t b k n h e = at_kind (λ m. NoQuirk (quirk_if (not (eqb (length ((table_row p t m).rule.canonical b)) 0)) FlagWithPayload)) k n e (ap (λ x. quirk_if (not (eqb (length x) 0)) FlagWithPayload) h)
 
-value-at : (test : List ℕ → Bool) (s : Spelling) (p : Peer) (t : Rows) (b : List ℕ) (k n : ℕ) → test ((table_row p t n).rule.canonical b) ≡ false → eqb k n ≡ true → Untold (told_if (test ((table_row p t k).rule.canonical b)) s)
-value-at test s p t b k n h e = at_kind (λ m. Untold (told_if (test ((table_row p t m).rule.canonical b)) s)) k n e (no _ s h)
+value-at : (test : List ℕ → Bool) (s : Quirk) (p : Peer) (t : Rows) (b : List ℕ) (k n : ℕ) → test ((table_row p t n).rule.canonical b) ≡ false → eqb k n ≡ true → NoQuirk (quirk_if (test ((table_row p t k).rule.canonical b)) s)
+value-at test s p t b k n h e = at_kind (λ m. NoQuirk (quirk_if (test ((table_row p t m).rule.canonical b)) s)) k n e (no _ s h)
 
-data-payload : (p : Peer) (d : Data) (t : Rows) (k : ℕ) (b : List ℕ) → IsDataTable d t → Untold (data_spelling d k ((table_row p t k).rule.canonical b))
+data-payload : (p : Peer) (d : Data) (t : Rows) (k : ℕ) (b : List ℕ) → IsDataTable d t → NoQuirk (data_quirk d k ((table_row p t k).rule.canonical b))
 data-payload p Vxlan t k b i =
-    subst (λ t. Untold (data_spelling Vxlan k ((table_row p t k).rule.canonical b))) (sym i)
-    (split Untold (is_flag Vxlan k) _ _ (λ e. either (eqb k 23) _ e (flag-at p vxlan b k 23 refl) (λ e. either (eqb k 24) _ e (flag-at p vxlan b k 24 refl) (flag-at p vxlan b k 27 refl)))
-    (split Untold (eqb k 31 || eqb k 34) _ _ (λ e. either (eqb k 31) _ e (value-at over_one_byte TruthOverOne p vxlan b k 31 (byte-truth b)) (value-at over_one_byte TruthOverOne p vxlan b k 34 (byte-truth b))) refl))
+    subst (λ t. NoQuirk (data_quirk Vxlan k ((table_row p t k).rule.canonical b))) (sym i)
+    (split NoQuirk (is_flag Vxlan k) _ _ (λ e. either (eqb k 23) _ e (flag-at p vxlan b k 23 refl) (λ e. either (eqb k 24) _ e (flag-at p vxlan b k 24 refl) (flag-at p vxlan b k 27 refl)))
+    (split NoQuirk (eqb k 31 || eqb k 34) _ _ (λ e. either (eqb k 31) _ e (value-at over_one_byte BooleanOverOne p vxlan b k 31 (byte-boolean b)) (value-at over_one_byte BooleanOverOne p vxlan b k 34 (byte-boolean b))) refl))
 data-payload p Geneve t k b i =
-    subst (λ t. Untold (data_spelling Geneve k ((table_row p t k).rule.canonical b))) (sym i)
-    (split Untold (is_flag Geneve k) _ _ (λ e. either (eqb k 6) _ e (flag-at p geneve b k 6 refl) (flag-at p geneve b k 14 refl)) refl)
+    subst (λ t. NoQuirk (data_quirk Geneve k ((table_row p t k).rule.canonical b))) (sym i)
+    (split NoQuirk (is_flag Geneve k) _ _ (λ e. either (eqb k 6) _ e (flag-at p geneve b k 6 refl) (flag-at p geneve b k 14 refl)) refl)
 data-payload p Gre t k b i =
-    subst (λ t. Untold (data_spelling Gre k ((table_row p t k).rule.canonical b))) (sym i)
-    (split Untold (eqb k 18) _ _ (flag-at p gre b k 18 refl)
-    (split Untold (eqb k 10) _ _ (value-at over_one_byte PathDiscoveryOverOne p gre b k 10 (byte-one b)) refl))
+    subst (λ t. NoQuirk (data_quirk Gre k ((table_row p t k).rule.canonical b))) (sym i)
+    (split NoQuirk (eqb k 18) _ _ (flag-at p gre b k 18 refl)
+    (split NoQuirk (eqb k 10) _ _ (value-at over_one_byte PathDiscoveryOverOne p gre b k 10 (byte-one b)) refl))
 data-payload p Gre6 t k b i =
-    subst (λ t. Untold (data_spelling Gre6 k ((table_row p t k).rule.canonical b))) (sym i) (split Untold (eqb k 18) _ _ (flag-at p gre6 b k 18 refl) refl)
+    subst (λ t. NoQuirk (data_quirk Gre6 k ((table_row p t k).rule.canonical b))) (sym i) (split NoQuirk (eqb k 18) _ _ (flag-at p gre6 b k 18 refl) refl)
 data-payload p IpTunnel t k b i =
-    subst (λ t. Untold (data_spelling IpTunnel k ((table_row p t k).rule.canonical b))) (sym i.1) (split Untold (eqb k 19) _ _ (flag-at p (ip_tunnel i.0) b k 19 refl) refl)
+    subst (λ t. NoQuirk (data_quirk IpTunnel k ((table_row p t k).rule.canonical b))) (sym i.1) (split NoQuirk (eqb k 19) _ _ (flag-at p (ip_tunnel i.0) b k 19 refl) refl)
 data-payload p BareUdp t k b i =
-    subst (λ t. Untold (data_spelling BareUdp k ((table_row p t k).rule.canonical b))) (sym i) (split Untold (eqb k 4) _ _ (flag-at p bareudp b k 4 refl) refl)
+    subst (λ t. NoQuirk (data_quirk BareUdp k ((table_row p t k).rule.canonical b))) (sym i) (split NoQuirk (eqb k 4) _ _ (flag-at p bareudp b k 4 refl) refl)
 data-payload p Batadv t k b i =
-    subst (λ t. Untold (data_spelling Batadv k ((table_row p t k).rule.canonical b))) (sym i)
-    (split Untold (eqb k 1) _ _ (value-at (λ x. not (has_nul x)) NameWithoutNul p batadv b k 1 (ended-nul (without_nul b))) refl)
+    subst (λ t. NoQuirk (data_quirk Batadv k ((table_row p t k).rule.canonical b))) (sym i)
+    (split NoQuirk (eqb k 1) _ _ (value-at (λ x. not (has_nul x)) NameWithoutNul p batadv b k 1 (ended-nul (without_nul b))) refl)
 data-payload p Netkit t k b i =
-    subst (λ t. Untold (data_spelling Netkit k ((table_row p t k).rule.canonical b))) (sym i)
-    (split Untold (eqb k 6 || eqb k 7) _ _ (λ e. either (eqb k 6) _ e (value-at over_one_word TruthOverOne p netkit b k 6 (word-truth b)) (value-at over_one_word TruthOverOne p netkit b k 7 (word-truth b))) refl)
+    subst (λ t. NoQuirk (data_quirk Netkit k ((table_row p t k).rule.canonical b))) (sym i)
+    (split NoQuirk (eqb k 6 || eqb k 7) _ _ (λ e. either (eqb k 6) _ e (value-at over_one_u32 BooleanOverOne p netkit b k 6 (word-boolean b)) (value-at over_one_u32 BooleanOverOne p netkit b k 7 (word-boolean b))) refl)
 data-payload p d t k b i = absurd i
 
 next : (P : ℕ → Type 0) (k n : ℕ) → n ≤ k → P n → (suc n ≤ k → P k) → P k
@@ -176,13 +176,13 @@ from_31_to_34 P k h a b c d =
 abbrev IsPlain : Row → Type 0
 IsPlain r = (r.is_typed ≡ true) × (r.is_nested ≡ false)
 
-data-bit : (p : Peer) (d : Data) (t : Rows) (k : ℕ) → IsDataTable d t → Untold (bit_spelling (OfKind d) (written_kind (table_row p t (proper_kind k)) k))
+data-bit : (p : Peer) (d : Data) (t : Rows) (k : ℕ) → IsDataTable d t → NoQuirk (bit_quirk (OfKind d) (written_kind (table_row p t (proper_kind k)) k))
 data-bit p Vxlan t k i =
-    subst (λ t. Untold (bit_spelling (OfKind Vxlan) (written_kind (table_row p t (proper_kind k)) k))) (sym i)
+    subst (λ t. NoQuirk (bit_quirk (OfKind Vxlan) (written_kind (table_row p t (proper_kind k)) k))) (sym i)
     (let r = table_row p vxlan (proper_kind k) in
     cleared StrayNestedBit r k _ (λ h. from_31_to_34 (λ n. IsPlain (table_row p vxlan n)) (proper_kind k) (subst (λ n. is_strict Vxlan n ≡ true) (proper_kind-written r k) h) (refl, refl) (refl, refl) (refl, refl) (refl, refl)))
 data-bit p Geneve t k i =
-    subst (λ t. Untold (bit_spelling (OfKind Geneve) (written_kind (table_row p t (proper_kind k)) k))) (sym i)
+    subst (λ t. NoQuirk (bit_quirk (OfKind Geneve) (written_kind (table_row p t (proper_kind k)) k))) (sym i)
     (let r = table_row p geneve (proper_kind k) in
     cleared StrayNestedBit r k _ (λ h. at_kind (λ n. IsPlain (table_row p geneve n)) (proper_kind k) 14 (subst (λ n. eqb n 14 ≡ true) (proper_kind-written r k) h) (refl, refl)))
 data-bit p d t k i = both-none _
@@ -194,34 +194,34 @@ resized-size b =
     let s : length (b ++ zeros 132) ≡ length b + 132 = length-append b (zeros 132) in
     ap (λ n. eqb n 132) (length-take-le 132 (b ++ zeros 132) (omega (arith, s)))
 
-inet-payload : (p : Peer) (k : ℕ) (b : List ℕ) → Untold (payload_spelling Inet k ((table_row p inet k).rule.canonical b))
+inet-payload : (p : Peer) (k : ℕ) (b : List ℕ) → NoQuirk (payload_quirk Inet k ((table_row p inet k).rule.canonical b))
 unfolding resized
 inet-payload p k b = no _ _ (and-no _ _ (λ e. at_kind (λ n. not (eqb (length ((table_row p inet n).rule.canonical b)) 132) ≡ false) k 1 e (ap not (resized-size b))))
 
-programs-bit : (p : Peer) (k : ℕ) → Untold (bit_spelling Programs (written_kind (table_row p xdp (proper_kind k)) k))
+programs-bit : (p : Peer) (k : ℕ) → NoQuirk (bit_quirk Programs (written_kind (table_row p xdp (proper_kind k)) k))
 programs-bit p k =
     let r = table_row p xdp (proper_kind k) in
     cleared StrayNestedBit r k _ (λ h. at_kind (λ n. IsPlain (table_row p xdp n)) (proper_kind k) 8 (subst (λ n. eqb n 8 ≡ true) (proper_kind-written r k) h) (refl, refl))
 
 -- ---- all of these
 
-own-none : (l : Listed) (place : ℕ) (r : Row) (e : Attribute) → Untold (bit_spelling l.table (written_kind r e.kind)) → Untold (payload_spelling l.table (proper_kind e.kind) (r.rule.canonical e.payload)) → own_told l place (rewrite r e) ≡ []
-unfolding own_told
-own-none l place r e b q =
-    ap (λ z. told_at place z ++ told_at place (payload_spelling l.table (proper_kind (written_kind r e.kind)) (r.rule.canonical e.payload))) b
-    ∙ ap (λ z. told_at place (payload_spelling l.table z (r.rule.canonical e.payload))) (proper_kind-written r e.kind)
-    ∙ ap (told_at place) q
+direct-none : (l : Listed) (offset : ℕ) (r : Row) (e : Attribute) → NoQuirk (bit_quirk l.table (written_kind r e.kind)) → NoQuirk (payload_quirk l.table (proper_kind e.kind) (r.rule.canonical e.payload)) → direct_quirks l offset (rewrite r e) ≡ []
+unfolding direct_quirks
+direct-none l offset r e b q =
+    ap (λ z. quirks_at offset z ++ quirks_at offset (payload_quirk l.table (proper_kind (written_kind r e.kind)) (r.rule.canonical e.payload))) b
+    ∙ ap (λ z. quirks_at offset (payload_quirk l.table z (r.rule.canonical e.payload))) (proper_kind-written r e.kind)
+    ∙ ap (quirks_at offset) q
 
-link-own : (p : Peer) (f : Family) (k : ℕ) (b : List ℕ) → (attribute_row_under p f k).rule.accepted b ≡ true → Untold (payload_spelling (link_list f) k ((attribute_row_under p f k).rule.canonical b))
-link-own p unspec k b h = link-payload p unspec k b h
-link-own p f k b h = link-payload p f k b h
+link-direct : (p : Peer) (f : Family) (k : ℕ) (b : List ℕ) → (attribute_row_under p f k).rule.accepted b ≡ true → NoQuirk (payload_quirk (link_list f) k ((attribute_row_under p f k).rule.canonical b))
+link-direct p unspec k b h = link-payload p unspec k b h
+link-direct p f k b h = link-payload p f k b h
 
-header-none : (t : ℕ) (b : List ℕ) → Untold (header_spelling t (header_text b))
+header-none : (t : ℕ) (b : List ℕ) → NoQuirk (header_quirk t (header_text b))
 header-none t (f ∷ x ∷ a ∷ b ∷ rest) = no _ _ (and-no _ _ (λ h. refl))
 header-none t b = no _ _ (and-no _ _ (λ h. refl))
 
-functions-own : (p : Peer) (judged : Bool) (place : ℕ) (e : Attribute) → eqb (proper_kind e.kind) 1 ≡ true → own_told (record { table = Functions; judged = judged }) place (rewrite (table_row p vf_infos (proper_kind e.kind)) e) ≡ []
-functions-own p judged place e h = own-none (record { table = Functions; judged = judged }) place (table_row p vf_infos (proper_kind e.kind)) e (both-none _) (no _ _ (ap not h))
+functions-direct : (p : Peer) (judged : Bool) (offset : ℕ) (e : Attribute) → eqb (proper_kind e.kind) 1 ≡ true → direct_quirks (record { table = Functions; judged = judged }) offset (rewrite (table_row p vf_infos (proper_kind e.kind)) e) ≡ []
+functions-direct p judged offset e h = direct-none (record { table = Functions; judged = judged }) offset (table_row p vf_infos (proper_kind e.kind)) e (both-none _) (no _ _ (ap not h))
 
 -- ---- a pair
 
@@ -232,34 +232,34 @@ pair-inside : (e : Attribute) → inside_of Twin e ≡ None
 unfolding inside
 pair-inside e = ap (λ b. cond b (Some (record { table = family_table (slice_index e.payload 0); judged = false }, 16)) None) (and-no (eqb (proper_kind e.kind) 1) false (λ h. refl))
 
-pair-own : (p : Peer) (place : ℕ) (e : Attribute) (r : Row) → own_told Twin place (rewrite r e) ≡ []
-pair-own p place e r = own-none Twin place r e (both-none _) refl
+pair-direct : (p : Peer) (offset : ℕ) (e : Attribute) (r : Row) → direct_quirks Twin offset (rewrite r e) ≡ []
+pair-direct p offset e r = direct-none Twin offset r e (both-none _) refl
 
-one-told : ListsGoBySteps → WrittenIsFirst → (place : ℕ) (e : Attribute) → ((place : ℕ) → own_told Twin place e ≡ []) → list_told Twin place (list_text (e ∷ [])) ≡ []
+one-quirk : ListsUnfoldByAttributes → WrittenIsFirst → (offset : ℕ) (e : Attribute) → ((offset : ℕ) → direct_quirks Twin offset e ≡ []) → list_quirks Twin offset (list_text (e ∷ [])) ≡ []
 unfolding list_text first_attribute
-one-told s w place e own =
-    s.next Twin place (list_text (e ∷ [])) e [] (w e [])
-    ∙ ap (λ z. z ++ (inside_told list_told (place + 4) (inside_of Twin e) e.payload ++ list_told (list_behind Twin e) (place + nla_align (attribute_length e)) [])) (own place)
-    ∙ ap (λ o. inside_told list_told (place + 4) o e.payload ++ list_told (list_behind Twin e) (place + nla_align (attribute_length e)) []) (pair-inside e)
-    ∙ s.none (list_behind Twin e) (place + nla_align (attribute_length e)) [] refl
+one-quirk s w offset e direct =
+    s.next Twin offset (list_text (e ∷ [])) e [] (w e [])
+    ∙ ap (λ z. z ++ (inside_quirks list_quirks (offset + 4) (inside_of Twin e) e.payload ++ list_quirks (list_kind_after Twin e) (offset + nla_align (attribute_length e)) [])) (direct offset)
+    ∙ ap (λ o. inside_quirks list_quirks (offset + 4) o e.payload ++ list_quirks (list_kind_after Twin e) (offset + nla_align (attribute_length e)) []) (pair-inside e)
+    ∙ s.none (list_kind_after Twin e) (offset + nla_align (attribute_length e)) [] refl
 
-pair-told : ListsGoBySteps → WrittenIsFirst → (p : Peer) (place : ℕ) (b : List ℕ) → (list_rule first_alone (grammar p pair)).accepted b ≡ true → list_told Twin place ((list_rule first_alone (grammar p pair)).canonical b) ≡ []
+pair-quirks : ListsUnfoldByAttributes → WrittenIsFirst → (p : Peer) (offset : ℕ) (b : List ℕ) → (list_rule first_only (grammar p pair)).accepted b ≡ true → list_quirks Twin offset ((list_rule first_only (grammar p pair)).canonical b) ≡ []
 unfolding rewritten
-pair-told s w p place b h =
+pair-quirks s w p offset b h =
     elim (first_attribute b) as (λ o.
-    if_read false (λ es. all_accepted (grammar p pair) nothing (kept first_alone es)) (option_map (λ (x : Attribute × List ℕ). x.0 ∷ []) o) ≡ true
-    → list_told Twin place (if_read [] (λ es. list_text (rewritten (grammar p pair) nothing (kept first_alone es))) (option_map (λ (x : Attribute × List ℕ). x.0 ∷ []) o)) ≡ []) [
+    if_read false (λ es. all_accepted (grammar p pair) nothing (kept first_only es)) (option_map (λ (x : Attribute × List ℕ). x.0 ∷ []) o) ≡ true
+    → list_quirks Twin offset (if_read [] (λ es. list_text (rewritten (grammar p pair) nothing (kept first_only es))) (option_map (λ (x : Attribute × List ℕ). x.0 ∷ []) o)) ≡ []) [
       | None ↦ λ h. absurd (false≢true h)
-      | Some x ↦ λ h. let r = row_of (grammar p pair) nothing x.0 in one-told s w place (rewrite r x.0) (λ q. pair-own p q x.0 r)
+      | Some x ↦ λ h. let r = row_of (grammar p pair) nothing x.0 in one-quirk s w offset (rewrite r x.0) (λ q. pair-direct p q x.0 r)
     ] h
 
-pub written : ListsGoBySteps → WrittenIsFirst → WrittenAttributesHaveNone
+pub written : ListsUnfoldByAttributes → WrittenIsFirst → WrittenAttributesHaveNone
 written s w = record {
-  link = λ p f judged place e h. own-none (record { table = link_list f; judged = judged }) place (attribute_row_under p f (proper_kind e.kind)) e (link-bit p f e.kind) (link-own p f (proper_kind e.kind) e.payload h);
-  of_kind = λ p d t judged place e i. own-none (record { table = OfKind d; judged = judged }) place (table_row p t (proper_kind e.kind)) e (data-bit p d t e.kind i) (data-payload p d t (proper_kind e.kind) e.payload i);
-  settings = λ p judged place e. own-none (record { table = Inet; judged = judged }) place (table_row p inet (proper_kind e.kind)) e (both-none _) (inet-payload p (proper_kind e.kind) e.payload);
-  programs = λ p judged place e. own-none (record { table = Programs; judged = judged }) place (table_row p xdp (proper_kind e.kind)) e (programs-bit p e.kind) refl;
-  functions = functions-own;
-  pair = pair-told s w;
+  link = λ p f judged offset e h. direct-none (record { table = link_list f; judged = judged }) offset (attribute_row_under p f (proper_kind e.kind)) e (link-bit p f e.kind) (link-direct p f (proper_kind e.kind) e.payload h);
+  of_kind = λ p d t judged offset e i. direct-none (record { table = OfKind d; judged = judged }) offset (table_row p t (proper_kind e.kind)) e (data-bit p d t e.kind i) (data-payload p d t (proper_kind e.kind) e.payload i);
+  settings = λ p judged offset e. direct-none (record { table = Inet; judged = judged }) offset (table_row p inet (proper_kind e.kind)) e (both-none _) (inet-payload p (proper_kind e.kind) e.payload);
+  programs = λ p judged offset e. direct-none (record { table = Programs; judged = judged }) offset (table_row p xdp (proper_kind e.kind)) e (programs-bit p e.kind) refl;
+  functions = functions-direct;
+  pair = pair-quirks s w;
   header = header-none;
 }

@@ -7,22 +7,22 @@ use Rattle.netlink_packet_core_grammar.specs.Attributes.{Attribute, proper_kind,
 use Rattle.netlink_packet_core_grammar.proofs.Attributes.{first_attribute_text}
 use Rattle.attribute_tables_grammar.specs.Shapes.{exact}
 use Rattle.attribute_tables_grammar.specs.Rules.{Rule}
-use Rattle.attribute_tables_grammar.specs.Lists.{nothing, Row, Grammar, row_of, all_accepted, rewrite, rewritten, without_context, any, first_alone, kept, if_read}
+use Rattle.attribute_tables_grammar.specs.Lists.{nothing, Row, Grammar, row_of, all_accepted, rewrite, rewritten, without_context, any, first_only, kept, if_read}
 use Rattle.attribute_tables_grammar.specs.LookUps.{list_of, payload_rule, table_row, rows_rule, payload_at, rule_or_raw}
 use Rattle.attribute_tables_grammar.specs.Peers.{Peer}
 use Rattle.attribute_tables_grammar.specs.Tables.{Payload, Payload.list, Table as Rows, named}
 use Rattle.attribute_tables_grammar.proofs.Attributes.{proper_kind-written}
 use Rattle.attribute_tables_grammar.proofs.LookUps.{list-rows, named-payload}
 use Rattle.link_info_grammar.specs.Families.{vxlan, geneve, gre, gre6, ip_tunnel, bareudp, batadv, netkit, pair, kinds}
-use Rattle.link_capture_spellings.specs.declared.tables.Data.{Data}
-use Rattle.link_capture_spellings.specs.declared.tables.Data.TheVariants.{Other, Vxlan, Geneve, Gre, Gre6, IpTunnel, BareUdp, Batadv, Netkit, Pair}
-use Rattle.link_capture_spellings.specs.declared.tables.Table.TheVariants.{OfKind}
-use Rattle.link_capture_spellings.specs.declared.tables.Listed.{Listed}
-use Rattle.link_capture_spellings.specs.SpellingTables.{data_named, is_gre, is_gre6, is_ip_tunnel, is_pair, family_table, inside, next_data, has_peer}
-use Rattle.link_capture_spellings.specs.SpellingLists.{inside_of, list_behind, inside_told, list_told}
-use Rattle.link_capture_spellings.specs.SpellingLaws.{ListsGoBySteps, IsDataTable, WrittenAttributesHaveNone}
-use Rattle.link_capture_spellings.proofs.Lists.{HasNone, Silent, rows-none}
-use Rattle.link_capture_spellings.proofs.Inside.{at_kind, either, split, nothing-inside, without-peer, written-inside, IsDull, dull-own, none-at-all}
+use Rattle.link_capture_quirks.specs.declared.tables.Data.{Data}
+use Rattle.link_capture_quirks.specs.declared.tables.Data.TheVariants.{Other, Vxlan, Geneve, Gre, Gre6, IpTunnel, BareUdp, Batadv, Netkit, Pair}
+use Rattle.link_capture_quirks.specs.declared.tables.Table.TheVariants.{OfKind}
+use Rattle.link_capture_quirks.specs.declared.tables.Listed.{Listed}
+use Rattle.link_capture_quirks.specs.QuirkTables.{data_named, is_gre, is_gre6, is_ip_tunnel, is_pair, family_table, inside, next_data, has_peer}
+use Rattle.link_capture_quirks.specs.QuirkLists.{inside_of, list_kind_after, inside_quirks, list_quirks}
+use Rattle.link_capture_quirks.specs.QuirkLaws.{ListsUnfoldByAttributes, IsDataTable, WrittenAttributesHaveNone}
+use Rattle.link_capture_quirks.proofs.Lists.{HasNone, NoneInside, rows-none}
+use Rattle.link_capture_quirks.proofs.Inside.{at_kind, either, split, nothing-inside, without-peer, written-inside, HasNoQuirks, no-quirks-direct, none-at-all}
 
 -- the list inside a peer's payload, if peers are judged
 abbrev pub in_peer : Bool → List ℕ → Option (Listed × ℕ)
@@ -30,31 +30,31 @@ in_peer j q = cond (j && (leb 16 (length q) && true)) (Some (record { table = fa
 
 -- a peer, as it is written, has no quirk
 abbrev pub PeerHasNone : Peer → Bool → Type 0
-PeerHasNone p j = (b : List ℕ) → p.accepted b ≡ true → Silent (in_peer j (p.canonical b)) (p.canonical b)
+PeerHasNone p j = (b : List ℕ) → p.accepted b ≡ true → NoneInside (in_peer j (p.canonical b)) (p.canonical b)
 
 abbrev pub data_list : Bool → Data → Listed
 data_list j d = record { table = OfKind d; judged = j }
 
 -- data that have no quirk
-other-dull : IsDull (OfKind Other)
-other-dull = record { bit = λ k. refl; payload = λ k p. refl }
+other-no-quirks : HasNoQuirks (OfKind Other)
+other-no-quirks = record { bit = λ k. refl; payload = λ k p. refl }
 
-module _ (s : ListsGoBySteps) (w : WrittenAttributesHaveNone) (p : Peer) (j : Bool) (peers : PeerHasNone p j) where
+module _ (s : ListsUnfoldByAttributes) (w : WrittenAttributesHaveNone) (p : Peer) (j : Bool) (peers : PeerHasNone p j) where
   -- ---- data without a peer
 
   plain-none : (d : Data) (t : Rows) → IsDataTable d t → has_peer (OfKind d) ≡ false → next_data d ≡ d → HasNone (data_list j d) (list_of p any t)
   plain-none d t i h n = rows-none s p any t (data_list j d) (record {
-    own = λ c e place k a. w.of_kind p d t j place e i;
+    direct = λ c e offset k a. w.of_kind p d t j offset e i;
     inner = λ c e a.
         let r = table_row p t (proper_kind e.kind) in
         written-inside (data_list j d) r e h (nothing-inside (data_list j d) (r.rule.canonical e.payload) None refl);
-    behind = λ c e. ap (data_list j) n;
+    following = λ c e. ap (data_list j) n;
   })
 
   -- ---- data with a peer
 
   abbrev IsPeers : Data → Row → ℕ → Type 0
-  IsPeers d r k = (b : List ℕ) → r.rule.accepted b ≡ true → Silent (inside (data_list j d) k (r.rule.canonical b)) (r.rule.canonical b)
+  IsPeers d r k = (b : List ℕ) → r.rule.accepted b ≡ true → NoneInside (inside (data_list j d) k (r.rule.canonical b)) (r.rule.canonical b)
 
   peer-kind : (d : Data) (t : Rows) → IsPeers d (table_row p t 1) 1 → (k : ℕ) → IsPeers d (table_row p t k) k
   unfolding inside
@@ -65,14 +65,14 @@ module _ (s : ListsGoBySteps) (w : WrittenAttributesHaveNone) (p : Peer) (j : Bo
       go false e = λ b a.
           let q = (table_row p t k).rule.canonical b in
           let peer : Option (Listed × ℕ) = Some (record { table = family_table (slice_index q 0); judged = false }, 16) in
-          subst (λ o. Silent o q) (sym (ap (λ x. cond (x && (j && (leb 16 (length q) && has_peer (OfKind d)))) peer None) e)) (λ place. refl)
+          subst (λ o. NoneInside o q) (sym (ap (λ x. cond (x && (j && (leb 16 (length q) && has_peer (OfKind d)))) peer None) e)) (λ offset. refl)
 
   written-peer : (d : Data) (t : Rows) → IsPeers d (table_row p t 1) 1 → (e : Attribute) → (table_row p t (proper_kind e.kind)).rule.accepted e.payload ≡ true →
-      Silent (inside_of (data_list j d) (rewrite (table_row p t (proper_kind e.kind)) e)) ((table_row p t (proper_kind e.kind)).rule.canonical e.payload)
+      NoneInside (inside_of (data_list j d) (rewrite (table_row p t (proper_kind e.kind)) e)) ((table_row p t (proper_kind e.kind)).rule.canonical e.payload)
   written-peer d t h e a =
       let r = table_row p t (proper_kind e.kind) in
       let q = r.rule.canonical e.payload in
-      subst (λ k. Silent (inside (data_list j d) k q) q) (sym (proper_kind-written r e.kind)) (peer-kind d t h (proper_kind e.kind) e.payload a)
+      subst (λ k. NoneInside (inside (data_list j d) k q) q) (sym (proper_kind-written r e.kind)) (peer-kind d t h (proper_kind e.kind) e.payload a)
 
   netkit-peers : IsPeers Netkit (table_row p netkit 1) 1
   unfolding inside
@@ -84,9 +84,9 @@ module _ (s : ListsGoBySteps) (w : WrittenAttributesHaveNone) (p : Peer) (j : Bo
 
   netkit-none : HasNone (data_list j Netkit) (list_of p any netkit)
   netkit-none = rows-none s p any netkit (data_list j Netkit) (record {
-    own = λ c e place k a. w.of_kind p Netkit netkit j place e refl;
+    direct = λ c e offset k a. w.of_kind p Netkit netkit j offset e refl;
     inner = λ c e a. written-peer Netkit netkit netkit-peers e a;
-    behind = λ c e. refl;
+    following = λ c e. refl;
   })
 
   -- ---- a pair, whose list has one attribute
@@ -94,33 +94,33 @@ module _ (s : ListsGoBySteps) (w : WrittenAttributesHaveNone) (p : Peer) (j : Bo
   abbrev pair-rows : Grammar
   pair-rows = without_context (table_row p pair)
 
-  alone-none : (place : ℕ) (e : Attribute) → (row_of pair-rows nothing e).rule.accepted e.payload ≡ true → list_told (data_list j Pair) place (list_text (rewrite (row_of pair-rows nothing e) e ∷ [])) ≡ []
+  first-only-none : (offset : ℕ) (e : Attribute) → (row_of pair-rows nothing e).rule.accepted e.payload ≡ true → list_quirks (data_list j Pair) offset (list_text (rewrite (row_of pair-rows nothing e) e ∷ [])) ≡ []
   unfolding list_text first_attribute
-  alone-none place e a =
+  first-only-none offset e a =
       let l = data_list j Pair in
       let r = row_of pair-rows nothing e in
       let x = rewrite r e in
-      let behind = place + nla_align (attribute_length x) in
-      s.next l place (attribute_text x ++ []) x [] (first_attribute_text x [])
-      ∙ ap (λ z. z ++ (inside_told list_told (place + 4) (inside_of l x) x.payload ++ list_told (list_behind l x) behind [])) (dull-own l place x (record { bit = λ k. refl; payload = λ k q. refl }))
-      ∙ ap (λ z. z ++ list_told (list_behind l x) behind []) (written-peer Pair pair pair-peers e a (place + 4))
-      ∙ s.none (list_behind l x) behind [] refl
+      let following = offset + nla_align (attribute_length x) in
+      s.next l offset (attribute_text x ++ []) x [] (first_attribute_text x [])
+      ∙ ap (λ z. z ++ (inside_quirks list_quirks (offset + 4) (inside_of l x) x.payload ++ list_quirks (list_kind_after l x) following [])) (no-quirks-direct l offset x (record { bit = λ k. refl; payload = λ k q. refl }))
+      ∙ ap (λ z. z ++ list_quirks (list_kind_after l x) following []) (written-peer Pair pair pair-peers e a (offset + 4))
+      ∙ s.none (list_kind_after l x) following [] refl
 
-  pair-by : (place : ℕ) (o : Option (Attribute × List ℕ)) →
-      if_read false (λ es. all_accepted pair-rows nothing (kept first_alone es)) (option_map (λ (x : Attribute × List ℕ). x.0 ∷ []) o) ≡ true →
-      list_told (data_list j Pair) place (if_read [] (λ es. list_text (rewritten pair-rows nothing (kept first_alone es))) (option_map (λ (x : Attribute × List ℕ). x.0 ∷ []) o)) ≡ []
+  pair-by : (offset : ℕ) (o : Option (Attribute × List ℕ)) →
+      if_read false (λ es. all_accepted pair-rows nothing (kept first_only es)) (option_map (λ (x : Attribute × List ℕ). x.0 ∷ []) o) ≡ true →
+      list_quirks (data_list j Pair) offset (if_read [] (λ es. list_text (rewritten pair-rows nothing (kept first_only es))) (option_map (λ (x : Attribute × List ℕ). x.0 ∷ []) o)) ≡ []
   unfolding rewritten all_accepted
-  pair-by place None h = absurd (false≢true h)
-  pair-by place (Some x) h = alone-none place x.0 (and_parts ((row_of pair-rows nothing x.0).rule.accepted x.0.payload) true h).0
+  pair-by offset None h = absurd (false≢true h)
+  pair-by offset (Some x) h = first-only-none offset x.0 (and_parts ((row_of pair-rows nothing x.0).rule.accepted x.0.payload) true h).0
 
-  pair-none : HasNone (data_list j Pair) (list_of p first_alone pair)
+  pair-none : HasNone (data_list j Pair) (list_of p first_only pair)
   unfolding rows_rule
-  pair-none = subst (HasNone (data_list j Pair)) (sym (list-rows p first_alone pair)) (λ place b a. pair-by place (first_attribute b) a)
+  pair-none = subst (HasNone (data_list j Pair)) (sym (list-rows p first_only pair)) (λ offset b a. pair-by offset (first_attribute b) a)
 
   -- ---- data by the name of their kind
 
   pub other-none : (r : Rule) → HasNone (data_list j Other) r
-  other-none r place b a = none-at-all (data_list j Other) other-dull (λ e. without-peer (data_list j Other) (proper_kind e.kind) e.payload refl) (λ e. refl) place (r.canonical b)
+  other-none r offset b a = none-at-all (data_list j Other) other-no-quirks (λ e. without-peer (data_list j Other) (proper_kind e.kind) e.payload refl) (λ e. refl) offset (r.canonical b)
 
   at_name : (l : Listed) (n m : List ℕ) (t : Payload) → payload_at kinds m ≡ Some t → HasNone l (payload_rule p t) → bytes_eq n m ≡ true → HasNone l (named p kinds n)
   at_name l n m t h q e = subst (HasNone l) (sym (ap (named p kinds) ((bytes_eq-Decides n m).0 e) ∙ named-payload p kinds m ∙ ap (rule_or_raw p) h)) q
@@ -148,7 +148,7 @@ module _ (s : ListsGoBySteps) (w : WrittenAttributesHaveNone) (p : Peer) (j : Bo
   pair-named : (n : List ℕ) → is_pair n ≡ true → HasNone (data_list j Pair) (named p kinds n)
   pair-named n e =
       let l = data_list j Pair in
-      either _ _ e (at_name l n (codes "veth") (list first_alone pair) refl pair-none) (at_name l n (codes "vxcan") (list first_alone pair) refl pair-none)
+      either _ _ e (at_name l n (codes "veth") (list first_only pair) refl pair-none) (at_name l n (codes "vxcan") (list first_only pair) refl pair-none)
 
   -- the data of the name in force
   pub named-none : (n : List ℕ) → HasNone (data_list j (data_named n)) (named p kinds n)

@@ -1,7 +1,7 @@
-pub mod ListSteps
+pub mod ListUnfolding
 pub mod CaptureSteps
 pub mod Stacks
-pub mod Going
+pub mod Continuing
 pub mod Entering
 pub mod Canonical
 pub mod Lists

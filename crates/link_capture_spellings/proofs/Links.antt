@@ -15,27 +15,27 @@ use Rattle.link_message_grammar.specs.Body.{attribute_row_under, list_rule_of}
 use Rattle.link_message_grammar.specs.LinkMessage.{Family, unspec}
 use Rattle.link_message_grammar.specs.NestedTables.{inet, specific, xdp, vf_infos}
 use Rattle.link_message_grammar.proofs.Parts.{attributes_are_looked_up}
-use Rattle.link_capture_spellings.specs.declared.tables.Data.{Data}
-use Rattle.link_capture_spellings.specs.declared.tables.Data.TheVariants.{Other}
-use Rattle.link_capture_spellings.specs.declared.tables.Table.{Table}
-use Rattle.link_capture_spellings.specs.declared.tables.Table.TheVariants.{Unspec, Info, Families, Inet, Programs, Functions, OfKind}
-use Rattle.link_capture_spellings.specs.declared.tables.Listed.{Listed}
-use Rattle.link_capture_spellings.specs.SpellingTables.{data_named, in_front, inside_link, inside_table, has_peer, next_table}
-use Rattle.link_capture_spellings.specs.SpellingLaws.{ListsGoBySteps, link_list, WrittenAttributesHaveNone}
-use Rattle.link_capture_spellings.proofs.Lists.{HasNone, Silent, Quiet, list-none, rows-none}
-use Rattle.link_capture_spellings.proofs.Inside.{at_kind, split, nothing-inside, whole-list, written-inside, IsDull, dull-own}
-use Rattle.link_capture_spellings.proofs.KindData.{PeerHasNone, named-none, other-none}
+use Rattle.link_capture_quirks.specs.declared.tables.Data.{Data}
+use Rattle.link_capture_quirks.specs.declared.tables.Data.TheVariants.{Other}
+use Rattle.link_capture_quirks.specs.declared.tables.Table.{Table}
+use Rattle.link_capture_quirks.specs.declared.tables.Table.TheVariants.{Unspec, Info, Families, Inet, Programs, Functions, OfKind}
+use Rattle.link_capture_quirks.specs.declared.tables.Listed.{Listed}
+use Rattle.link_capture_quirks.specs.QuirkTables.{data_named, at_payload_start, inside_link, inside_table, has_peer, next_table}
+use Rattle.link_capture_quirks.specs.QuirkLaws.{ListsUnfoldByAttributes, link_list, WrittenAttributesHaveNone}
+use Rattle.link_capture_quirks.proofs.Lists.{HasNone, NoneInside, WritesNoQuirks, list-none, rows-none}
+use Rattle.link_capture_quirks.proofs.Inside.{at_kind, split, nothing-inside, whole-list, written-inside, HasNoQuirks, no-quirks-direct}
+use Rattle.link_capture_quirks.proofs.KindData.{PeerHasNone, named-none, other-none}
 
 -- the data of the kind in force
 abbrev in_force : Option (List ℕ) → Data
 in_force None = Other
 in_force (Some n) = data_named n
 
-info-dull : (d : Data) → IsDull (Info d)
-info-dull d = record { bit = λ k. refl; payload = λ k p. refl }
+info-no-quirks : (d : Data) → HasNoQuirks (Info d)
+info-no-quirks d = record { bit = λ k. refl; payload = λ k p. refl }
 
-families-dull : IsDull Families
-families-dull = record { bit = λ k. refl; payload = λ k p. refl }
+families-no-quirks : HasNoQuirks Families
+families-no-quirks = record { bit = λ k. refl; payload = λ k p. refl }
 
 link-peerless : (f : Family) → has_peer (link_list f) ≡ false
 link-peerless unspec = refl
@@ -45,7 +45,7 @@ link-stays : (f : Family) (k : ℕ) (q : List ℕ) → next_table (link_list f) 
 link-stays unspec k q = refl
 link-stays f k q = refl
 
-module _ (s : ListsGoBySteps) (w : WrittenAttributesHaveNone) (p : Peer) (j : Bool) (peers : PeerHasNone p j) where
+module _ (s : ListsUnfoldByAttributes) (w : WrittenAttributesHaveNone) (p : Peer) (j : Bool) (peers : PeerHasNone p j) where
   abbrev list_in : Table → Listed
   list_in t = record { table = t; judged = j }
 
@@ -61,100 +61,100 @@ module _ (s : ListsGoBySteps) (w : WrittenAttributesHaveNone) (p : Peer) (j : Bo
   data-none None = other-none s w p j peers (row_in_force None (named p kinds)).rule
   data-none (Some n) = named-none s w p j peers n
 
-  info-inside : (c : Context) (k : ℕ) (b : List ℕ) → (info_rows c k).rule.accepted b ≡ true → Silent (in_front (list_in (Info (in_force c.kind))) (inside_table (Info (in_force c.kind)) k)) ((info_rows c k).rule.canonical b)
+  info-inside : (c : Context) (k : ℕ) (b : List ℕ) → (info_rows c k).rule.accepted b ≡ true → NoneInside (at_payload_start (list_in (Info (in_force c.kind))) (inside_table (Info (in_force c.kind)) k)) ((info_rows c k).rule.canonical b)
   info-inside c k b a =
       let l = list_in (Info (in_force c.kind)) in
-      split (λ o. Silent (in_front l o) ((info_rows c k).rule.canonical b)) (eqb k 2) (Some (OfKind (in_force c.kind))) None
-      (λ e. at_kind (λ n. (info_rows c n).rule.accepted b ≡ true → Silent (in_front l (Some (OfKind (in_force c.kind)))) ((info_rows c n).rule.canonical b)) k 2 e
+      split (λ o. NoneInside (at_payload_start l o) ((info_rows c k).rule.canonical b)) (eqb k 2) (Some (OfKind (in_force c.kind))) None
+      (λ e. at_kind (λ n. (info_rows c n).rule.accepted b ≡ true → NoneInside (at_payload_start l (Some (OfKind (in_force c.kind)))) ((info_rows c n).rule.canonical b)) k 2 e
       (λ a. whole-list (OfKind (in_force c.kind)) j (info_rows c 2).rule b (data-none c.kind) a l refl) a)
       (nothing-inside l ((info_rows c k).rule.canonical b) None refl)
 
-  info-behind : (c : Context) (k : ℕ) (b : List ℕ) → next_table (Info (in_force c.kind)) k ((info_rows c k).rule.canonical b) ≡ Info (in_force (info_next c k b).kind)
-  info-behind c (suc zero) b = ap (λ n. Info (data_named n)) (without_nul-end (without_nul b))
-  info-behind c (suc (suc (suc (suc (suc (suc k)))))) b = ap (λ x. cond x (Info (data_named (without_nul b))) (Info (in_force c.kind))) (ne_eqb (suc (suc (suc (suc (suc (suc k)))))) 1 (λ e. absurd (omega (arith, e))))
-  info-behind c k b = refl
+  info-kind-after : (c : Context) (k : ℕ) (b : List ℕ) → next_table (Info (in_force c.kind)) k ((info_rows c k).rule.canonical b) ≡ Info (in_force (info_next c k b).kind)
+  info-kind-after c (suc zero) b = ap (λ n. Info (data_named n)) (without_nul-end (without_nul b))
+  info-kind-after c (suc (suc (suc (suc (suc (suc k)))))) b = ap (λ x. cond x (Info (data_named (without_nul b))) (Info (in_force c.kind))) (ne_eqb (suc (suc (suc (suc (suc (suc k)))))) 1 (λ e. absurd (omega (arith, e))))
+  info-kind-after c k b = refl
 
-  info-quiet : Quiet info_rules non_empty (λ c. list_in (Info (in_force c.kind)))
-  info-quiet = record {
-    own = λ c e place k a. dull-own (list_in (Info (in_force c.kind))) place (rewrite (row_of info_rules c e) e) (info-dull (in_force c.kind));
+  info-writes-no-quirks : WritesNoQuirks info_rules non_empty (λ c. list_in (Info (in_force c.kind)))
+  info-writes-no-quirks = record {
+    direct = λ c e offset k a. no-quirks-direct (list_in (Info (in_force c.kind))) offset (rewrite (row_of info_rules c e) e) (info-no-quirks (in_force c.kind));
     inner = λ c e a. written-inside (list_in (Info (in_force c.kind))) (row_of info_rules c e) e refl (info-inside c (proper_kind e.kind) e.payload a);
-    behind = λ c e.
+    following = λ c e.
         let r = row_of info_rules c e in
-        ap list_in (ap (λ k. next_table (Info (in_force c.kind)) k (r.rule.canonical e.payload)) (proper_kind-written r e.kind) ∙ info-behind c (proper_kind e.kind) e.payload);
+        ap list_in (ap (λ k. next_table (Info (in_force c.kind)) k (r.rule.canonical e.payload)) (proper_kind-written r e.kind) ∙ info-kind-after c (proper_kind e.kind) e.payload);
   }
 
   info-none : HasNone (list_in (Info Other)) (link_info_of p non_empty kinds port_kinds)
   unfolding link_info_of
-  info-none = list-none s info_rules non_empty (λ c. list_in (Info (in_force c.kind))) info-quiet
+  info-none = list-none s info_rules non_empty (λ c. list_in (Info (in_force c.kind))) info-writes-no-quirks
 
   inet-none : HasNone (list_in Inet) (list_of p any inet)
   inet-none = rows-none s p any inet (list_in Inet) (record {
-    own = λ c e place k a. w.settings p j place e;
+    direct = λ c e offset k a. w.settings p j offset e;
     inner = λ c e a. let r = table_row p inet (proper_kind e.kind) in written-inside (list_in Inet) r e refl (nothing-inside (list_in Inet) (r.rule.canonical e.payload) None refl);
-    behind = λ c e. refl;
+    following = λ c e. refl;
   })
 
   programs-none : HasNone (list_in Programs) (list_of p any xdp)
   programs-none = rows-none s p any xdp (list_in Programs) (record {
-    own = λ c e place k a. w.programs p j place e;
+    direct = λ c e offset k a. w.programs p j offset e;
     inner = λ c e a. let r = table_row p xdp (proper_kind e.kind) in written-inside (list_in Programs) r e refl (nothing-inside (list_in Programs) (r.rule.canonical e.payload) None refl);
-    behind = λ c e. refl;
+    following = λ c e. refl;
   })
 
   functions-none : HasNone (list_in Functions) (list_of p of_kind_one vf_infos)
   functions-none = rows-none s p of_kind_one vf_infos (list_in Functions) (record {
-    own = λ c e place k a. w.functions p j place e k;
+    direct = λ c e offset k a. w.functions p j offset e k;
     inner = λ c e a. let r = table_row p vf_infos (proper_kind e.kind) in written-inside (list_in Functions) r e refl (nothing-inside (list_in Functions) (r.rule.canonical e.payload) None refl);
-    behind = λ c e. refl;
+    following = λ c e. refl;
   })
 
-  families-inside : (k : ℕ) (b : List ℕ) → (table_row p specific k).rule.accepted b ≡ true → Silent (in_front (list_in Families) (inside_table Families k)) ((table_row p specific k).rule.canonical b)
+  families-inside : (k : ℕ) (b : List ℕ) → (table_row p specific k).rule.accepted b ≡ true → NoneInside (at_payload_start (list_in Families) (inside_table Families k)) ((table_row p specific k).rule.canonical b)
   families-inside k b a =
       let l = list_in Families in
-      split (λ o. Silent (in_front l o) ((table_row p specific k).rule.canonical b)) (eqb k 2) (Some Inet) None
-      (λ e. at_kind (λ n. (table_row p specific n).rule.accepted b ≡ true → Silent (in_front l (Some Inet)) ((table_row p specific n).rule.canonical b)) k 2 e
+      split (λ o. NoneInside (at_payload_start l o) ((table_row p specific k).rule.canonical b)) (eqb k 2) (Some Inet) None
+      (λ e. at_kind (λ n. (table_row p specific n).rule.accepted b ≡ true → NoneInside (at_payload_start l (Some Inet)) ((table_row p specific n).rule.canonical b)) k 2 e
       (λ a. whole-list Inet j (list_of p any inet) b inet-none a l refl) a)
       (nothing-inside l ((table_row p specific k).rule.canonical b) None refl)
 
   families-none : HasNone (list_in Families) (list_of p any specific)
   families-none = rows-none s p any specific (list_in Families) (record {
-    own = λ c e place k a. dull-own (list_in Families) place (rewrite (table_row p specific (proper_kind e.kind)) e) families-dull;
+    direct = λ c e offset k a. no-quirks-direct (list_in Families) offset (rewrite (table_row p specific (proper_kind e.kind)) e) families-no-quirks;
     inner = λ c e a. written-inside (list_in Families) (table_row p specific (proper_kind e.kind)) e refl (families-inside (proper_kind e.kind) e.payload a);
-    behind = λ c e. refl;
+    following = λ c e. refl;
   })
 
   -- ---- links
 
   -- if the row of the kind n is a list without quirks, and k is n
   at_list : (f : Family) (l : Listed) (t : Table) (r : Rule) (k n : ℕ) (b : List ℕ) → l.judged ≡ j → (attribute_row_under p f n).rule ≡ r → HasNone (list_in t) r → (attribute_row_under p f k).rule.accepted b ≡ true → eqb k n ≡ true →
-      Silent (in_front l (Some t)) ((attribute_row_under p f k).rule.canonical b)
+      NoneInside (at_payload_start l (Some t)) ((attribute_row_under p f k).rule.canonical b)
   at_list f l t r k n b i is h a e =
-      at_kind (λ m. (attribute_row_under p f m).rule.accepted b ≡ true → Silent (in_front l (Some t)) ((attribute_row_under p f m).rule.canonical b)) k n e
-      (subst (λ (x : Rule). x.accepted b ≡ true → Silent (in_front l (Some t)) (x.canonical b)) (sym is) (λ a. whole-list t j r b h a l i)) a
+      at_kind (λ m. (attribute_row_under p f m).rule.accepted b ≡ true → NoneInside (at_payload_start l (Some t)) ((attribute_row_under p f m).rule.canonical b)) k n e
+      (subst (λ (x : Rule). x.accepted b ≡ true → NoneInside (at_payload_start l (Some t)) (x.canonical b)) (sym is) (λ a. whole-list t j r b h a l i)) a
 
-  each-inside : (f : Family) (l : Listed) (k : ℕ) (b : List ℕ) → l.judged ≡ j → (attribute_row_under p f k).rule.accepted b ≡ true → Silent (in_front l (inside_link k)) ((attribute_row_under p f k).rule.canonical b)
+  each-inside : (f : Family) (l : Listed) (k : ℕ) (b : List ℕ) → l.judged ≡ j → (attribute_row_under p f k).rule.accepted b ≡ true → NoneInside (at_payload_start l (inside_link k)) ((attribute_row_under p f k).rule.canonical b)
   each-inside f l k b i a =
       let q = (attribute_row_under p f k).rule.canonical b in
-      let pick = split (λ o. Silent (in_front l o) q) in
+      let pick = split (λ o. NoneInside (at_payload_start l o) q) in
       pick (eqb k 18) (Some (Info Other)) _ (at_list f l (Info Other) (link_info_of p non_empty kinds port_kinds) k 18 b i refl info-none a)
       (pick (eqb k 22) (Some Functions) _ (at_list f l Functions (list_of p of_kind_one vf_infos) k 22 b i refl functions-none a)
       (pick (eqb k 43) (Some Programs) None (at_list f l Programs (list_of p any xdp) k 43 b i refl programs-none a)
       (nothing-inside l q None refl)))
 
-  link-inside : (f : Family) (k : ℕ) (b : List ℕ) → (attribute_row_under p f k).rule.accepted b ≡ true → Silent (in_front (list_in (link_list f)) (inside_table (link_list f) k)) ((attribute_row_under p f k).rule.canonical b)
+  link-inside : (f : Family) (k : ℕ) (b : List ℕ) → (attribute_row_under p f k).rule.accepted b ≡ true → NoneInside (at_payload_start (list_in (link_list f)) (inside_table (link_list f) k)) ((attribute_row_under p f k).rule.canonical b)
   link-inside unspec k b a =
       let l = list_in Unspec in
-      split (λ o. Silent (in_front l o) ((attribute_row_under p unspec k).rule.canonical b)) (eqb k 26) (Some Families) (inside_link k) (at_list unspec l Families (list_of p any specific) k 26 b refl refl families-none a) (each-inside unspec l k b refl a)
+      split (λ o. NoneInside (at_payload_start l o) ((attribute_row_under p unspec k).rule.canonical b)) (eqb k 26) (Some Families) (inside_link k) (at_list unspec l Families (list_of p any specific) k 26 b refl refl families-none a) (each-inside unspec l k b refl a)
   link-inside f k b a = each-inside f (list_in (link_list f)) k b refl a
 
-  link-quiet : (f : Family) → Quiet (without_context (attribute_row_under p f)) any (λ c. list_in (link_list f))
-  link-quiet f = record {
-    own = λ c e place k a. w.link p f j place e a;
+  link-writes-no-quirks : (f : Family) → WritesNoQuirks (without_context (attribute_row_under p f)) any (λ c. list_in (link_list f))
+  link-writes-no-quirks f = record {
+    direct = λ c e offset k a. w.link p f j offset e a;
     inner = λ c e a. written-inside (list_in (link_list f)) (attribute_row_under p f (proper_kind e.kind)) e (link-peerless f) (link-inside f (proper_kind e.kind) e.payload a);
-    behind = λ c e. ap list_in (link-stays f _ _);
+    following = λ c e. ap list_in (link-stays f _ _);
   }
 
   -- the attributes of each family
   pub attributes-none : (f : Family) → HasNone (list_in (link_list f)) (list_rule_of p f)
   unfolding rows_rule
-  attributes-none f = subst (HasNone (list_in (link_list f))) (sym (attributes_are_looked_up p f)) (list-none s (without_context (attribute_row_under p f)) any (λ c. list_in (link_list f)) (link-quiet f))
+  attributes-none f = subst (HasNone (list_in (link_list f))) (sym (attributes_are_looked_up p f)) (list-none s (without_context (attribute_row_under p f)) any (λ c. list_in (link_list f)) (link-writes-no-quirks f))

@@ -1,8 +1,8 @@
-pub mod SpellingWords
-pub mod SpellingRows
-pub mod SpellingTables
-pub mod SpellingLists
-pub mod Spellings
-pub mod SpellingWalks
-pub mod SpellingLaws
+pub mod QuirkTexts
+pub mod QuirkRows
+pub mod QuirkTables
+pub mod QuirkLists
+pub mod CaptureQuirks
+pub mod QuirkWalks
+pub mod QuirkLaws
 pub mod TextLaws

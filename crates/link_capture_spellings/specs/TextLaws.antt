@@ -2,8 +2,8 @@
 use Rattle.std.specs.Prelude.{◌≡◌, ℕ, List, []}
 use Rattle.link_capture_grammar.specs.Captures.{texts}
 use Rattle.link_capture_grammar.specs.Laws.{IsLimit}
-use Rattle.link_capture_spellings.specs.Spellings.{spellings}
+use Rattle.link_capture_quirks.specs.CaptureQuirks.{capture_quirks}
 
 -- The texts of any bytes have no quirk.
-abbrev pub TextsHaveNoSpelling : Type 0
-TextsHaveNoSpelling = (limit : ℕ) (c : List ℕ) → IsLimit limit → spellings limit (texts limit c) ≡ []
+abbrev pub TextsHaveNoQuirk : Type 0
+TextsHaveNoQuirk = (limit : ℕ) (c : List ℕ) → IsLimit limit → capture_quirks limit (texts limit c) ≡ []

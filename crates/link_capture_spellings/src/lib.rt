@@ -4,10 +4,10 @@
 
 mod capture;
 pub mod laws;
-mod placed;
+mod quirk_at;
 mod rows;
 mod tables;
 mod walk;
 
-pub use capture::{Spellings, spelling};
-pub use placed::{PlacedSpelling, Spelling};
+pub use capture::{CaptureQuirks, quirks};
+pub use quirk_at::{QuirkAt, Quirk};

@@ -1,9 +1,9 @@
 //! The lists in which encoding quirks occur, as far as their quirks differ.
 
 ghost use Rattle.std.specs.Prelude.{◌≡◌, ◌≤◌, ◌<◌, length, IfSome};
-ghost use Rattle.link_capture_spellings.specs.SpellingTables.{is_gre, is_gre6, is_ip_tunnel, is_pair, data_named};
-ghost use Rattle.link_capture_spellings.specs.SpellingTables.{family_table, next_table, next_list, inside_table};
-ghost use Rattle.link_capture_spellings.specs.SpellingTables.{has_peer, inside, table_depth, depth};
+ghost use Rattle.link_capture_quirks.specs.QuirkTables.{is_gre, is_gre6, is_ip_tunnel, is_pair, data_named};
+ghost use Rattle.link_capture_quirks.specs.QuirkTables.{family_table, next_table, next_list, inside_table};
+ghost use Rattle.link_capture_quirks.specs.QuirkTables.{has_peer, inside, table_depth, depth};
 
 use netlink_packet_core_numbers::without_nul;
 
@@ -26,7 +26,7 @@ pub enum Data {
     /// Of `veth` and `vxcan`, before their first attribute.
     Pair,
     /// Of `veth` and `vxcan`, after their first attribute.
-    Behind,
+    AfterFirst,
 }
 
 /// A kind of list of attributes.
@@ -86,7 +86,7 @@ fn is_pair(name: &[u8]) -> bool
 }
 
 /// Returns the data of the kind of link with a name.
-#[tactic(auto, unfolding(crate::specs::SpellingTables::data_named))]
+#[tactic(auto, unfolding(crate::specs::QuirkTables::data_named))]
 fn data_named(name: &[u8]) -> Data
     ensures { result ≡ data_named name.now }
 {
@@ -132,7 +132,7 @@ fn next_table(table: Table, kind: u16, payload: &[u8]) -> Table
 {
     match table {
         Table::Info(_) if kind == 1 => Table::Info(data_named(without_nul(payload))),
-        Table::OfKind(Data::Pair) => Table::OfKind(Data::Behind),
+        Table::OfKind(Data::Pair) => Table::OfKind(Data::AfterFirst),
         _ => table,
     }
 }
@@ -182,10 +182,10 @@ fn has_peer(table: Table) -> bool
 
 /// Returns the list in an attribute, and the number of bytes before it: 16 for a peer's header,
 /// which is a link's.
-#[tactic(auto, unfolding(crate::specs::SpellingTables::inside))]
+#[tactic(auto, unfolding(crate::specs::QuirkTables::inside))]
 pub fn inside(list: Listed, kind: u16, payload: &[u8]) -> Option<(Listed, usize)>
     ensures inside { result ≡ inside list kind payload.now }
-    ensures front { IfSome result (λ x. x.1 ≤ length payload.now) }
+    ensures header_size { IfSome result (λ x. x.1 ≤ length payload.now) }
     ensures lower { IfSome result (λ x. depth x.0 < depth list) }
 {
     if kind == 1 && list.judged && payload.len() >= 16 && has_peer(list.table) {
@@ -197,11 +197,11 @@ pub fn inside(list: Listed, kind: u16, payload: &[u8]) -> Option<(Listed, usize)
     }
     match inside_table(list.table, kind) {
         Some(table) => {
-            let held = Listed {
+            let inner = Listed {
                 table,
                 judged: list.judged,
             };
-            Some((held, 0))
+            Some((inner, 0))
         }
         None => None,
     }

@@ -3,13 +3,13 @@
 ghost use Rattle.std.specs.Prelude.{◌≡◌, ◌≤◌, ◌<◌, ◌+◌, ◌^◌, ◌∷◌, ◌++◌, [], true, drop, length, IfSome, IfNone};
 ghost use Rattle.netlink_packet_core.specs.Frames.{IsFrame, frame_type, frame_body};
 ghost use Rattle.link_capture_grammar.specs.Bodies.{is_link_type};
-ghost use Rattle.link_capture_spellings.specs.SpellingLists.{told_at};
-ghost use Rattle.link_capture_spellings.specs.Spellings.{frame_told};
-ghost use Rattle.link_capture_spellings.specs.SpellingWalks.{one_told, levels_told, walk_told, AreWithin, weight};
+ghost use Rattle.link_capture_quirks.specs.QuirkLists.{quirks_at};
+ghost use Rattle.link_capture_quirks.specs.CaptureQuirks.{frame_quirks};
+ghost use Rattle.link_capture_quirks.specs.QuirkWalks.{optional_quirk, levels_quirks, walk_quirks, AreWithin, weight};
 
-use crate::laws::lists_go_by_steps;
-use crate::placed::{PlacedSpelling, Spelling};
-use crate::rows::{attribute_spellings, header_spelling};
+use crate::laws::lists_unfold_by_attributes;
+use crate::quirk_at::{QuirkAt, Quirk};
+use crate::rows::{attribute_quirks, header_quirk};
 use crate::tables::{Listed, Table, family_table, inside, next_list};
 use arrayvec::ArrayVec;
 use link_capture_checks::frame_body;
@@ -27,7 +27,7 @@ const DEPTH: usize = 6;
 #[derive(Clone, Copy, Drop)]
 pub(crate) struct Level<'a> {
     pub list: Listed,
-    pub place: usize,
+    pub offset: usize,
     pub rest: &'a [u8],
 }
 
@@ -38,7 +38,7 @@ impl Default for Level<'_> {
                 table: Table::Link,
                 judged: false,
             },
-            place: 0,
+            offset: 0,
             rest: &[],
         }
     }
@@ -48,37 +48,37 @@ impl Default for Level<'_> {
 /// inside the one before it.
 #[derive(Drop)]
 pub(crate) struct Walk<'a> {
-    pub first: Option<PlacedSpelling>,
-    pub second: Option<PlacedSpelling>,
+    pub first: Option<QuirkAt>,
+    pub second: Option<QuirkAt>,
     pub levels: ArrayVec<Level<'a>, DEPTH>,
 }
 
 /// Returns a quirk with its offset.
-fn placed(place: usize, spelling: Option<Spelling>) -> Option<PlacedSpelling>
-    ensures { one_told result ≡ told_at place spelling }
+fn quirk_at(offset: usize, quirk: Option<Quirk>) -> Option<QuirkAt>
+    ensures { optional_quirk result ≡ quirks_at offset quirk }
 {
-    match spelling {
-        Some(spelling) => Some(PlacedSpelling {
-            spelling,
-            offset: place as u64,
+    match quirk {
+        Some(quirk) => Some(QuirkAt {
+            quirk,
+            offset: offset as u64,
         }),
         None => None,
     }
 }
 
-/// Returns the bytes after the first `front`.
-fn behind(bytes: &[u8], front: usize) -> &[u8]
-    requires { front ≤ length bytes.now }
-    ensures { result.now ≡ drop front bytes.now }
+/// Returns the bytes after the first `header_size`.
+fn following(bytes: &[u8], header_size: usize) -> &[u8]
+    requires { header_size ≤ length bytes.now }
+    ensures { result.now ≡ drop header_size bytes.now }
 {
-    &bytes[front..]
+    &bytes[header_size..]
 }
 
 impl<'a> Walk<'a> {
     /// Returns a walk with nothing left.
     pub(crate) fn new() -> Self
         ensures within { AreWithin 0 result.levels.items }
-        ensures told { walk_told result.first result.second result.levels.items ≡ [] }
+        ensures quirks_left { walk_quirks result.first result.second result.levels.items ≡ [] }
     {
         Walk {
             first: None,
@@ -87,31 +87,31 @@ impl<'a> Walk<'a> {
         }
     }
 
-    /// Begins the first frame of `bytes`, which are at `place`.
-    pub(crate) fn enter(&mut self, bytes: &'a [u8], place: usize)
+    /// Begins the first frame of `bytes`, which are at `offset`.
+    pub(crate) fn enter(&mut self, bytes: &'a [u8], offset: usize)
         requires frame { IsFrame bytes.now }
         requires body { is_link_type (frame_type bytes.now) ≡ true → 16 ≤ length (frame_body bytes.now) }
-        requires near { place + length bytes.now < 2 ^ 63 }
-        requires told { walk_told self.old.first self.old.second self.old.levels.items ≡ [] }
+        requires near { offset + length bytes.now < 2 ^ 63 }
+        requires quirks_left { walk_quirks self.old.first self.old.second self.old.levels.items ≡ [] }
         requires ended { self.old.levels.items ≡ [] }
         ensures within { AreWithin 0 self.new.levels.items }
-        ensures told { walk_told self.new.first self.new.second self.new.levels.items ≡ frame_told place bytes.now }
+        ensures quirks_left { walk_quirks self.new.first self.new.second self.new.levels.items ≡ frame_quirks offset bytes.now }
     {
         let message_type = NetlinkBuffer::new(bytes).message_type();
         if !is_link_type(message_type) {
             return;
         }
         let body = frame_body(bytes);
-        let start = place + NETLINK_HEADER_LEN;
-        self.first = placed(start + 1, header_spelling(message_type, body));
+        let start = offset + NETLINK_HEADER_LEN;
+        self.first = quirk_at(start + 1, header_quirk(message_type, body));
         self.second = None;
         self.levels.push(Level {
             list: Listed {
                 table: family_table(body[0]),
                 judged: true,
             },
-            place: start + LINK_HEADER_LEN,
-            rest: behind(body, LINK_HEADER_LEN),
+            offset: start + LINK_HEADER_LEN,
+            rest: following(body, LINK_HEADER_LEN),
         });
     }
 
@@ -119,49 +119,49 @@ impl<'a> Walk<'a> {
     fn step(&mut self, level: Level<'a>)
         requires { AreWithin 0 (self.old.levels.items ++ level ∷ []) }
         ensures within { AreWithin 0 self.new.levels.items }
-        ensures told { walk_told self.new.first self.new.second self.new.levels.items
-            ≡ levels_told (self.old.levels.items ++ level.entry ∷ []) }
+        ensures quirks_left { walk_quirks self.new.first self.new.second self.new.levels.items
+            ≡ levels_quirks (self.old.levels.items ++ level.entry ∷ []) }
         ensures less { weight self.new.levels.items
             < weight (self.old.levels.items ++ level.entry ∷ []) }
     {
-        lists_go_by_steps();
+        lists_unfold_by_attributes();
         let Some((attribute, after)) = first_attribute(level.rest) else {
             self.first = None;
             self.second = None;
             return;
         };
         let kind = attribute.kind % KIND_BOUND;
-        let (nested, held) = attribute_spellings(
+        let (nested, in_payload) = attribute_quirks(
             level.list.table,
             attribute.kind,
             attribute.payload,
         );
-        self.first = placed(level.place, nested);
-        self.second = placed(level.place, held);
+        self.first = quirk_at(level.offset, nested);
+        self.second = quirk_at(level.offset, in_payload);
         self.levels.push(Level {
             list: next_list(level.list, kind, attribute.payload),
-            place: level.place + nla_align(4 + attribute.payload.len()),
+            offset: level.offset + nla_align(4 + attribute.payload.len()),
             rest: after,
         });
-        if let Some((list, front)) = inside(level.list, kind, attribute.payload) {
+        if let Some((list, header_size)) = inside(level.list, kind, attribute.payload) {
             self.levels.push(Level {
                 list,
-                place: level.place + 4 + front,
-                rest: behind(attribute.payload, front),
+                offset: level.offset + 4 + header_size,
+                rest: following(attribute.payload, header_size),
             });
         }
     }
 
     /// Returns the next quirk of the frame.
-    pub(crate) fn next(&mut self) -> Option<PlacedSpelling>
+    pub(crate) fn next(&mut self) -> Option<QuirkAt>
         requires { AreWithin 0 self.old.levels.items }
         ensures within { AreWithin 0 self.new.levels.items }
-        ensures some { IfSome result (λ x. walk_told self.old.first self.old.second self.old.levels.items
-            ≡ x ∷ walk_told self.new.first self.new.second self.new.levels.items) }
+        ensures some { IfSome result (λ x. walk_quirks self.old.first self.old.second self.old.levels.items
+            ≡ x ∷ walk_quirks self.new.first self.new.second self.new.levels.items) }
         ensures none { IfNone result
-            (walk_told self.old.first self.old.second self.old.levels.items ≡ []) }
+            (walk_quirks self.old.first self.old.second self.old.levels.items ≡ []) }
         ensures ended { IfNone result
-            (walk_told self.new.first self.new.second self.new.levels.items ≡ []) }
+            (walk_quirks self.new.first self.new.second self.new.levels.items ≡ []) }
         ensures bare { IfNone result (self.new.levels.items ≡ []) }
     {
         'lists: loop {

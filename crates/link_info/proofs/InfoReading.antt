@@ -8,11 +8,11 @@ use Rattle.attribute_tables_grammar.specs.Lists.{Context, nothing, any, LawfulGr
 use Rattle.attribute_tables_grammar.specs.Peers.{Peer}
 use Rattle.attribute_tables_grammar.specs.Tables.{info_next}
 use Rattle.attribute_tables_grammar.specs.Readings.{Written, reading_as, written_by, SoFar, all_named}
-use Rattle.attribute_tables_grammar.specs.Laws.{ReadingsGoBySteps, ReadingsTellRules, ContextsGoBySteps}
+use Rattle.attribute_tables_grammar.specs.Laws.{ReadingsUnfold, ReadingsDetermineRules, ContextsUnfold}
 use Rattle.attribute_tables.specs.Written.{written_as}
 use Rattle.attribute_tables.proofs.Lists.{all_written, entries_written}
 use Rattle.link_info_grammar.specs.LinkInfo.{data_rule_under, port_data_rule_under, info_grammar_under, info_rule_under, link_info_row_under}
-use Rattle.link_info.specs.LinkInfo.{link_info_entry, link_info_fits, link_info_names_row}
+use Rattle.link_info.specs.LinkInfo.{link_info_entry, link_info_fits, link_info_is_row_variant}
 use Rattle.link_info.specs.declared.infos.LinkInfo.{LinkInfo}
 
 abbrev pub written : List LinkInfo → List Written
@@ -23,19 +23,19 @@ module _ (p : Peer) where
 
   -- each value is the variant of its row, and this is the context after them
   pub record Named (vs : List LinkInfo) (c : Context) : Type 0 where
-    pub named : all_named (info_grammar_under p) link_info_entry link_info_names_row nothing vs
+    pub named : all_named (info_grammar_under p) link_info_entry link_info_is_row_variant nothing vs
     pub leaves : context_after (info_grammar_under p) nothing (map link_info_entry vs) ≡ c
 
-  named_more : (c : Context) (vs : List LinkInfo) (v : LinkInfo) → all_named (info_grammar_under p) link_info_entry link_info_names_row c vs → link_info_names_row (context_after (info_grammar_under p) c (map link_info_entry vs)) v →
-      all_named (info_grammar_under p) link_info_entry link_info_names_row c (vs ++ v ∷ [])
+  named_more : (c : Context) (vs : List LinkInfo) (v : LinkInfo) → all_named (info_grammar_under p) link_info_entry link_info_is_row_variant c vs → link_info_is_row_variant (context_after (info_grammar_under p) c (map link_info_entry vs)) v →
+      all_named (info_grammar_under p) link_info_entry link_info_is_row_variant c (vs ++ v ∷ [])
   unfolding context_after
   named_more c [] v h n = (n, record {})
   named_more c (w ∷ vs) v h n = (h.0, named_more ((info_grammar_under p).next c (link_info_entry w)) vs v h.1 n)
 
-  named_next : ContextsGoBySteps → LawfulGrammar (info_grammar_under p) → (vs : List LinkInfo) (c : Context) (e : Attribute) (v : LinkInfo) → (row_of (info_grammar_under p) c e).rule.accepted e.payload ≡ true → link_info_entry v ≡ rewrite (row_of (info_grammar_under p) c e) e →
-      link_info_names_row c v → Named vs c → Named (vs ++ v ∷ []) ((info_grammar_under p).next c e)
+  named_next : ContextsUnfold → LawfulGrammar (info_grammar_under p) → (vs : List LinkInfo) (c : Context) (e : Attribute) (v : LinkInfo) → (row_of (info_grammar_under p) c e).rule.accepted e.payload ≡ true → link_info_entry v ≡ rewrite (row_of (info_grammar_under p) c e) e →
+      link_info_is_row_variant c v → Named vs c → Named (vs ++ v ∷ []) ((info_grammar_under p).next c e)
   named_next contexts lawful vs c e v a is n s = record {
-    named = named_more nothing vs v s.named (subst (λ d. link_info_names_row d v) (sym s.leaves) n);
+    named = named_more nothing vs v s.named (subst (λ d. link_info_is_row_variant d v) (sym s.leaves) n);
     leaves = ap (context_after (info_grammar_under p) nothing) (map-append link_info_entry vs (v ∷ [])) ∙ contexts.more (info_grammar_under p) nothing (map link_info_entry vs) (link_info_entry v)
         ∙ ap (λ d. (info_grammar_under p).next d (link_info_entry v)) s.leaves ∙ ap ((info_grammar_under p).next c) is ∙ contexts.canonical (info_grammar_under p) lawful c e a;
   }
@@ -54,16 +54,16 @@ module _ (p : Peer) where
     pub canonical : text_by link_info_entry vs ≡ (info_rule_under p).canonical bytes
     pub fits : all_fit_by link_info_entry link_info_fits vs ≡ (info_rule_under p).fits bytes
 
-  module _ (steps : ReadingsGoBySteps) where
+  module _ (steps : ReadingsUnfold) where
     pub state_start : (bytes : List ℕ) → State bytes [] nothing bytes
     unfolding context_after
     state_start bytes = record { so_far = steps.start any (info_grammar_under p) bytes; named = record { named = record {}; leaves = refl } }
 
-    pub state_more : ContextsGoBySteps → LawfulGrammar (info_grammar_under p) → (bytes : List ℕ) (vs : List LinkInfo) (c : Context) (rest : List ℕ) (v : LinkInfo) → IsAttribute rest →
+    pub state_more : ContextsUnfold → LawfulGrammar (info_grammar_under p) → (bytes : List ℕ) (vs : List LinkInfo) (c : Context) (rest : List ℕ) (v : LinkInfo) → IsAttribute rest →
         (link_info_row_under p c (proper_kind (viewed_kind rest))).rule.accepted (viewed_payload rest) ≡ true →
         link_info_entry v ≡ rewrite (link_info_row_under p c (proper_kind (viewed_kind rest))) (viewed_attribute rest) →
         link_info_fits v ≡ (link_info_row_under p c (proper_kind (viewed_kind rest))).rule.fits (viewed_payload rest) →
-        link_info_names_row c v → State bytes vs c rest → State bytes (vs ++ v ∷ []) (info_next c (proper_kind (viewed_kind rest)) (viewed_payload rest)) (after_first rest)
+        link_info_is_row_variant c v → State bytes vs c rest → State bytes (vs ++ v ∷ []) (info_next c (proper_kind (viewed_kind rest)) (viewed_payload rest)) (after_first rest)
     unfolding info_grammar_under data_rule_under port_data_rule_under
     state_more contexts lawful bytes vs c rest v h a entry inside n s =
         let e = viewed_attribute rest in
@@ -75,20 +75,20 @@ module _ (p : Peer) where
           named = named_next contexts lawful vs c e v a entry n s.named;
         }
 
-    pub state_refused : ReadingsTellRules → (bytes : List ℕ) (vs : List LinkInfo) (c : Context) (rest : List ℕ) → IsAttribute rest →
+    pub state_refused : ReadingsDetermineRules → (bytes : List ℕ) (vs : List LinkInfo) (c : Context) (rest : List ℕ) → IsAttribute rest →
         (link_info_row_under p c (proper_kind (viewed_kind rest))).rule.accepted (viewed_payload rest) ≡ false → State bytes vs c rest → (info_rule_under p).accepted bytes ≡ false
     unfolding info_grammar_under data_rule_under port_data_rule_under info_rule_under
-    state_refused tell bytes vs c rest h a s = tell.denies any (info_grammar_under p) bytes (tell.of_any _ _ ∙ steps.refused any (info_grammar_under p) bytes (written vs) c rest h refl a s.so_far)
+    state_refused determine bytes vs c rest h a s = determine.rejects any (info_grammar_under p) bytes (determine.of_any _ _ ∙ steps.refused any (info_grammar_under p) bytes (written vs) c rest h refl a s.so_far)
 
-    pub state_stopped : ReadingsTellRules → (bytes : List ℕ) (vs : List LinkInfo) (c : Context) (rest : List ℕ) → (IsAttribute rest → ⊥) → 0 < length rest → State bytes vs c rest → (info_rule_under p).accepted bytes ≡ false
+    pub state_stopped : ReadingsDetermineRules → (bytes : List ℕ) (vs : List LinkInfo) (c : Context) (rest : List ℕ) → (IsAttribute rest → ⊥) → 0 < length rest → State bytes vs c rest → (info_rule_under p).accepted bytes ≡ false
     unfolding info_grammar_under info_rule_under
-    state_stopped tell bytes vs c rest h l s = tell.denies any (info_grammar_under p) bytes (tell.of_any _ _ ∙ steps.stopped any (info_grammar_under p) bytes (written vs) c rest h l s.so_far)
+    state_stopped determine bytes vs c rest h l s = determine.rejects any (info_grammar_under p) bytes (determine.of_any _ _ ∙ steps.stopped any (info_grammar_under p) bytes (written vs) c rest h l s.so_far)
 
-    pub state_done : ReadingsTellRules → (bytes : List ℕ) (vs : List LinkInfo) (c : Context) (rest : List ℕ) → length rest ≡ 0 → State bytes vs c rest → Done bytes vs
+    pub state_done : ReadingsDetermineRules → (bytes : List ℕ) (vs : List LinkInfo) (c : Context) (rest : List ℕ) → length rest ≡ 0 → State bytes vs c rest → Done bytes vs
     unfolding info_grammar_under info_rule_under
-    state_done tell bytes vs c rest l s =
-        let d = tell.of_any _ _ ∙ steps.done any (info_grammar_under p) bytes (written vs) c rest l s.so_far in
-        let t = tell.tells any (info_grammar_under p) bytes (written vs) d in
+    state_done determine bytes vs c rest l s =
+        let d = determine.of_any _ _ ∙ steps.done any (info_grammar_under p) bytes (written vs) c rest l s.so_far in
+        let t = determine.determines any (info_grammar_under p) bytes (written vs) d in
         record {
           read = d;
           accepted = t.accepted;

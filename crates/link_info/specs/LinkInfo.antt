@@ -11,8 +11,8 @@ use Rattle.link_info_kinds.specs.Kinds.{info_kind_entry, info_kind_is_named, IsN
 use Rattle.link_info_kinds.specs.PortKinds.{info_port_kind_entry, info_port_kind_is_named, IsPortNamedBy}
 use Rattle.link_info_kinds.specs.declared.info_kind.InfoKind.{InfoKind}
 use Rattle.link_info_kinds.specs.declared.info_port_kind.InfoPortKind.{InfoPortKind}
-use Rattle.link_info_data.specs.Data.{info_data_entry, info_data_fits, info_data_names_row}
-use Rattle.link_info_data.specs.PortData.{info_port_data_entry, info_port_data_fits, info_port_data_names_row}
+use Rattle.link_info_data.specs.Data.{info_data_entry, info_data_fits, info_data_is_row_variant}
+use Rattle.link_info_data.specs.PortData.{info_port_data_entry, info_port_data_fits, info_port_data_is_row_variant}
 use Rattle.link_info_data.specs.Xstats.{xstats_bytes}
 use Rattle.link_info_data.specs.declared.info_data.InfoData.{InfoData}
 use Rattle.link_info_data.specs.declared.info_port.InfoPortData.{InfoPortData}
@@ -72,20 +72,20 @@ context_after_first c b = info_next c (proper_kind (viewed_kind b)) (viewed_payl
 -- ---- values that are the variants of their rows
 
 -- The data are the variant of the kind in force.
-abbrev pub data_names_row : Option (List ℕ) → InfoData → Type 0
-data_names_row None d = ⊥
-data_names_row (Some n) d = (k : InfoKind) × IsNamedBy n k × info_data_names_row k d
+abbrev pub data_is_row_variant : Option (List ℕ) → InfoData → Type 0
+data_is_row_variant None d = ⊥
+data_is_row_variant (Some n) d = (k : InfoKind) × IsNamedBy n k × info_data_is_row_variant k d
 
 -- The port data are the variant of the port kind in force.
-abbrev pub port_data_names_row : Option (List ℕ) → InfoPortData → Type 0
-port_data_names_row None d = ⊥
-port_data_names_row (Some n) d = (k : InfoPortKind) × IsPortNamedBy n k × info_port_data_names_row k d
+abbrev pub port_data_is_row_variant : Option (List ℕ) → InfoPortData → Type 0
+port_data_is_row_variant None d = ⊥
+port_data_is_row_variant (Some n) d = (k : InfoPortKind) × IsPortNamedBy n k × info_port_data_is_row_variant k d
 
 -- The value is the variant of its row in a context.
-abbrev pub link_info_names_row : Context → LinkInfo → Type 0
-link_info_names_row c (Info.Xstats x) = ⊤
-link_info_names_row c (Info.Kind k) = info_kind_is_named k ≡ true
-link_info_names_row c (Info.Data d) = data_names_row c.kind d
-link_info_names_row c (Info.PortKind k) = info_port_kind_is_named k ≡ true
-link_info_names_row c (Info.PortData d) = port_data_names_row c.port_kind d
-link_info_names_row c (Info.Other a) = (link_info_row c (proper_kind a.kind)).is_typed ≡ false
+abbrev pub link_info_is_row_variant : Context → LinkInfo → Type 0
+link_info_is_row_variant c (Info.Xstats x) = ⊤
+link_info_is_row_variant c (Info.Kind k) = info_kind_is_named k ≡ true
+link_info_is_row_variant c (Info.Data d) = data_is_row_variant c.kind d
+link_info_is_row_variant c (Info.PortKind k) = info_port_kind_is_named k ≡ true
+link_info_is_row_variant c (Info.PortData d) = port_data_is_row_variant c.port_kind d
+link_info_is_row_variant c (Info.Other a) = (link_info_row c (proper_kind a.kind)).is_typed ≡ false

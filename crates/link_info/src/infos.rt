@@ -12,14 +12,14 @@ ghost use Rattle.link_info_grammar.specs.LinkInfo.{data_rule_under, port_data_ru
 ghost use Rattle.link_info_grammar.specs.LinkInfo.{info_grammar_under, info_rule_under};
 ghost use Rattle.link_info_data.specs.Data.{info_data_fits, info_data_payload};
 ghost use Rattle.link_info_data.specs.PortData.{info_port_data_fits, info_port_data_payload};
-ghost use Rattle.link_info.specs.LinkInfo.{data_names_row, port_data_names_row};
+ghost use Rattle.link_info.specs.LinkInfo.{data_is_row_variant, port_data_is_row_variant};
 ghost use Rattle.link_info.specs.LinkInfo.{context_after_first, in_force, is_accepted_in, fits_in, written_in};
-ghost use Rattle.link_info.specs.LinkInfo.{link_info_entry, link_info_fits, link_info_names_row};
-ghost use Rattle.attribute_tables.specs.Outcomes.{IsRefusedUnless, IsWrittenBy, ListIsReadAs, ListIsWrittenBy, SucceedsWhere};
+ghost use Rattle.link_info.specs.LinkInfo.{link_info_entry, link_info_fits, link_info_is_row_variant};
+ghost use Rattle.attribute_tables.specs.Outcomes.{IsRefusedUnless, IsWrittenBy, ListIsReadAs, ListIsWrittenBy, SucceedsIf};
 
-use super::laws::{names_tell_rules, port_data_have_one_rule, port_names_tell_rules};
+use super::laws::{names_determine_rules, port_data_have_one_rule, port_names_determine_rules};
 use attribute_tables_grammar::laws::{
-    contexts_go_by_steps, readings_go_by_steps, readings_tell_rules,
+    contexts_unfold, readings_unfold, readings_determine_rules,
 };
 use link_info_data::{InfoData, InfoPortData, LinkXstats};
 use link_info_grammar::laws::info_grammar_is_lawful;
@@ -141,24 +141,24 @@ fn parse_data<R: PeerRule>(
     payload: &[u8],
     rule: &R,
 ) -> Result<InfoData, DecodeError>
-    ensures judged { SucceedsWhere result ((data_rule_under R.peer name.now).accepted payload.now) }
+    ensures judged { SucceedsIf result ((data_rule_under R.peer name.now).accepted payload.now) }
     ensures written { IsWrittenBy result info_data_payload info_data_fits
         (data_rule_under R.peer name.now) payload.now }
-    ensures names_row { IfOk result (λ d. data_names_row (Some name.now) d) }
+    ensures is_row_variant { IfOk result (λ d. data_is_row_variant (Some name.now) d) }
 {
-    names_tell_rules();
+    names_determine_rules();
     let kind = InfoKind::from_name(alloc, name)?;
     InfoData::parse_with_peers(alloc, payload, &kind, rule)
 }
 
 // Reads the data of the port kind with this name.
 fn parse_port_data(alloc: Global, name: &str, payload: &[u8]) -> Result<InfoPortData, DecodeError>
-    ensures judged { SucceedsWhere result ((port_data_rule name.now).accepted payload.now) }
+    ensures judged { SucceedsIf result ((port_data_rule name.now).accepted payload.now) }
     ensures written { IsWrittenBy result info_port_data_payload info_port_data_fits
         (port_data_rule name.now) payload.now }
-    ensures names_row { IfOk result (λ d. port_data_names_row (Some name.now) d) }
+    ensures is_row_variant { IfOk result (λ d. port_data_is_row_variant (Some name.now) d) }
 {
-    port_names_tell_rules();
+    port_names_determine_rules();
     let kind = InfoPortKind::from_name(alloc, name)?;
     InfoPortData::parse_with_param(alloc, payload, &kind)
 }
@@ -172,14 +172,14 @@ impl LinkInfo {
         rule: &R,
     ) -> Result<LinkInfo, DecodeError>
         requires { IsAttribute (storage buf.now).now }
-        ensures judged { SucceedsWhere result
+        ensures judged { SucceedsIf result
             (is_accepted_in R.peer (in_force force.entry) (storage buf.now).now) }
         ensures value { IfOk result
             (λ v. link_info_entry v ≡ written_in R.peer (in_force force.entry) (storage buf.now).now) }
         ensures inside { IfOk result
             (λ v. link_info_fits v ≡ fits_in R.peer (in_force force.entry) (storage buf.now).now) }
-        ensures names_row { IfOk result
-            (λ v. link_info_names_row (in_force force.entry) v) }
+        ensures is_row_variant { IfOk result
+            (λ v. link_info_is_row_variant (in_force force.entry) v) }
     {
         port_data_have_one_rule();
         let payload = buf.value();
@@ -213,18 +213,18 @@ impl LinkInfo {
         bytes: &[u8],
         rule: &R,
     ) -> Result<Vec<LinkInfo>, DecodeError>
-        ensures judged { SucceedsWhere result ((info_rule_under R.peer).accepted bytes.now) }
+        ensures judged { SucceedsIf result ((info_rule_under R.peer).accepted bytes.now) }
         ensures read { ListIsReadAs result link_info_entry link_info_fits
             (reading_as any (info_grammar_under R.peer) bytes.now) }
         ensures written { ListIsWrittenBy result link_info_entry link_info_fits
             (info_rule_under R.peer) bytes.now }
-        ensures names_row { IfOk result
-            (λ v. all_named (info_grammar_under R.peer) link_info_entry link_info_names_row nothing v.items) }
+        ensures is_row_variant { IfOk result
+            (λ v. all_named (info_grammar_under R.peer) link_info_entry link_info_is_row_variant nothing v.items) }
         ensures not_empty { IfErr result (λ _. 0 < length bytes.now) }
     {
-        readings_go_by_steps();
-        readings_tell_rules();
-        contexts_go_by_steps();
+        readings_unfold();
+        readings_determine_rules();
+        contexts_unfold();
         info_grammar_is_lawful();
         rule.rule_is_lawful();
         let mut list = Vec::new(alloc);
@@ -254,8 +254,8 @@ impl LinkInfo {
         ensures read { ListIsReadAs result link_info_entry link_info_fits
             (reading_as any info_grammar bytes.now) }
         ensures written { ListIsWrittenBy result link_info_entry link_info_fits info_rule bytes.now }
-        ensures names_row { IfOk result
-            (λ v. all_named info_grammar link_info_entry link_info_names_row nothing v.items) }
+        ensures is_row_variant { IfOk result
+            (λ v. all_named info_grammar link_info_entry link_info_is_row_variant nothing v.items) }
         ensures not_empty { IfErr result (λ _. 0 < length bytes.now) }
     {
         Self::parse_list_with(alloc, bytes, &BytesPeer)
@@ -280,8 +280,8 @@ impl LinkInfo {
             (reading_as any (info_grammar_under R.peer) bytes.now) }
         ensures written { ListIsWrittenBy result link_info_entry link_info_fits
             (info_rule_under R.peer) bytes.now }
-        ensures names_row { IfOk result
-            (λ v. all_named (info_grammar_under R.peer) link_info_entry link_info_names_row nothing v.items) }
+        ensures is_row_variant { IfOk result
+            (λ v. all_named (info_grammar_under R.peer) link_info_entry link_info_is_row_variant nothing v.items) }
         ensures not_empty { IfErr result (λ _. 0 < length bytes.now) }
     {
         match Self::read_list(alloc, bytes, rule) {

@@ -3,18 +3,18 @@
 ghost use Rattle.link_info.specs.Laws.{LinkInfoIsLawful, KindsAreTheNames};
 
 pub use attribute_tables_grammar::laws::{
-    canonical_texts_are_cut_again, old_texts_are_renewed, peers_that_are_bytes_are_lawful,
+    canonical_lists_are_cut, old_texts_are_migrated, peers_that_are_bytes_are_lawful,
     rules_without_peers_are_one, same_lists_leave_one_context, short_texts_fit, tables_are_lawful,
-    texts_keep_meanings, texts_tell_meanings,
+    texts_keep_meanings, texts_determine_meanings,
 };
 pub use link_info_data::laws::{
-    data_without_peers_have_one_rule, names_tell_rules, port_data_have_one_rule,
-    port_names_tell_rules,
+    data_without_peers_have_one_rule, names_determine_rules, port_data_have_one_rule,
+    port_names_determine_rules,
 };
 pub use link_info_grammar::laws::{
     info_grammar_is_lawful, info_is_a_payload, tables_are_listed, tables_pass,
 };
-pub use link_info_kinds::laws::{names_tell_kinds, names_tell_port_kinds};
+pub use link_info_kinds::laws::{names_determine_kinds, names_determine_port_kinds};
 pub use link_info_types::laws::{constants_are_named, tunnel_constants_are_named};
 
 /// The canonical encoding of legal link info is legal, already canonical, and at most 77 times as

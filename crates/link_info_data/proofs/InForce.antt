@@ -83,8 +83,8 @@ module _ (looked_up : NamesAreLookedUp) (unlisted : UnlistedNamesHoldBytes) (p :
   port_data_rule-kind PortKind.Team h = listed_port PortKind.Team refl
   port_data_rule-kind (PortKind.Other s) h = unlisted.port_kinds p (string_bytes s) h
 
-  pub names_tell_rules : (n : List ℕ) (k : InfoKind) → IsNamedBy n k → data_rule_under p n ≡ data_rule_of_under p k
-  names_tell_rules n k h = ap (data_rule_under p) (sym h.0) ∙ data_rule-kind k h.1
+  pub names_determine_rules : (n : List ℕ) (k : InfoKind) → IsNamedBy n k → data_rule_under p n ≡ data_rule_of_under p k
+  names_determine_rules n k h = ap (data_rule_under p) (sym h.0) ∙ data_rule-kind k h.1
 
-  pub port_names_tell_rules : (n : List ℕ) (k : InfoPortKind) → IsPortNamedBy n k → port_data_rule_under p n ≡ port_data_rule_of_under p k
-  port_names_tell_rules n k h = ap (port_data_rule_under p) (sym h.0) ∙ port_data_rule-kind k h.1
+  pub port_names_determine_rules : (n : List ℕ) (k : InfoPortKind) → IsPortNamedBy n k → port_data_rule_under p n ≡ port_data_rule_of_under p k
+  port_names_determine_rules n k h = ap (port_data_rule_under p) (sym h.0) ∙ port_data_rule-kind k h.1

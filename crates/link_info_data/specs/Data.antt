@@ -10,27 +10,27 @@ use Rattle.attribute_tables_grammar.specs.Peers.{Peer, bytes_peer}
 use Rattle.attribute_tables_grammar.specs.Rules.{Rule}
 use Rattle.attribute_tables_grammar.specs.Tables.{Payload}
 use Rattle.link_info_grammar.specs.Families.{kinds}
-use Rattle.link_info_devices.specs.Batadv.{batadv_entry, batadv_names_row}
-use Rattle.link_info_devices.specs.Ipoib.{ipoib_entry, ipoib_names_row}
-use Rattle.link_info_devices.specs.Ipvlan.{ipvlan_entry, ipvlan_names_row}
-use Rattle.link_info_devices.specs.Rmnet.{rmnet_entry, rmnet_names_row}
-use Rattle.link_info_devices.specs.Vrf.{vrf_entry, vrf_names_row}
-use Rattle.link_info_devices.specs.Wwan.{wwan_entry, wwan_names_row}
-use Rattle.link_info_tunnels.specs.Amt.{amt_entry, amt_names_row}
-use Rattle.link_info_tunnels.specs.Geneve.{geneve_entry, geneve_names_row}
-use Rattle.link_info_tunnels.specs.Gtp.{gtp_entry, gtp_names_row}
-use Rattle.link_info_tunnels.specs.Vxlan.{vxlan_entry, vxlan_names_row}
+use Rattle.link_info_devices.specs.Batadv.{batadv_entry, batadv_is_row_variant}
+use Rattle.link_info_devices.specs.Ipoib.{ipoib_entry, ipoib_is_row_variant}
+use Rattle.link_info_devices.specs.Ipvlan.{ipvlan_entry, ipvlan_is_row_variant}
+use Rattle.link_info_devices.specs.Rmnet.{rmnet_entry, rmnet_is_row_variant}
+use Rattle.link_info_devices.specs.Vrf.{vrf_entry, vrf_is_row_variant}
+use Rattle.link_info_devices.specs.Wwan.{wwan_entry, wwan_is_row_variant}
+use Rattle.link_info_tunnels.specs.Amt.{amt_entry, amt_is_row_variant}
+use Rattle.link_info_tunnels.specs.Geneve.{geneve_entry, geneve_is_row_variant}
+use Rattle.link_info_tunnels.specs.Gtp.{gtp_entry, gtp_is_row_variant}
+use Rattle.link_info_tunnels.specs.Vxlan.{vxlan_entry, vxlan_is_row_variant}
 use Rattle.link_info_devices.specs.RawData.{raw_entry}
-use Rattle.link_info_devices.specs.Netkit.{netkit_entry, netkit_names_row}
-use Rattle.link_info_devices.specs.Veth.{pair_entry, pair_names_row}
-use Rattle.link_info_devices.specs.MacVlan.{mac_vlan_entry, mac_vlan_fits, mac_vlan_names_row}
-use Rattle.link_info_devices.specs.Macsec.{macsec_entry, macsec_names_row}
-use Rattle.link_info_tunnels.specs.Bareudp.{bareudp_entry, bareudp_names_row}
-use Rattle.link_info_tunnels.specs.Gre.{gre_entry, gre_names_row}
-use Rattle.link_info_tunnels.specs.Gre6.{gre6_entry, gre6_names_row}
-use Rattle.link_info_tunnels.specs.IpTunnel.{ip_tunnel_entry, ip_tunnel_names_row}
-use Rattle.link_info_tunnels.specs.Vti.{vti_entry, vti_names_row}
-use Rattle.link_info_tunnels.specs.Xfrm.{xfrm_entry, xfrm_names_row}
+use Rattle.link_info_devices.specs.Netkit.{netkit_entry, netkit_is_row_variant}
+use Rattle.link_info_devices.specs.Veth.{pair_entry, pair_is_row_variant}
+use Rattle.link_info_devices.specs.MacVlan.{mac_vlan_entry, mac_vlan_fits, mac_vlan_is_row_variant}
+use Rattle.link_info_devices.specs.Macsec.{macsec_entry, macsec_is_row_variant}
+use Rattle.link_info_tunnels.specs.Bareudp.{bareudp_entry, bareudp_is_row_variant}
+use Rattle.link_info_tunnels.specs.Gre.{gre_entry, gre_is_row_variant}
+use Rattle.link_info_tunnels.specs.Gre6.{gre6_entry, gre6_is_row_variant}
+use Rattle.link_info_tunnels.specs.IpTunnel.{ip_tunnel_entry, ip_tunnel_is_row_variant}
+use Rattle.link_info_tunnels.specs.Vti.{vti_entry, vti_is_row_variant}
+use Rattle.link_info_tunnels.specs.Xfrm.{xfrm_entry, xfrm_is_row_variant}
 use Rattle.link_info_kinds.specs.Kinds.{info_kind_text}
 use Rattle.link_info_kinds.specs.declared.info_kind.InfoKind.{InfoKind}
 use Rattle.link_info_kinds.specs.declared.info_kind.InfoKind.TheVariants as Kind
@@ -144,40 +144,40 @@ abbrev pub info_data_entry : InfoData → Attribute
 info_data_entry d = record { kind = 2; payload = info_data_payload d }
 
 -- The value is the variant of the kind, and so is each value inside, of its row.
-abbrev pub info_data_names_row : InfoKind → InfoData → Type 0
-info_data_names_row k (Data.Bridge vs) = k ≡ Kind.Bridge
-info_data_names_row k (Data.Can vs) = k ≡ Kind.Can
-info_data_names_row k (Data.Tun vs) = k ≡ Kind.Tun
-info_data_names_row k (Data.Vlan vs) = k ≡ Kind.Vlan
-info_data_names_row k (Data.Veth v) = (k ≡ Kind.Veth) × pair_names_row v
-info_data_names_row k (Data.Vxlan vs) = (k ≡ Kind.Vxlan) × All vxlan_names_row vs.items
-info_data_names_row k (Data.Bond vs) = k ≡ Kind.Bond
-info_data_names_row k (Data.IpVlan vs) = (k ≡ Kind.IpVlan) × All ipvlan_names_row vs.items
-info_data_names_row k (Data.IpVtap vs) = (k ≡ Kind.IpVtap) × All ipvlan_names_row vs.items
-info_data_names_row k (Data.MacVlan vs) = (k ≡ Kind.MacVlan) × All mac_vlan_names_row vs.items
-info_data_names_row k (Data.MacVtap vs) = (k ≡ Kind.MacVtap) × All mac_vlan_names_row vs.items
-info_data_names_row k (Data.GreTap vs) = (k ≡ Kind.GreTap) × All gre_names_row vs.items
-info_data_names_row k (Data.GreTap6 vs) = (k ≡ Kind.GreTap6) × All gre6_names_row vs.items
-info_data_names_row k (Data.GreTun vs) = (k ≡ Kind.GreTun) × All gre_names_row vs.items
-info_data_names_row k (Data.GreTun6 vs) = (k ≡ Kind.GreTun6) × All gre6_names_row vs.items
-info_data_names_row k (Data.Vti vs) = ((k ≡ Kind.Vti) ⊎ (k ≡ Kind.Vti6)) × All vti_names_row vs.items
-info_data_names_row k (Data.Vrf vs) = (k ≡ Kind.Vrf) × All vrf_names_row vs.items
-info_data_names_row k (Data.Gtp vs) = (k ≡ Kind.Gtp) × All gtp_names_row vs.items
-info_data_names_row k (Data.Ipoib vs) = (k ≡ Kind.Ipoib) × All ipoib_names_row vs.items
-info_data_names_row k (Data.Xfrm vs) = (k ≡ Kind.Xfrm) × All xfrm_names_row vs.items
-info_data_names_row k (Data.MacSec vs) = (k ≡ Kind.MacSec) × All macsec_names_row vs.items
-info_data_names_row k (Data.Hsr vs) = k ≡ Kind.Hsr
-info_data_names_row k (Data.Geneve vs) = (k ≡ Kind.Geneve) × All geneve_names_row vs.items
-info_data_names_row k (Data.IpTunnel vs) = ((k ≡ Kind.IpIp) ⊎ (k ≡ Kind.Ip6Tnl) ⊎ (k ≡ Kind.SitTun)) × All (ip_tunnel_names_row k) vs.items
-info_data_names_row k (Data.Netkit vs) = (k ≡ Kind.Netkit) × All netkit_names_row vs.items
-info_data_names_row k (Data.Vxcan v) = (k ≡ Kind.Vxcan) × pair_names_row v
-info_data_names_row k (Data.Amt vs) = (k ≡ Kind.Amt) × All amt_names_row vs.items
-info_data_names_row k (Data.BatAdv vs) = (k ≡ Kind.BatAdv) × All batadv_names_row vs.items
-info_data_names_row k (Data.BareUdp vs) = (k ≡ Kind.BareUdp) × All bareudp_names_row vs.items
-info_data_names_row k (Data.Dsa vs) = k ≡ Kind.Dsa
-info_data_names_row k (Data.Wwan vs) = (k ≡ Kind.Wwan) × All wwan_names_row vs.items
-info_data_names_row k (Data.RmNet vs) = (k ≡ Kind.RmNet) × All rmnet_names_row vs.items
-info_data_names_row k (Data.ErSpan vs) = (k ≡ Kind.ErSpan) × All gre_names_row vs.items
-info_data_names_row k (Data.Ip6ErSpan vs) = (k ≡ Kind.Ip6ErSpan) × All gre6_names_row vs.items
-info_data_names_row k (Data.Wireguard vs) = k ≡ Kind.Wireguard
-info_data_names_row k (Data.Other b) = keeps_bytes k ≡ true
+abbrev pub info_data_is_row_variant : InfoKind → InfoData → Type 0
+info_data_is_row_variant k (Data.Bridge vs) = k ≡ Kind.Bridge
+info_data_is_row_variant k (Data.Can vs) = k ≡ Kind.Can
+info_data_is_row_variant k (Data.Tun vs) = k ≡ Kind.Tun
+info_data_is_row_variant k (Data.Vlan vs) = k ≡ Kind.Vlan
+info_data_is_row_variant k (Data.Veth v) = (k ≡ Kind.Veth) × pair_is_row_variant v
+info_data_is_row_variant k (Data.Vxlan vs) = (k ≡ Kind.Vxlan) × All vxlan_is_row_variant vs.items
+info_data_is_row_variant k (Data.Bond vs) = k ≡ Kind.Bond
+info_data_is_row_variant k (Data.IpVlan vs) = (k ≡ Kind.IpVlan) × All ipvlan_is_row_variant vs.items
+info_data_is_row_variant k (Data.IpVtap vs) = (k ≡ Kind.IpVtap) × All ipvlan_is_row_variant vs.items
+info_data_is_row_variant k (Data.MacVlan vs) = (k ≡ Kind.MacVlan) × All mac_vlan_is_row_variant vs.items
+info_data_is_row_variant k (Data.MacVtap vs) = (k ≡ Kind.MacVtap) × All mac_vlan_is_row_variant vs.items
+info_data_is_row_variant k (Data.GreTap vs) = (k ≡ Kind.GreTap) × All gre_is_row_variant vs.items
+info_data_is_row_variant k (Data.GreTap6 vs) = (k ≡ Kind.GreTap6) × All gre6_is_row_variant vs.items
+info_data_is_row_variant k (Data.GreTun vs) = (k ≡ Kind.GreTun) × All gre_is_row_variant vs.items
+info_data_is_row_variant k (Data.GreTun6 vs) = (k ≡ Kind.GreTun6) × All gre6_is_row_variant vs.items
+info_data_is_row_variant k (Data.Vti vs) = ((k ≡ Kind.Vti) ⊎ (k ≡ Kind.Vti6)) × All vti_is_row_variant vs.items
+info_data_is_row_variant k (Data.Vrf vs) = (k ≡ Kind.Vrf) × All vrf_is_row_variant vs.items
+info_data_is_row_variant k (Data.Gtp vs) = (k ≡ Kind.Gtp) × All gtp_is_row_variant vs.items
+info_data_is_row_variant k (Data.Ipoib vs) = (k ≡ Kind.Ipoib) × All ipoib_is_row_variant vs.items
+info_data_is_row_variant k (Data.Xfrm vs) = (k ≡ Kind.Xfrm) × All xfrm_is_row_variant vs.items
+info_data_is_row_variant k (Data.MacSec vs) = (k ≡ Kind.MacSec) × All macsec_is_row_variant vs.items
+info_data_is_row_variant k (Data.Hsr vs) = k ≡ Kind.Hsr
+info_data_is_row_variant k (Data.Geneve vs) = (k ≡ Kind.Geneve) × All geneve_is_row_variant vs.items
+info_data_is_row_variant k (Data.IpTunnel vs) = ((k ≡ Kind.IpIp) ⊎ (k ≡ Kind.Ip6Tnl) ⊎ (k ≡ Kind.SitTun)) × All (ip_tunnel_is_row_variant k) vs.items
+info_data_is_row_variant k (Data.Netkit vs) = (k ≡ Kind.Netkit) × All netkit_is_row_variant vs.items
+info_data_is_row_variant k (Data.Vxcan v) = (k ≡ Kind.Vxcan) × pair_is_row_variant v
+info_data_is_row_variant k (Data.Amt vs) = (k ≡ Kind.Amt) × All amt_is_row_variant vs.items
+info_data_is_row_variant k (Data.BatAdv vs) = (k ≡ Kind.BatAdv) × All batadv_is_row_variant vs.items
+info_data_is_row_variant k (Data.BareUdp vs) = (k ≡ Kind.BareUdp) × All bareudp_is_row_variant vs.items
+info_data_is_row_variant k (Data.Dsa vs) = k ≡ Kind.Dsa
+info_data_is_row_variant k (Data.Wwan vs) = (k ≡ Kind.Wwan) × All wwan_is_row_variant vs.items
+info_data_is_row_variant k (Data.RmNet vs) = (k ≡ Kind.RmNet) × All rmnet_is_row_variant vs.items
+info_data_is_row_variant k (Data.ErSpan vs) = (k ≡ Kind.ErSpan) × All gre_is_row_variant vs.items
+info_data_is_row_variant k (Data.Ip6ErSpan vs) = (k ≡ Kind.Ip6ErSpan) × All gre6_is_row_variant vs.items
+info_data_is_row_variant k (Data.Wireguard vs) = k ≡ Kind.Wireguard
+info_data_is_row_variant k (Data.Other b) = keeps_bytes k ≡ true

@@ -8,7 +8,7 @@ use Rattle.attribute_tables_grammar.specs.Peers.{Peer, bytes_peer}
 use Rattle.attribute_tables_grammar.specs.Rules.{Rule}
 use Rattle.attribute_tables_grammar.specs.Tables.{Payload}
 use Rattle.link_info_grammar.specs.Families.{port_kinds}
-use Rattle.link_info_devices.specs.Vrf.{vrf_entry, vrf_names_row}
+use Rattle.link_info_devices.specs.Vrf.{vrf_entry, vrf_is_row_variant}
 use Rattle.link_info_devices.specs.RawData.{raw_entry}
 use Rattle.link_info_kinds.specs.PortKinds.{info_port_kind_text}
 use Rattle.link_info_kinds.specs.declared.info_port_kind.InfoPortKind.{InfoPortKind}
@@ -50,10 +50,10 @@ abbrev pub info_port_data_entry : InfoPortData → Attribute
 info_port_data_entry d = record { kind = 5; payload = info_port_data_payload d }
 
 -- The value is the variant of the port kind, and so is each value inside, of its row.
-abbrev pub info_port_data_names_row : InfoPortKind → InfoPortData → Type 0
-info_port_data_names_row PortKind.Bond (PortData.BondPort vs) = ⊤
-info_port_data_names_row PortKind.Bridge (PortData.BridgePort vs) = ⊤
-info_port_data_names_row PortKind.Vrf (PortData.VrfPort vs) = All vrf_names_row vs.items
-info_port_data_names_row PortKind.Team (PortData.TeamPort vs) = ⊤
-info_port_data_names_row (PortKind.Other s) (PortData.Other b) = ⊤
-info_port_data_names_row _ _ = ⊥
+abbrev pub info_port_data_is_row_variant : InfoPortKind → InfoPortData → Type 0
+info_port_data_is_row_variant PortKind.Bond (PortData.BondPort vs) = ⊤
+info_port_data_is_row_variant PortKind.Bridge (PortData.BridgePort vs) = ⊤
+info_port_data_is_row_variant PortKind.Vrf (PortData.VrfPort vs) = All vrf_is_row_variant vs.items
+info_port_data_is_row_variant PortKind.Team (PortData.TeamPort vs) = ⊤
+info_port_data_is_row_variant (PortKind.Other s) (PortData.Other b) = ⊤
+info_port_data_is_row_variant _ _ = ⊥

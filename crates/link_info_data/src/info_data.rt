@@ -2,11 +2,11 @@
 
 ghost use Rattle.std.specs.Prelude.{◌≡◌, ◌<◌, false, true, length, IfOk};
 ghost use Rattle.netlink_packet_core.specs.Errors.{is_memory};
-ghost use Rattle.link_info_data.specs.Data.{info_data_entry, info_data_fits, info_data_payload, info_data_names_row};
+ghost use Rattle.link_info_data.specs.Data.{info_data_entry, info_data_fits, info_data_payload, info_data_is_row_variant};
 ghost use Rattle.link_info_data.specs.Data.{data_rule_of, data_rule_of_under};
-ghost use Rattle.attribute_tables.specs.Outcomes.{IfMemory, IsRefusedUnless, IsWrittenBy, SucceedsWhere};
+ghost use Rattle.attribute_tables.specs.Outcomes.{IfMemory, IsRefusedUnless, IsWrittenBy, SucceedsIf};
 
-use super::laws::{data_without_peers_have_one_rule, names_tell_rules};
+use super::laws::{data_without_peers_have_one_rule, names_determine_rules};
 use crate::payloads::{emit_list, emit_one, list_len, one_len};
 use attribute_tables::{parse_bytes, parse_family, parse_first};
 use link_info_devices::{
@@ -125,7 +125,7 @@ fn error_of<P: PeerSet>(
         → (data_rule_of_under P.peer kind.now).accepted payload.now ≡ false }
     ensures { (data_rule_of_under P.peer kind.now).accepted payload.now ≡ is_memory result }
 {
-    names_tell_rules();
+    names_determine_rules();
     match kind {
         InfoKind::Other(_) => error,
         _ => data_error(peers, kind.as_str().as_bytes(), payload, error),
@@ -135,10 +135,10 @@ fn error_of<P: PeerSet>(
 impl InfoData {
     // Reads the data of a kind; it may run out of memory before it reaches an invalid attribute.
     fn read(alloc: Global, payload: &[u8], kind: &InfoKind) -> Result<InfoData, DecodeError>
-        ensures judged { SucceedsWhere result ((data_rule_of kind.now).accepted payload.now) }
+        ensures judged { SucceedsIf result ((data_rule_of kind.now).accepted payload.now) }
         ensures written { IsWrittenBy result info_data_payload info_data_fits
             (data_rule_of kind.now) payload.now }
-        ensures names_row { IfOk result (λ d. info_data_names_row kind.now d) }
+        ensures is_row_variant { IfOk result (λ d. info_data_is_row_variant kind.now d) }
         ensures not_empty { IfMemory result (0 < length payload.now) }
     {
         match kind {
@@ -210,7 +210,7 @@ impl InfoData {
         ensures judged { IsRefusedUnless result ((data_rule_of kind.now).accepted payload.now) }
         ensures written { IsWrittenBy result info_data_payload info_data_fits
             (data_rule_of kind.now) payload.now }
-        ensures names_row { IfOk result (λ d. info_data_names_row kind.now d) }
+        ensures is_row_variant { IfOk result (λ d. info_data_is_row_variant kind.now d) }
         ensures not_empty { IfMemory result (0 < length payload.now) }
     {
         match Self::read(alloc, payload, kind) {
@@ -227,11 +227,11 @@ impl InfoData {
         kind: &InfoKind,
         rule: &R,
     ) -> Result<InfoData, DecodeError>
-        ensures judged { SucceedsWhere result
+        ensures judged { SucceedsIf result
             ((data_rule_of_under R.peer kind.now).accepted payload.now) }
         ensures written { IsWrittenBy result info_data_payload info_data_fits
             (data_rule_of_under R.peer kind.now) payload.now }
-        ensures names_row { IfOk result (λ d. info_data_names_row kind.now d) }
+        ensures is_row_variant { IfOk result (λ d. info_data_is_row_variant kind.now d) }
         ensures not_empty { IfMemory result (0 < length payload.now) }
     {
         match kind {
@@ -262,7 +262,7 @@ impl InfoData {
             ((data_rule_of_under R.peer kind.now).accepted payload.now) }
         ensures written { IsWrittenBy result info_data_payload info_data_fits
             (data_rule_of_under R.peer kind.now) payload.now }
-        ensures names_row { IfOk result (λ d. info_data_names_row kind.now d) }
+        ensures is_row_variant { IfOk result (λ d. info_data_is_row_variant kind.now d) }
         ensures not_empty { IfMemory result (0 < length payload.now) }
     {
         match Self::read_with(alloc, payload, kind, rule) {

@@ -2,10 +2,10 @@
 
 ghost use Rattle.std.specs.Prelude.{◌≡◌, ◌<◌, true, length, IfOk};
 ghost use Rattle.link_info_data.specs.PortData.{info_port_data_entry, info_port_data_fits, info_port_data_payload};
-ghost use Rattle.link_info_data.specs.PortData.{info_port_data_names_row, port_data_rule_of};
-ghost use Rattle.attribute_tables.specs.Outcomes.{IfMemory, IsRefusedUnless, IsWrittenBy, SucceedsWhere};
+ghost use Rattle.link_info_data.specs.PortData.{info_port_data_is_row_variant, port_data_rule_of};
+ghost use Rattle.attribute_tables.specs.Outcomes.{IfMemory, IsRefusedUnless, IsWrittenBy, SucceedsIf};
 
-use super::laws::port_names_tell_rules;
+use super::laws::port_names_determine_rules;
 use crate::payloads::{emit_list, list_len};
 use attribute_tables::{parse_bytes, parse_family};
 use link_info_devices::{InfoBondPort, InfoBridgePort, InfoTeamPort, InfoVrf};
@@ -38,7 +38,7 @@ pub enum InfoPortData {
 fn accepts(kind: &InfoPortKind, payload: &[u8]) -> bool
     ensures { result ≡ (port_data_rule_of kind.now).accepted payload.now }
 {
-    port_names_tell_rules();
+    port_names_determine_rules();
     match kind {
         InfoPortKind::Other(_) => true,
         _ => accepts_port_data(&BytesPeer, kind.as_str().as_bytes(), payload),
@@ -49,10 +49,10 @@ impl InfoPortData {
     // Reads the data of a port kind; it may run out of memory before it reaches an invalid
     // attribute.
     fn read(alloc: Global, payload: &[u8], kind: &InfoPortKind) -> Result<InfoPortData, DecodeError>
-        ensures judged { SucceedsWhere result ((port_data_rule_of kind.now).accepted payload.now) }
+        ensures judged { SucceedsIf result ((port_data_rule_of kind.now).accepted payload.now) }
         ensures written { IsWrittenBy result info_port_data_payload info_port_data_fits
             (port_data_rule_of kind.now) payload.now }
-        ensures names_row { IfOk result (λ d. info_port_data_names_row kind.now d) }
+        ensures is_row_variant { IfOk result (λ d. info_port_data_is_row_variant kind.now d) }
         ensures not_empty { IfMemory result (0 < length payload.now) }
     {
         match kind {
@@ -82,7 +82,7 @@ impl InfoPortData {
         ensures judged { IsRefusedUnless result ((port_data_rule_of kind.now).accepted payload.now) }
         ensures written { IsWrittenBy result info_port_data_payload info_port_data_fits
             (port_data_rule_of kind.now) payload.now }
-        ensures names_row { IfOk result (λ d. info_port_data_names_row kind.now d) }
+        ensures is_row_variant { IfOk result (λ d. info_port_data_is_row_variant kind.now d) }
         ensures not_empty { IfMemory result (0 < length payload.now) }
     {
         let error = match Self::read(alloc, payload, kind) {

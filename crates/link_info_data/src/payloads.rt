@@ -20,7 +20,7 @@ pub(crate) fn list_len<N: Nla>(list: &[N]) -> usize
 #[tactic(auto, using(attribute_tables::proofs::Lists::lists))]
 pub(crate) fn emit_list<N: Nla>(list: &[N], buffer: &mut [u8])
     requires fits { all_fit_by N.entry N.inside_fits list.now ≡ true }
-    requires room { length buffer.old ≡ length (text_by N.entry list.now) }
+    requires capacity { length buffer.old ≡ length (text_by N.entry list.now) }
     ensures { buffer.new ≡ text_by N.entry list.now }
 {
     emit_all(list, buffer)
@@ -39,7 +39,7 @@ pub(crate) fn one_len<N: Nla>(one: &N) -> usize
 pub(crate) fn emit_one<N: Nla>(one: &N, buffer: &mut [u8])
     requires fits { attribute_fits (N.entry one.now) ≡ true }
     requires inside { N.inside_fits one.now ≡ true }
-    requires room { length buffer.old ≡ length (attribute_text (N.entry one.now)) }
+    requires capacity { length buffer.old ≡ length (attribute_text (N.entry one.now)) }
     ensures { buffer.new ≡ attribute_text (N.entry one.now) }
 {
     one.emit(buffer)

@@ -30,8 +30,8 @@ impl Emitable for LinkXstats {
 
     fn emit(&self, buffer: &mut [u8]) {
         let Self::Other(bytes) = self;
-        let (front, _) = buffer.split_at_mut(bytes.len());
-        front.copy_from_slice(bytes);
+        let (prefix, _) = buffer.split_at_mut(bytes.len());
+        prefix.copy_from_slice(bytes);
     }
 }
 
@@ -40,7 +40,7 @@ impl<'a, 'b> ParseableParametrized<NlaBuffer<&'a [u8]>, &'b InfoKind> for LinkXs
 
     ghost accepts = { λ _ _. true };
 
-    ghost may_want_memory = { λ b _. nat_lt 0 (length (viewed_payload (storage b).now)) };
+    ghost may_allocate = { λ b _. nat_lt 0 (length (viewed_payload (storage b).now)) };
 
     ghost gives = { λ b _ x. xstats_bytes x ≡ viewed_payload (storage b).now };
 

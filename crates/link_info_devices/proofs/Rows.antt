@@ -13,7 +13,7 @@ use Rattle.attribute_tables_grammar.specs.Lists.{any, row_at, rewrite}
 use Rattle.attribute_tables_grammar.specs.LookUps.{line_at, row_of_line, has_no_row, list_of}
 use Rattle.attribute_tables_grammar.specs.Peers.{bytes_peer}
 use Rattle.link_info_grammar.specs.Families.{macvlan, macvlan_address}
-use Rattle.link_info_devices.specs.MacVlan.{mac_vlan_entry, mac_vlan_texts, mac_vlan_fits, mac_vlan_all_fit, mac_vlan_names_row, mac_vlan_address_names_row}
+use Rattle.link_info_devices.specs.MacVlan.{mac_vlan_entry, mac_vlan_texts, mac_vlan_fits, mac_vlan_all_fit, mac_vlan_is_row_variant, mac_vlan_address_is_row_variant}
 use Rattle.link_info_devices.specs.declared.mac_vlan.InfoMacVlan.{InfoMacVlan, MacAddrData, MacAddrData', Row_of-InfoMacVlan, end_of-InfoMacVlan, more_of-InfoMacVlan, items-the_row-InfoMacVlan, items_hidden-the_row-InfoMacVlan-0}
 
 texts-items : (n : _) (row : Row_of-InfoMacVlan n) → mac_vlan_texts row ≡ text_by mac_vlan_entry (items-the_row-InfoMacVlan n row)
@@ -42,8 +42,8 @@ fits-addresses inner =
     fit-items row.0 row.1 ∙ ap (all_fit_by mac_vlan_entry mac_vlan_fits) (items_hidden-the_row-InfoMacVlan-0 inner)
 
 -- the values are the variants of their rows, as those of the list
-pub names-addresses : (inner : Vec InfoMacVlan Global) → All mac_vlan_address_names_row inner.items → mac_vlan_names_row (MacAddrData inner)
-names-addresses inner h = subst (All mac_vlan_address_names_row) (sym (items_hidden-the_row-InfoMacVlan-0 inner)) h
+pub names-addresses : (inner : Vec InfoMacVlan Global) → All mac_vlan_address_is_row_variant inner.items → mac_vlan_is_row_variant (MacAddrData inner)
+names-addresses inner h = subst (All mac_vlan_address_is_row_variant) (sym (items_hidden-the_row-InfoMacVlan-0 inner)) h
 
 -- the properties of a list of source addresses, by its items
 pub record Addresses (value : InfoMacVlan) (items : List InfoMacVlan) : Type 0 where

@@ -13,6 +13,6 @@ batadv_entry (AlgoName s) = attribute 1 (string_bytes s ++ 0 ∷ [])
 batadv_entry (Other a) = a
 
 -- The value is the variant of its row: an attribute whose kind has a row is no `Other`.
-abbrev pub batadv_names_row : InfoBatAdv → Type 0
-batadv_names_row (Other a) = has_no_row batadv (proper_kind a.kind)
-batadv_names_row _ = Unit {0}
+abbrev pub batadv_is_row_variant : InfoBatAdv → Type 0
+batadv_is_row_variant (Other a) = has_no_row batadv (proper_kind a.kind)
+batadv_is_row_variant _ = Unit {0}

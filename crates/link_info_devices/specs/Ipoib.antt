@@ -17,7 +17,7 @@ ipoib_entry (UmCast n) = attribute 3 (le2 n)
 ipoib_entry (Other a) = a
 
 -- The value is the variant of its row: a listed mode is no `Other`, and neither is an attribute whose kind has a row.
-abbrev pub ipoib_names_row : InfoIpoib → Type 0
-ipoib_names_row (Mode m) = m ≡ ipoib_mode_of (ipoib_mode_number m)
-ipoib_names_row (Other a) = has_no_row ipoib (proper_kind a.kind)
-ipoib_names_row _ = Unit {0}
+abbrev pub ipoib_is_row_variant : InfoIpoib → Type 0
+ipoib_is_row_variant (Mode m) = m ≡ ipoib_mode_of (ipoib_mode_number m)
+ipoib_is_row_variant (Other a) = has_no_row ipoib (proper_kind a.kind)
+ipoib_is_row_variant _ = Unit {0}

@@ -20,7 +20,7 @@ ipvlan_entry (IpVlan.Flags f) = attribute 2 (le2 (ip_vlan_flags_bits f))
 ipvlan_entry (IpVlan.Other a) = a
 
 -- The value is the variant of its row: a listed mode is no `Other`, and neither is an attribute whose kind has a row.
-abbrev pub ipvlan_names_row : {n : ℕ} → IpVlanData n → Type 0
-ipvlan_names_row (IpVlan.Mode m) = m ≡ ip_vlan_mode_of (ip_vlan_mode_number m)
-ipvlan_names_row (IpVlan.Other a) = has_no_row ipvlan (proper_kind a.kind)
-ipvlan_names_row _ = Unit {0}
+abbrev pub ipvlan_is_row_variant : {n : ℕ} → IpVlanData n → Type 0
+ipvlan_is_row_variant (IpVlan.Mode m) = m ≡ ip_vlan_mode_of (ip_vlan_mode_number m)
+ipvlan_is_row_variant (IpVlan.Other a) = has_no_row ipvlan (proper_kind a.kind)
+ipvlan_is_row_variant _ = Unit {0}

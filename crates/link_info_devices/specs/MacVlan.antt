@@ -11,7 +11,7 @@ use Rattle.attribute_tables_grammar.specs.LookUps.{has_no_row}
 use Rattle.attribute_tables_grammar.specs.Tables.{Table}
 use Rattle.attribute_tables.specs.Beginnings.{begins_accepted}
 use Rattle.netlink_packet_core.specs.AttributeViews.{viewed_attribute, viewed_kind, viewed_payload}
-use Rattle.netlink_packet_core.specs.Families.{Gives, attribute, family_row, may_want_memory}
+use Rattle.netlink_packet_core.specs.Families.{Gives, attribute, family_row, may_allocate}
 use Rattle.link_info_devices.specs.declared.mac_vlan.InfoMacVlan.{InfoMacVlan, Row_of-InfoMacVlan, end_of-InfoMacVlan, more_of-InfoMacVlan, items-the_row-InfoMacVlan, Mode, Flags, MacAddrMode, MacAddr, MacAddrData', MacAddrCount, BcQueueLen, BcQueueLenUsed, BcCutoff, Other}
 
 -- The attribute of a value, and the encoding of a list of values.
@@ -52,20 +52,20 @@ mac_vlan_named_by t inside (Other a) = has_no_row t (proper_kind a.kind)
 mac_vlan_named_by t inside _ = Unit {0}
 
 -- The value is the variant of its row in the list of source addresses, in which no value is a list.
-abbrev pub mac_vlan_address_names_row : InfoMacVlan → Type 0
-mac_vlan_address_names_row = mac_vlan_named_by macvlan_address (λ _. ⊥)
+abbrev pub mac_vlan_address_is_row_variant : InfoMacVlan → Type 0
+mac_vlan_address_is_row_variant = mac_vlan_named_by macvlan_address (λ _. ⊥)
 
 -- The value is the variant of its row, and so is each value inside it.
-abbrev pub mac_vlan_names_row : InfoMacVlan → Type 0
-mac_vlan_names_row = mac_vlan_named_by macvlan (All mac_vlan_address_names_row)
+abbrev pub mac_vlan_is_row_variant : InfoMacVlan → Type 0
+mac_vlan_is_row_variant = mac_vlan_named_by macvlan (All mac_vlan_address_is_row_variant)
 
 -- Reading an attribute may run out of memory: the list of source addresses if its first attribute is accepted, another
 -- one if its row holds bytes and accepts it.
-abbrev pub mac_vlan_may_want_memory : List ℕ → Bool
-mac_vlan_may_want_memory b = cond (proper_kind (viewed_kind b) == 5) (begins_accepted (family_row macvlan_address) (viewed_payload b)) (may_want_memory macvlan b)
+abbrev pub mac_vlan_may_allocate : List ℕ → Bool
+mac_vlan_may_allocate b = cond (proper_kind (viewed_kind b) == 5) (begins_accepted (family_row macvlan_address) (viewed_payload b)) (may_allocate macvlan b)
 
 -- The value is that of the attribute at the start of the bytes.
 pub record MacVlanGives (b : List ℕ) (v : InfoMacVlan) : Type 0 where
   pub entry : Gives macvlan b (mac_vlan_entry v)
   pub fits : mac_vlan_fits v ≡ (row_at (family_row macvlan) (viewed_attribute b)).rule.fits (viewed_payload b)
-  pub names_row : mac_vlan_names_row v
+  pub is_row_variant : mac_vlan_is_row_variant v

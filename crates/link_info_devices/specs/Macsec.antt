@@ -28,9 +28,9 @@ macsec_entry (MacSec.Offload m) = attribute 15 (mac_sec_offload_number m ∷ [])
 macsec_entry (MacSec.Other a) = a
 
 -- The value is the variant of its row: a listed number is no `Other`, and neither is an attribute whose kind has a row.
-abbrev pub macsec_names_row : InfoMacSec → Type 0
-macsec_names_row (MacSec.CipherSuite m) = m ≡ mac_sec_cipher_id_of (mac_sec_cipher_id_number m)
-macsec_names_row (MacSec.Validation m) = m ≡ mac_sec_validate_of (mac_sec_validate_number m)
-macsec_names_row (MacSec.Offload m) = m ≡ mac_sec_offload_of (mac_sec_offload_number m)
-macsec_names_row (MacSec.Other a) = has_no_row macsec (proper_kind a.kind)
-macsec_names_row _ = Unit {0}
+abbrev pub macsec_is_row_variant : InfoMacSec → Type 0
+macsec_is_row_variant (MacSec.CipherSuite m) = m ≡ mac_sec_cipher_id_of (mac_sec_cipher_id_number m)
+macsec_is_row_variant (MacSec.Validation m) = m ≡ mac_sec_validate_of (mac_sec_validate_number m)
+macsec_is_row_variant (MacSec.Offload m) = m ≡ mac_sec_offload_of (mac_sec_offload_number m)
+macsec_is_row_variant (MacSec.Other a) = has_no_row macsec (proper_kind a.kind)
+macsec_is_row_variant _ = Unit {0}

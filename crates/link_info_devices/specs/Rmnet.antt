@@ -21,6 +21,6 @@ rmnet_entry (Flags f) = attribute 2 (flags_bytes f)
 rmnet_entry (Other a) = a
 
 -- The value is the variant of its row: an attribute whose kind has a row is no `Other`.
-abbrev pub rmnet_names_row : InfoRmNet → Type 0
-rmnet_names_row (Other a) = has_no_row rmnet (proper_kind a.kind)
-rmnet_names_row _ = Unit {0}
+abbrev pub rmnet_is_row_variant : InfoRmNet → Type 0
+rmnet_is_row_variant (Other a) = has_no_row rmnet (proper_kind a.kind)
+rmnet_is_row_variant _ = Unit {0}

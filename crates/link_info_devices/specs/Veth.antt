@@ -17,6 +17,6 @@ pair_entry (Pair.Peer b) = attribute 1 b.items
 pair_entry (Pair.Other a) = a
 
 -- The value is the variant of its row: an attribute whose kind has a row is no `Other`.
-abbrev pub pair_names_row : {n : ℕ} → PairData n → Type 0
-pair_names_row (Pair.Other a) = has_no_row pair (proper_kind a.kind)
-pair_names_row _ = Unit {0}
+abbrev pub pair_is_row_variant : {n : ℕ} → PairData n → Type 0
+pair_is_row_variant (Pair.Other a) = has_no_row pair (proper_kind a.kind)
+pair_is_row_variant _ = Unit {0}

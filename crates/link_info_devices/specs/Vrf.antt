@@ -13,6 +13,6 @@ vrf_entry (TableId n) = attribute 1 (le4 n)
 vrf_entry (Other a) = a
 
 -- The value is the variant of its row: an attribute whose kind has a row is no `Other`.
-abbrev pub vrf_names_row : InfoVrf → Type 0
-vrf_names_row (Other a) = has_no_row vrf (proper_kind a.kind)
-vrf_names_row _ = Unit {0}
+abbrev pub vrf_is_row_variant : InfoVrf → Type 0
+vrf_is_row_variant (Other a) = has_no_row vrf (proper_kind a.kind)
+vrf_is_row_variant _ = Unit {0}

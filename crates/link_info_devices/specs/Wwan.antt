@@ -13,6 +13,6 @@ wwan_entry (LinkId n) = attribute 1 (le4 n)
 wwan_entry (Other a) = a
 
 -- The value is the variant of its row: an attribute whose kind has a row is no `Other`.
-abbrev pub wwan_names_row : InfoWwan → Type 0
-wwan_names_row (Other a) = has_no_row wwan (proper_kind a.kind)
-wwan_names_row _ = Unit {0}
+abbrev pub wwan_is_row_variant : InfoWwan → Type 0
+wwan_is_row_variant (Other a) = has_no_row wwan (proper_kind a.kind)
+wwan_is_row_variant _ = Unit {0}

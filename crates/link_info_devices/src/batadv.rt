@@ -2,7 +2,7 @@
 
 ghost use Rattle.std.specs.Prelude.{refl};
 ghost use Rattle.link_info_grammar.specs.Families.{batadv};
-ghost use Rattle.link_info_devices.specs.Batadv.{batadv_entry, batadv_names_row};
+ghost use Rattle.link_info_devices.specs.Batadv.{batadv_entry, batadv_is_row_variant};
 
 use attribute_tables::typed;
 use netlink_packet_core::{DecodeError, DefaultNla, Family, Field, FieldNla, Nla, parse_string};
@@ -34,7 +34,7 @@ impl FieldNla for InfoBatAdv {
 impl Family for InfoBatAdv {
     ghost rows = { batadv };
 
-    ghost names_row = { batadv_names_row };
+    ghost is_row_variant = { batadv_is_row_variant };
 
     fn read_row(alloc: Global, kind: u16, payload: &[u8]) -> Result<Option<Self>, DecodeError> {
         match kind {

@@ -2,7 +2,7 @@
 
 ghost use Rattle.std.specs.Prelude.{refl};
 ghost use Rattle.link_info_grammar.specs.Families.{ipoib};
-ghost use Rattle.link_info_devices.specs.Ipoib.{ipoib_entry, ipoib_names_row};
+ghost use Rattle.link_info_devices.specs.Ipoib.{ipoib_entry, ipoib_is_row_variant};
 
 use attribute_tables::typed;
 use link_info_types::IpoibMode;
@@ -44,7 +44,7 @@ impl FieldNla for InfoIpoib {
 impl Family for InfoIpoib {
     ghost rows = { ipoib };
 
-    ghost names_row = { ipoib_names_row };
+    ghost is_row_variant = { ipoib_is_row_variant };
 
     fn read_row(_alloc: Global, kind: u16, payload: &[u8]) -> Result<Option<Self>, DecodeError> {
         match kind {

@@ -2,7 +2,7 @@
 
 ghost use Rattle.std.specs.Prelude.{refl};
 ghost use Rattle.link_info_grammar.specs.Families.{ipvlan};
-ghost use Rattle.link_info_devices.specs.Ipvlan.{ipvlan_entry, ipvlan_names_row};
+ghost use Rattle.link_info_devices.specs.Ipvlan.{ipvlan_entry, ipvlan_is_row_variant};
 
 use attribute_tables::typed;
 use link_info_types::{Flags, IpVlanFlags, IpVlanMode};
@@ -46,7 +46,7 @@ impl<const KIND: u16> FieldNla for IpVlanData<KIND> {
 impl<const KIND: u16> Family for IpVlanData<KIND> {
     ghost rows = { ipvlan };
 
-    ghost names_row = { ipvlan_names_row };
+    ghost is_row_variant = { ipvlan_is_row_variant };
 
     fn read_row(_alloc: Global, kind: u16, payload: &[u8]) -> Result<Option<Self>, DecodeError> {
         match kind {

@@ -6,7 +6,7 @@ ghost use Rattle.std.specs.List.{All};
 ghost use Rattle.netlink_packet_core.specs.Attributes.{proper_kind};
 ghost use Rattle.netlink_packet_core.specs.AttributeViews.{viewed_kind, viewed_payload, IsAttribute};
 ghost use Rattle.netlink_packet_core.specs.Errors.{is_memory};
-ghost use Rattle.netlink_packet_core.specs.Families.{Gives, accepts, attribute, family_row, may_want_memory};
+ghost use Rattle.netlink_packet_core.specs.Families.{Gives, accepts, attribute, family_row, may_allocate};
 ghost use Rattle.netlink_packet_core.specs.NlaBuffers.{storage};
 ghost use Rattle.attribute_tables_grammar.specs.Lists.{any, rewrite, without_context};
 ghost use Rattle.attribute_tables_grammar.specs.LookUps.{has_no_row, list_of, row_holds_bytes};
@@ -14,10 +14,10 @@ ghost use Rattle.attribute_tables_grammar.specs.Peers.{bytes_peer};
 ghost use Rattle.attribute_tables_grammar.specs.Readings.{reading_as};
 ghost use Rattle.attribute_tables.specs.Beginnings.{begins_accepted, begins_readable};
 ghost use Rattle.link_info_grammar.specs.Families.{macvlan, macvlan_address};
-ghost use Rattle.link_info_devices.specs.MacVlan.{mac_vlan_entry, mac_vlan_fits, mac_vlan_names_row, mac_vlan_address_names_row};
-ghost use Rattle.link_info_devices.specs.MacVlan.{mac_vlan_may_want_memory, MacVlanGives};
+ghost use Rattle.link_info_devices.specs.MacVlan.{mac_vlan_entry, mac_vlan_fits, mac_vlan_is_row_variant, mac_vlan_address_is_row_variant};
+ghost use Rattle.link_info_devices.specs.MacVlan.{mac_vlan_may_allocate, MacVlanGives};
 ghost use Rattle.attribute_tables.specs.Outcomes.{IfMemory, IfRead, IsRefusedUnless, ListIsReadAs, ListIsWrittenBy};
-ghost use Rattle.attribute_tables.specs.Outcomes.{SucceedsExactlyWhere, SucceedsWhere};
+ghost use Rattle.attribute_tables.specs.Outcomes.{SucceedsExactlyIf, SucceedsIf};
 
 use attribute_tables::{Reader, parse_list, typed};
 use attribute_tables_grammar::laws::{rows_are_looked_up, rows_without_lists_fit};
@@ -170,7 +170,7 @@ impl InfoMacVlan {
     /// Reads the payload of a kind without its flag bits, if it holds no list; `None` if the kind
     /// has no row in the list of source addresses.
     fn read_row(kind: u16, payload: &[u8]) -> Result<Option<Self>, DecodeError>
-        ensures judged { SucceedsExactlyWhere result
+        ensures judged { SucceedsExactlyIf result
             ((family_row macvlan_address kind).rule.accepted payload.now) }
         ensures none { IfOk result (λ o. IfNone o (has_no_row macvlan_address kind)) }
         ensures typed { IfRead result (λ _. (family_row macvlan_address kind).is_typed ≡ true) }
@@ -178,8 +178,8 @@ impl InfoMacVlan {
             (λ v. mac_vlan_entry v ≡ rewrite (family_row macvlan_address kind)
             (attribute kind payload.now)) }
         ensures inside { IfRead result (λ v. mac_vlan_fits v ≡ true) }
-        ensures names_row { IfRead result (λ v. mac_vlan_names_row v) }
-        ensures address_names_row { IfRead result (λ v. mac_vlan_address_names_row v) }
+        ensures is_row_variant { IfRead result (λ v. mac_vlan_is_row_variant v) }
+        ensures address_names_row { IfRead result (λ v. mac_vlan_address_is_row_variant v) }
         ensures memory { IfErr result (λ e. is_memory e ≡ false) }
     {
         match kind {
@@ -205,9 +205,9 @@ impl InfoMacVlan {
         ensures value { IfOk result
             (λ v. Gives macvlan_address (storage buf.now).now (mac_vlan_entry v)) }
         ensures inside { IfOk result (λ v. mac_vlan_fits v ≡ true) }
-        ensures address_names_row { IfOk result (λ v. mac_vlan_address_names_row v) }
-        ensures names_row { IfOk result
-            (λ v. proper_kind (viewed_kind (storage buf.now).now) ≢ 5 → mac_vlan_names_row v) }
+        ensures address_names_row { IfOk result (λ v. mac_vlan_address_is_row_variant v) }
+        ensures is_row_variant { IfOk result
+            (λ v. proper_kind (viewed_kind (storage buf.now).now) ≢ 5 → mac_vlan_is_row_variant v) }
         ensures memory { IfMemory result
             (row_holds_bytes macvlan_address (proper_kind (viewed_kind (storage buf.now).now)) ≡
             true) }
@@ -230,9 +230,9 @@ impl Reader for AddressReader {
 
     ghost row_of = { λ _. family_row macvlan_address };
 
-    ghost names_row = { λ _. mac_vlan_address_names_row };
+    ghost is_row_variant = { λ _. mac_vlan_address_is_row_variant };
 
-    ghost may_want_memory = { λ _. may_want_memory macvlan_address };
+    ghost may_allocate = { λ _. may_allocate macvlan_address };
 
     #[tactic(auto, using(crate::proofs::Rows::address_rows))]
     fn read(&self, alloc: Global, buf: &NlaBuffer<&[u8]>) -> Result<InfoMacVlan, DecodeError> {
@@ -244,11 +244,11 @@ impl Reader for AddressReader {
 /// Reads a list of source addresses. An empty list is accepted.
 #[tactic(auto, using(attribute_tables::proofs::Families::family_lists))]
 fn parse_addresses(alloc: Global, bytes: &[u8]) -> Result<Vec<InfoMacVlan>, DecodeError>
-    ensures judged { SucceedsWhere result
+    ensures judged { SucceedsIf result
         ((list_of bytes_peer any macvlan_address).accepted bytes.now) }
     ensures written { ListIsWrittenBy result mac_vlan_entry mac_vlan_fits
         (list_of bytes_peer any macvlan_address) bytes.now }
-    ensures names_row { IfOk result (λ v. All mac_vlan_address_names_row v.items) }
+    ensures is_row_variant { IfOk result (λ v. All mac_vlan_address_is_row_variant v.items) }
     ensures not_empty { IfErr result (λ _. 0 < length bytes.now) }
     ensures memory { IfMemory result (begins_accepted (family_row macvlan_address) bytes.now ≡ true) }
 {
@@ -265,9 +265,9 @@ impl Reader for MacVlanReader {
 
     ghost row_of = { λ _. family_row macvlan };
 
-    ghost names_row = { λ _. mac_vlan_names_row };
+    ghost is_row_variant = { λ _. mac_vlan_is_row_variant };
 
-    ghost may_want_memory = { λ _. mac_vlan_may_want_memory };
+    ghost may_allocate = { λ _. mac_vlan_may_allocate };
 
     #[tactic(auto, using(crate::proofs::Rows::rows_of_values, crate::proofs::Rows::address_rows))]
     fn read(&self, alloc: Global, buf: &NlaBuffer<&[u8]>) -> Result<InfoMacVlan, DecodeError> {
@@ -286,7 +286,7 @@ impl<'a> Parseable<NlaBuffer<&'a [u8]>> for InfoMacVlan {
 
     ghost accepts = { λ b. accepts macvlan (storage b).now };
 
-    ghost may_want_memory = { λ b. mac_vlan_may_want_memory (storage b).now };
+    ghost may_allocate = { λ b. mac_vlan_may_allocate (storage b).now };
 
     ghost gives = { λ b v. MacVlanGives (storage b).now v };
 
@@ -302,15 +302,15 @@ impl<'a> Parseable<NlaBuffer<&'a [u8]>> for InfoMacVlan {
 /// Out of memory if an allocation fails; any other [`DecodeError`] only if the list isn't accepted.
 #[tactic(auto, using(attribute_tables::proofs::Families::family_lists))]
 pub fn parse_mac_vlan(alloc: Global, bytes: &[u8]) -> Result<Vec<InfoMacVlan>, DecodeError>
-    ensures judged { SucceedsWhere result ((list_of bytes_peer any macvlan).accepted bytes.now) }
+    ensures judged { SucceedsIf result ((list_of bytes_peer any macvlan).accepted bytes.now) }
     ensures read { ListIsReadAs result mac_vlan_entry mac_vlan_fits
         (reading_as any (without_context (family_row macvlan)) bytes.now) }
     ensures written { ListIsWrittenBy result mac_vlan_entry mac_vlan_fits
         (list_of bytes_peer any macvlan) bytes.now }
-    ensures names_row { IfOk result (λ v. All mac_vlan_names_row v.items) }
+    ensures is_row_variant { IfOk result (λ v. All mac_vlan_is_row_variant v.items) }
     ensures not_empty { IfErr result (λ _. 0 < length bytes.now) }
     ensures memory { IfMemory result
-        (begins_readable (family_row macvlan) mac_vlan_may_want_memory bytes.now ≡ true) }
+        (begins_readable (family_row macvlan) mac_vlan_may_allocate bytes.now ≡ true) }
 {
     rows_are_looked_up();
     parse_list(alloc, &MacVlanReader, bytes)

@@ -4,7 +4,7 @@ ghost use Rattle.std.specs.Prelude.{refl, IfNone, IfSome, [], ◌∷◌, ◌≡�
 ghost use Rattle.netlink_packet_core.specs.Numbers.{le8};
 ghost use Rattle.netlink_packet_core.specs.Families.{attribute};
 ghost use Rattle.link_info_grammar.specs.Families.{macsec};
-ghost use Rattle.link_info_devices.specs.Macsec.{macsec_entry, macsec_names_row};
+ghost use Rattle.link_info_devices.specs.Macsec.{macsec_entry, macsec_is_row_variant};
 
 use attribute_tables::typed;
 use link_info_types::{MacSecCipherId, MacSecOffload, MacSecValidate};
@@ -96,7 +96,7 @@ impl FieldNla for InfoMacSec {
             Self::Scb(number) => (IFLA_MACSEC_SCB, Field::U8(*number)),
             Self::ReplayProtect(number) => (IFLA_MACSEC_REPLAY_PROTECT, Field::U8(*number)),
             Self::Validation(mode) => (IFLA_MACSEC_VALIDATION, Field::U8(u8::from(*mode))),
-            Self::Offload(place) => (IFLA_MACSEC_OFFLOAD, Field::U8(u8::from(*place))),
+            Self::Offload(offload) => (IFLA_MACSEC_OFFLOAD, Field::U8(u8::from(*offload))),
             Self::Other(nla) => (nla.kind(), Field::Bytes(nla.value())),
         }
     }
@@ -108,7 +108,7 @@ impl InfoMacSec {
     // type.
     fn of_u64(kind: u16, number: u64) -> Option<Self>
         ensures value { IfSome result (λ v. macsec_entry v ≡ attribute kind (le8 number)) }
-        ensures names_row { IfSome result (λ v. macsec_names_row v) }
+        ensures is_row_variant { IfSome result (λ v. macsec_is_row_variant v) }
         ensures none { IfNone result (kind ≢ 1 × kind ≢ 4) }
     {
         match kind {
@@ -121,7 +121,7 @@ impl InfoMacSec {
     // The attribute of a kind that holds 1 byte.
     fn of_u8(kind: u16, number: u8) -> Option<Self>
         ensures value { IfSome result (λ v. macsec_entry v ≡ attribute kind (number ∷ [])) }
-        ensures names_row { IfSome result (λ v. macsec_names_row v) }
+        ensures is_row_variant { IfSome result (λ v. macsec_is_row_variant v) }
         ensures none { IfNone result
             (kind ≢ 3 × kind ≢ 6 × kind ≢ 7 × kind ≢ 8 × kind ≢ 9 × kind ≢ 10 × kind ≢ 11
             × kind ≢ 12 × kind ≢ 13 × kind ≢ 15) }
@@ -145,7 +145,7 @@ impl InfoMacSec {
 impl Family for InfoMacSec {
     ghost rows = { macsec };
 
-    ghost names_row = { macsec_names_row };
+    ghost is_row_variant = { macsec_is_row_variant };
 
     fn read_row(_alloc: Global, kind: u16, payload: &[u8]) -> Result<Option<Self>, DecodeError> {
         match kind {

@@ -3,10 +3,10 @@
 ghost use Rattle.std.specs.Prelude.{◌≡◌, ◌↔◌, false, length, refl, IsOk, IfOk, IfErr};
 ghost use Rattle.netlink_packet_core.specs.Errors.{is_memory};
 ghost use Rattle.netlink_packet_core.specs.Numbers.{le4};
-ghost use Rattle.attribute_tables_grammar.specs.Shapes.{number_truth};
+ghost use Rattle.attribute_tables_grammar.specs.Shapes.{number_boolean};
 ghost use Rattle.link_info_types.specs.NetkitTypes.{netkit_scrub_number};
 ghost use Rattle.link_info_grammar.specs.Families.{netkit};
-ghost use Rattle.link_info_devices.specs.Netkit.{netkit_entry, netkit_names_row};
+ghost use Rattle.link_info_devices.specs.Netkit.{netkit_entry, netkit_is_row_variant};
 
 use attribute_tables::{parse_bytes, typed};
 use link_info_types::{NetkitMode, NetkitPolicy, NetkitScrub};
@@ -65,7 +65,7 @@ pub enum InfoNetkit {
 /// Reads a boolean of 4 bytes, false if and only if all are 0.
 fn parse_scrub(payload: &[u8]) -> Result<NetkitScrub, DecodeError>
     ensures size { IsOk result ↔ (length payload.now ≡ 4) }
-    ensures ok { IfOk result (λ s. le4 (netkit_scrub_number s) ≡ number_truth payload.now) }
+    ensures ok { IfOk result (λ s. le4 (netkit_scrub_number s) ≡ number_boolean payload.now) }
     ensures err { IfErr result (λ e. is_memory e ≡ false) }
 {
     match payload {
@@ -82,14 +82,14 @@ impl FieldNla for InfoNetkit {
     fn field(&self) -> (u16, Field<'_>) {
         match self {
             Self::Peer(bytes) => (IFLA_NETKIT_PEER_INFO, Field::Bytes(bytes)),
-            Self::Primary(truth) => (IFLA_NETKIT_PRIMARY, Field::Bool(*truth)),
+            Self::Primary(boolean) => (IFLA_NETKIT_PRIMARY, Field::Bool(*boolean)),
             Self::Policy(policy) => (IFLA_NETKIT_POLICY, Field::U32(u32::from(*policy))),
             Self::PeerPolicy(policy) => (IFLA_NETKIT_PEER_POLICY, Field::U32(u32::from(*policy))),
             Self::Mode(mode) => (IFLA_NETKIT_MODE, Field::U32(u32::from(*mode))),
             Self::Scrub(scrub) => (IFLA_NETKIT_SCRUB, Field::U32(u32::from(*scrub))),
             Self::PeerScrub(scrub) => (IFLA_NETKIT_PEER_SCRUB, Field::U32(u32::from(*scrub))),
-            Self::Headroom(room) => (IFLA_NETKIT_HEADROOM, Field::U16(*room)),
-            Self::Tailroom(room) => (IFLA_NETKIT_TAILROOM, Field::U16(*room)),
+            Self::Headroom(capacity) => (IFLA_NETKIT_HEADROOM, Field::U16(*capacity)),
+            Self::Tailroom(capacity) => (IFLA_NETKIT_TAILROOM, Field::U16(*capacity)),
             Self::Other(nla) => (nla.kind(), Field::Bytes(nla.value())),
         }
     }
@@ -98,7 +98,7 @@ impl FieldNla for InfoNetkit {
 impl Family for InfoNetkit {
     ghost rows = { netkit };
 
-    ghost names_row = { netkit_names_row };
+    ghost is_row_variant = { netkit_is_row_variant };
 
     fn read_row(alloc: Global, kind: u16, payload: &[u8]) -> Result<Option<Self>, DecodeError> {
         match kind {

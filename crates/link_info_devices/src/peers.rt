@@ -7,17 +7,17 @@ ghost use Rattle.netlink_packet_core.specs.AttributeViews.{IsAttribute, viewed_a
 ghost use Rattle.netlink_packet_core.specs.Families.{attribute};
 ghost use Rattle.netlink_packet_core.specs.Fits.{attribute_fits};
 ghost use Rattle.netlink_packet_core.specs.NlaBuffers.{storage};
-ghost use Rattle.attribute_tables_grammar.specs.Lists.{any, first_alone, without_context};
+ghost use Rattle.attribute_tables_grammar.specs.Lists.{any, first_only, without_context};
 ghost use Rattle.attribute_tables_grammar.specs.LookUps.{line_at, list_of, table_row};
 ghost use Rattle.attribute_tables_grammar.specs.Readings.{reading_as};
 ghost use Rattle.attribute_tables_grammar.specs.Tables.{Payload, holds_no_peers_but};
 ghost use Rattle.attribute_tables.specs.Beginnings.{begins_accepted};
 ghost use Rattle.attribute_tables.specs.Views.{is_accepted_by, viewed_row};
 ghost use Rattle.link_info_grammar.specs.Families.{netkit, pair};
-ghost use Rattle.link_info_devices.specs.Netkit.{netkit_entry, netkit_names_row};
-ghost use Rattle.link_info_devices.specs.Veth.{pair_entry, pair_names_row};
+ghost use Rattle.link_info_devices.specs.Netkit.{netkit_entry, netkit_is_row_variant};
+ghost use Rattle.link_info_devices.specs.Veth.{pair_entry, pair_is_row_variant};
 ghost use Rattle.attribute_tables.specs.Outcomes.{IfMemory, IsRefusedUnless, IsRewrittenBy, IsWrittenBy};
-ghost use Rattle.attribute_tables.specs.Outcomes.{ListIsReadAs, ListIsWrittenBy, SucceedsWhere};
+ghost use Rattle.attribute_tables.specs.Outcomes.{ListIsReadAs, ListIsWrittenBy, SucceedsIf};
 
 use super::netkit::InfoNetkit;
 use super::veth::PairData;
@@ -37,7 +37,7 @@ pub(crate) trait PeerFamily: Family {
     /// Returns the attribute of a peer with this payload.
     fn of_peer(payload: Vec<u8>) -> Self
         ensures entry { Self.field_entry result ≡ attribute 1 payload.items }
-        ensures names_row { Self.names_row result };
+        ensures is_row_variant { Self.is_row_variant result };
 
     /// Kind 1 is that of a peer.
     ghost peer_line: { line_at Self.rows 1
@@ -79,7 +79,7 @@ fn read_with<F: PeerFamily, R: PeerRule>(
     ensures written { IsRewrittenBy result F.field_entry (λ _. true)
         (viewed_row (table_row R.peer F.rows) (storage buf.now).now)
         (viewed_attribute (storage buf.now).now) }
-    ensures names_row { IfOk result (λ v. F.names_row v) }
+    ensures is_row_variant { IfOk result (λ v. F.is_row_variant v) }
 {
     rows_without_lists_fit();
     rules_without_peers_are_one();
@@ -99,10 +99,10 @@ impl<R: PeerRule> Reader for NetkitReader<'_, R> {
 
     ghost row_of = { λ _. table_row R.peer netkit };
 
-    ghost names_row = { λ _. netkit_names_row };
+    ghost is_row_variant = { λ _. netkit_is_row_variant };
 
     // Reading runs out of memory only for accepted attributes.
-    ghost may_want_memory = { λ _. is_accepted_by (table_row R.peer netkit) };
+    ghost may_allocate = { λ _. is_accepted_by (table_row R.peer netkit) };
 
     fn read(&self, alloc: Global, buf: &NlaBuffer<&[u8]>) -> Result<InfoNetkit, DecodeError> {
         read_with(alloc, buf, self.0)
@@ -118,10 +118,10 @@ impl<R: PeerRule, const KIND: u16> Reader for PairReader<'_, R, KIND> {
 
     ghost row_of = { λ _. table_row R.peer pair };
 
-    ghost names_row = { λ _. pair_names_row };
+    ghost is_row_variant = { λ _. pair_is_row_variant };
 
     // Reading runs out of memory only for accepted attributes.
-    ghost may_want_memory = { λ _. is_accepted_by (table_row R.peer pair) };
+    ghost may_allocate = { λ _. is_accepted_by (table_row R.peer pair) };
 
     fn read(&self, alloc: Global, buf: &NlaBuffer<&[u8]>) -> Result<PairData<KIND>, DecodeError> {
         read_with(alloc, buf, self.0)
@@ -141,12 +141,12 @@ pub fn parse_netkit_with<R: PeerRule>(
     bytes: &[u8],
     rule: &R,
 ) -> Result<Vec<InfoNetkit>, DecodeError>
-    ensures judged { SucceedsWhere result ((list_of R.peer any netkit).accepted bytes.now) }
+    ensures judged { SucceedsIf result ((list_of R.peer any netkit).accepted bytes.now) }
     ensures read { ListIsReadAs result netkit_entry (λ _. true)
         (reading_as any (without_context (table_row R.peer netkit)) bytes.now) }
     ensures written { ListIsWrittenBy result netkit_entry (λ _. true) (list_of R.peer any netkit)
         bytes.now }
-    ensures names_row { IfOk result (λ v. All netkit_names_row v.items) }
+    ensures is_row_variant { IfOk result (λ v. All netkit_is_row_variant v.items) }
     ensures not_empty { IfErr result (λ _. 0 < length bytes.now) }
     ensures memory { IfMemory result (begins_accepted (table_row R.peer netkit) bytes.now ≡ true) }
 {
@@ -167,10 +167,10 @@ pub fn parse_pair_with<R: PeerRule, const KIND: u16>(
     bytes: &[u8],
     rule: &R,
 ) -> Result<PairData<KIND>, DecodeError>
-    ensures judged { SucceedsWhere result ((list_of R.peer first_alone pair).accepted bytes.now) }
+    ensures judged { SucceedsIf result ((list_of R.peer first_only pair).accepted bytes.now) }
     ensures written { IsWrittenBy result (λ v. attribute_text (pair_entry v))
-        (λ v. attribute_fits (pair_entry v)) (list_of R.peer first_alone pair) bytes.now }
-    ensures names_row { IfOk result (λ v. pair_names_row v) }
+        (λ v. attribute_fits (pair_entry v)) (list_of R.peer first_only pair) bytes.now }
+    ensures is_row_variant { IfOk result (λ v. pair_is_row_variant v) }
     ensures not_empty { IfMemory result (0 < length bytes.now) }
     ensures memory { IfMemory result (begins_accepted (table_row R.peer pair) bytes.now ≡ true) }
 {

@@ -27,7 +27,7 @@ impl<const FAMILY: u16> FieldNla for RawData<FAMILY> {
 impl<const FAMILY: u16> Family for RawData<FAMILY> {
     ghost rows = { untyped };
 
-    ghost names_row = { λ _. ⊤ };
+    ghost is_row_variant = { λ _. ⊤ };
 
     fn read_row(_alloc: Global, _kind: u16, _payload: &[u8]) -> Result<Option<Self>, DecodeError> {
         Ok(None)

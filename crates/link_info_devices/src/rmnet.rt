@@ -3,7 +3,7 @@
 ghost use Rattle.std.specs.Prelude.{◌≡◌, ◌↔◌, false, length, refl, IsOk, IfOk, IfErr};
 ghost use Rattle.netlink_packet_core.specs.Errors.{is_memory};
 ghost use Rattle.link_info_grammar.specs.Families.{rmnet};
-ghost use Rattle.link_info_devices.specs.Rmnet.{flags_bytes, rmnet_entry, rmnet_names_row};
+ghost use Rattle.link_info_devices.specs.Rmnet.{flags_bytes, rmnet_entry, rmnet_is_row_variant};
 
 use attribute_tables::typed;
 use link_info_types::{Flags, RmNetFlags};
@@ -79,7 +79,7 @@ impl FieldNla for InfoRmNet {
 impl Family for InfoRmNet {
     ghost rows = { rmnet };
 
-    ghost names_row = { rmnet_names_row };
+    ghost is_row_variant = { rmnet_is_row_variant };
 
     fn read_row(_alloc: Global, kind: u16, payload: &[u8]) -> Result<Option<Self>, DecodeError> {
         match kind {

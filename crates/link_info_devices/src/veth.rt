@@ -4,7 +4,7 @@
 
 ghost use Rattle.std.specs.Prelude.{refl};
 ghost use Rattle.link_info_grammar.specs.Families.{pair};
-ghost use Rattle.link_info_devices.specs.Veth.{pair_entry, pair_names_row};
+ghost use Rattle.link_info_devices.specs.Veth.{pair_entry, pair_is_row_variant};
 
 use attribute_tables::{parse_bytes, typed};
 use netlink_packet_core::{DecodeError, DefaultNla, Family, Field, FieldNla, Nla};
@@ -43,7 +43,7 @@ impl<const KIND: u16> FieldNla for PairData<KIND> {
 impl<const KIND: u16> Family for PairData<KIND> {
     ghost rows = { pair };
 
-    ghost names_row = { pair_names_row };
+    ghost is_row_variant = { pair_is_row_variant };
 
     fn read_row(alloc: Global, kind: u16, payload: &[u8]) -> Result<Option<Self>, DecodeError> {
         match kind {

@@ -3,7 +3,7 @@
 
 ghost use Rattle.std.specs.Prelude.{refl};
 ghost use Rattle.link_info_grammar.specs.Families.{vrf};
-ghost use Rattle.link_info_devices.specs.Vrf.{vrf_entry, vrf_names_row};
+ghost use Rattle.link_info_devices.specs.Vrf.{vrf_entry, vrf_is_row_variant};
 
 use attribute_tables::typed;
 use netlink_packet_core::{DecodeError, DefaultNla, Family, Field, FieldNla, Nla, parse_u32};
@@ -34,7 +34,7 @@ impl FieldNla for InfoVrf {
 impl Family for InfoVrf {
     ghost rows = { vrf };
 
-    ghost names_row = { vrf_names_row };
+    ghost is_row_variant = { vrf_is_row_variant };
 
     fn read_row(_alloc: Global, kind: u16, payload: &[u8]) -> Result<Option<Self>, DecodeError> {
         match kind {

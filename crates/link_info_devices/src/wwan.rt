@@ -2,7 +2,7 @@
 
 ghost use Rattle.std.specs.Prelude.{refl};
 ghost use Rattle.link_info_grammar.specs.Families.{wwan};
-ghost use Rattle.link_info_devices.specs.Wwan.{wwan_entry, wwan_names_row};
+ghost use Rattle.link_info_devices.specs.Wwan.{wwan_entry, wwan_is_row_variant};
 
 use attribute_tables::typed;
 use netlink_packet_core::{DecodeError, DefaultNla, Family, Field, FieldNla, Nla, parse_u32};
@@ -33,7 +33,7 @@ impl FieldNla for InfoWwan {
 impl Family for InfoWwan {
     ghost rows = { wwan };
 
-    ghost names_row = { wwan_names_row };
+    ghost is_row_variant = { wwan_is_row_variant };
 
     fn read_row(_alloc: Global, kind: u16, payload: &[u8]) -> Result<Option<Self>, DecodeError> {
         match kind {

@@ -2,9 +2,9 @@
 -- in a line, in the order of its header: the kind, its payload, and the kernel's name of the kind, which `tools/rows.py
 -- --check` compares with the name that linkshow prints. A kind without a row is a raw attribute.
 use Rattle.std.specs.Prelude.{ℕ, List, [], ◌∷◌, codes}
-use Rattle.attribute_tables_grammar.specs.Shapes.{Shape, exact, either, at_most, nonzero_byte, one_byte, truth_of_four}
+use Rattle.attribute_tables_grammar.specs.Shapes.{Shape, exact, either, at_most, nonzero_byte, one_byte, boolean_of_four}
 use Rattle.attribute_tables_grammar.specs.Shapes.{presence, text}
-use Rattle.attribute_tables_grammar.specs.Lists.{any, first_alone}
+use Rattle.attribute_tables_grammar.specs.Lists.{any, first_only}
 use Rattle.attribute_tables_grammar.specs.Tables.{Payload, Payload.peer, Payload.list, Table, Table.end}
 use Rattle.attribute_tables_grammar.specs.Tables.{Names, Names.others, Names.name}
 use Rattle.attribute_tables_grammar.specs.Rows.{◌↪◌, ◌↠◌, ◌⸴◌}
@@ -87,8 +87,8 @@ netkit =
     3 ↪ exact 4 ⸴  -- IFLA_NETKIT_POLICY
     4 ↪ exact 4 ⸴  -- IFLA_NETKIT_PEER_POLICY
     5 ↪ exact 4 ⸴  -- IFLA_NETKIT_MODE
-    6 ↪ truth_of_four ⸴  -- IFLA_NETKIT_SCRUB
-    7 ↪ truth_of_four ⸴  -- IFLA_NETKIT_PEER_SCRUB
+    6 ↪ boolean_of_four ⸴  -- IFLA_NETKIT_SCRUB
+    7 ↪ boolean_of_four ⸴  -- IFLA_NETKIT_PEER_SCRUB
     8 ↪ exact 2 ⸴  -- IFLA_NETKIT_HEADROOM
     9 ↪ exact 2 ⸴  -- IFLA_NETKIT_TAILROOM
     end
@@ -344,7 +344,7 @@ kinds =
     (name (codes "macsec") (list any macsec)
     (each_of (list any macvlan) (codes "macvlan" ∷ codes "macvtap" ∷ [])
     (name (codes "netkit") (list any netkit)
-    (each_of (list first_alone pair) (codes "veth" ∷ codes "vxcan" ∷ [])
+    (each_of (list first_only pair) (codes "veth" ∷ codes "vxcan" ∷ [])
     others)))))))))))))))))))))
 
 -- the data of ports by the name of their kind; for any other name they are raw bytes

@@ -6,7 +6,7 @@ use Rattle.std.proofs.lemmas.Bool.{and_parts}
 use Rattle.std.proofs.lemmas.Slice.Eq.{bytes_eq-Decides}
 use Rattle.netlink_packet_core.specs.Named.{named_by}
 use Rattle.link_info_grammar.specs.KindNames.{is_unlisted}
-use Rattle.link_info_kinds.specs.Laws.{NamesTellKinds, NamesTellPortKinds}
+use Rattle.link_info_kinds.specs.Laws.{NamesDetermineKinds, NamesDeterminePortKinds}
 use Rattle.link_info_kinds.specs.Kinds.{info_kind_text, info_kind_is_named, listed_kind, early_kinds, late_kinds, listed_kinds, IsNamedBy}
 use Rattle.link_info_kinds.specs.PortKinds.{info_port_kind_text, info_port_kind_is_named, listed_port_kind, listed_port_kinds}
 use Rattle.link_info_kinds.specs.declared.info_kind.InfoKind.{InfoKind}
@@ -116,8 +116,8 @@ kind-finds Kind.RmNet h = refl
 kind-finds (Kind.Other s) h = not_found info_kind_text listed_kinds (string_bytes s) h
 
 -- kinds with one name are the same variant, or both `Other`
-pub names_tell_kinds : NamesTellKinds
-names_tell_kinds k m h i e = sym (kind-finds k h) ∙ ap (named_by info_kind_text listed_kinds) e ∙ kind-finds m i
+pub names_determine_kinds : NamesDetermineKinds
+names_determine_kinds k m h i e = sym (kind-finds k h) ∙ ap (named_by info_kind_text listed_kinds) e ∙ kind-finds m i
 
 port_kind-finds : (k : InfoPortKind) → info_port_kind_is_named k ≡ true → named_by info_port_kind_text listed_port_kinds (info_port_kind_text k) ≡ listed_port_kind k
 port_kind-finds PortKind.Bond h = refl
@@ -126,5 +126,5 @@ port_kind-finds PortKind.Vrf h = refl
 port_kind-finds PortKind.Team h = refl
 port_kind-finds (PortKind.Other s) h = not_found info_port_kind_text listed_port_kinds (string_bytes s) h
 
-pub names_tell_port_kinds : NamesTellPortKinds
-names_tell_port_kinds k m h i e = sym (port_kind-finds k h) ∙ ap (named_by info_port_kind_text listed_port_kinds) e ∙ port_kind-finds m i
+pub names_determine_port_kinds : NamesDeterminePortKinds
+names_determine_port_kinds k m h i e = sym (port_kind-finds k h) ∙ ap (named_by info_port_kind_text listed_port_kinds) e ∙ port_kind-finds m i

@@ -6,11 +6,11 @@ use Rattle.link_info_kinds.specs.declared.info_kind.InfoKind.{InfoKind}
 use Rattle.link_info_kinds.specs.declared.info_port_kind.InfoPortKind.{InfoPortKind}
 
 -- Kinds with one name are the same variant, or both `Other`.
-abbrev pub NamesTellKinds : Type 0
-NamesTellKinds = (k m : InfoKind) → info_kind_is_named k ≡ true → info_kind_is_named m ≡ true → info_kind_text k ≡ info_kind_text m → listed_kind k ≡ listed_kind m
+abbrev pub NamesDetermineKinds : Type 0
+NamesDetermineKinds = (k m : InfoKind) → info_kind_is_named k ≡ true → info_kind_is_named m ≡ true → info_kind_text k ≡ info_kind_text m → listed_kind k ≡ listed_kind m
 
 -- Port kinds with one name are the same variant, or both `Other`.
-abbrev pub NamesTellPortKinds : Type 0
-NamesTellPortKinds =
+abbrev pub NamesDeterminePortKinds : Type 0
+NamesDeterminePortKinds =
     (k m : InfoPortKind) → info_port_kind_is_named k ≡ true → info_port_kind_is_named m ≡ true → info_port_kind_text k ≡ info_port_kind_text m →
     listed_port_kind k ≡ listed_port_kind m

@@ -42,6 +42,6 @@ abbrev pub info_port_kind_accepted : List ℕ → Bool
 info_port_kind_accepted b = (proper_kind (viewed_kind b) == 4) && is_text (viewed_payload b)
 
 -- The attribute is accepted, and its name is allocated, since it isn't listed.
-abbrev pub info_port_kind_takes_memory : List ℕ → Bool
-info_port_kind_takes_memory b =
+abbrev pub info_port_kind_allocates : List ℕ → Bool
+info_port_kind_allocates b =
     info_port_kind_accepted b && is_unlisted port_kind_names (without_nul (viewed_payload b))

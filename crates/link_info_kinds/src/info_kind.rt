@@ -7,7 +7,7 @@ ghost use Rattle.netlink_packet_core.specs.Named.{named_by};
 ghost use Rattle.netlink_packet_core.specs.NlaBuffers.{storage};
 ghost use Rattle.netlink_packet_core.specs.Texts.{without_nul};
 ghost use Rattle.link_info_grammar.specs.KindNames.{kind_names, is_unlisted};
-ghost use Rattle.link_info_kinds.specs.Kinds.{info_kind_accepted, info_kind_takes_memory, info_kind_entry};
+ghost use Rattle.link_info_kinds.specs.Kinds.{info_kind_accepted, info_kind_allocates, info_kind_entry};
 ghost use Rattle.link_info_kinds.specs.Kinds.{info_kind_text, info_kind_is_named, early_kinds, late_kinds, listed_kinds, IsNamedBy};
 
 use link_tables::IFLA_INFO_KIND;
@@ -397,7 +397,7 @@ impl<'a> Parseable<NlaBuffer<&'a [u8]>> for InfoKind {
     ghost accepts = { λ b. info_kind_accepted (storage b).now };
 
     // Out of memory occurs only for an accepted attribute.
-    ghost may_want_memory = { λ b. info_kind_takes_memory (storage b).now };
+    ghost may_allocate = { λ b. info_kind_allocates (storage b).now };
 
     ghost gives = { λ b k. IsNamedBy (without_nul (viewed_payload (storage b).now)) k };
 

@@ -7,7 +7,7 @@ ghost use Rattle.netlink_packet_core.specs.Named.{named_by};
 ghost use Rattle.netlink_packet_core.specs.NlaBuffers.{storage};
 ghost use Rattle.netlink_packet_core.specs.Texts.{without_nul};
 ghost use Rattle.link_info_grammar.specs.KindNames.{port_kind_names, is_unlisted};
-ghost use Rattle.link_info_kinds.specs.PortKinds.{info_port_kind_accepted, info_port_kind_takes_memory};
+ghost use Rattle.link_info_kinds.specs.PortKinds.{info_port_kind_accepted, info_port_kind_allocates};
 ghost use Rattle.link_info_kinds.specs.PortKinds.{info_port_kind_entry, info_port_kind_text, info_port_kind_is_named};
 ghost use Rattle.link_info_kinds.specs.PortKinds.{listed_port_kinds, IsPortNamedBy};
 
@@ -126,7 +126,7 @@ impl<'a> Parseable<NlaBuffer<&'a [u8]>> for InfoPortKind {
     ghost accepts = { λ b. info_port_kind_accepted (storage b).now };
 
     // Out of memory occurs only for an accepted attribute.
-    ghost may_want_memory = { λ b. info_port_kind_takes_memory (storage b).now };
+    ghost may_allocate = { λ b. info_port_kind_allocates (storage b).now };
 
     ghost gives = { λ b k. IsPortNamedBy (without_nul (viewed_payload (storage b).now)) k };
 

@@ -41,7 +41,7 @@ const LISTS: [(&[u8], &[&str]); 9] = [
 ];
 
 /// Returns a word for a value.
-fn word_of(value: &LinkInfo) -> &'static str {
+fn message_label(value: &LinkInfo) -> &'static str {
     match value {
         LinkInfo::Kind(InfoKind::Xfrm) => "xfrm",
         LinkInfo::Kind(InfoKind::Other(_)) => "unlisted",
@@ -66,29 +66,29 @@ fn is_written_as(list: &[LinkInfo], bytes: &[u8]) -> bool {
 
 /// Returns the words that describe link info. One function owns the values, since the prover has to
 /// show for each owner that it drops them.
-fn words_of(alloc: Global, bytes: &[u8]) -> Result<Vec<&'static str>, Fail> {
-    let mut words = Vec::new(alloc);
+fn labels_of(alloc: Global, bytes: &[u8]) -> Result<Vec<&'static str>, Fail> {
+    let mut labels = Vec::new(alloc);
     match LinkInfo::parse_list(alloc, bytes) {
         Ok(list) => {
             for value in &list {
-                words.push(word_of(value))?;
+                labels.push(message_label(value))?;
             }
             if is_written_as(&list, bytes) {
-                words.push("written again")?;
+                labels.push("written again")?;
             }
         }
-        Err(error) if error.is_memory() => words.push("no memory")?,
-        Err(_) => words.push("refused")?,
+        Err(error) if error.is_memory() => labels.push("no memory")?,
+        Err(_) => labels.push("refused")?,
     }
-    Ok(words)
+    Ok(labels)
 }
 
 #[test]
 fn lists_are_read_written_and_refused(rt: HostRuntime) -> Result<(), Fail> {
-    for (bytes, words) in LISTS {
+    for (bytes, labels) in LISTS {
         assert_eq!(rt;
-            (bytes, words_of(rt.alloc(), bytes)?.as_slice()),
-            (bytes, words)
+            (bytes, labels_of(rt.alloc(), bytes)?.as_slice()),
+            (bytes, labels)
         );
     }
     Ok(())

@@ -51,14 +51,14 @@ fn macvlan(rt: HostRuntime) -> Result<(), Fail> {
 
 /// A list of source addresses is read by the attribute's reader.
 #[test]
-fn an_attribute_of_macvlan_is_read_alone(rt: HostRuntime) -> Result<(), Fail> {
+fn a_single_attribute_of_macvlan_is_read(rt: HostRuntime) -> Result<(), Fail> {
     let bytes: &[u8] = &[16, 0, 5, 0, 10, 0, 4, 0, 2, 0, 0, 0, 0, 1, 0, 0];
     let Ok(buf) = NlaBuffer::new_checked(bytes) else {
         return Err(Fail::from("cut"));
     };
     let addresses = vec![in rt.alloc(); InfoMacVlan::MacAddr([2, 0, 0, 0, 0, 1])]?;
-    let wanted = InfoMacVlan::MacAddrData(addresses);
-    assert!(rt; InfoMacVlan::parse(rt.alloc(), &buf)? == wanted);
+    let expected = InfoMacVlan::MacAddrData(addresses);
+    assert!(rt; InfoMacVlan::parse(rt.alloc(), &buf)? == expected);
     Ok(())
 }
 

@@ -54,13 +54,13 @@ fn flags_have_their_bits(rt: HostRuntime) {
 }
 
 #[test]
-fn defaults_are_told(rt: HostRuntime) {
-    let told = [
+fn defaults_are_returned(rt: HostRuntime) {
+    let defaults = [
         GtpRole::default() == GtpRole::Ggsn,
         GreEncapType::default() == GreEncapType::None,
         ErSpanDir::default() == ErSpanDir::Ingress,
         GreIOFlags::default() == GreIOFlags::empty(),
         GreEncapFlags::default() == GreEncapFlags::empty(),
     ];
-    assert_eq!(rt; told, [true; 5]);
+    assert_eq!(rt; defaults, [true; 5]);
 }

@@ -91,7 +91,7 @@ fn gre6(rt: HostRuntime) -> Result<(), Fail> {
 }
 
 #[test]
-fn flags_of_ip_tunnels_go_by_the_kind(rt: HostRuntime) -> Result<(), Fail> {
+fn flags_of_ip_tunnels_depend_on_the_kind(rt: HostRuntime) -> Result<(), Fail> {
     let Ok(buf) = NlaBuffer::new_checked([6u8, 0, 8, 0, 0, 1, 0, 0].as_slice()) else {
         return Err(Fail::from("cut"));
     };

@@ -23,10 +23,10 @@ amt_entry (MaxTunnels n) = attribute 8 (le4 n)
 amt_entry (Other a) = a
 
 -- The value is the variant of its row: a listed mode is no `Other`, and neither is an attribute whose kind has a row.
-abbrev pub amt_names_row : InfoAmt → Type 0
-amt_names_row (Mode m) = m ≡ amt_mode_of (amt_mode_number m)
-amt_names_row (LocalIp a) = HasAddressLength a
-amt_names_row (RemoteIp a) = HasAddressLength a
-amt_names_row (DiscoveryIp a) = HasAddressLength a
-amt_names_row (Other a) = has_no_row amt (proper_kind a.kind)
-amt_names_row _ = Unit {0}
+abbrev pub amt_is_row_variant : InfoAmt → Type 0
+amt_is_row_variant (Mode m) = m ≡ amt_mode_of (amt_mode_number m)
+amt_is_row_variant (LocalIp a) = HasAddressLength a
+amt_is_row_variant (RemoteIp a) = HasAddressLength a
+amt_is_row_variant (DiscoveryIp a) = HasAddressLength a
+amt_is_row_variant (Other a) = has_no_row amt (proper_kind a.kind)
+amt_is_row_variant _ = Unit {0}

@@ -19,7 +19,7 @@ bareudp_entry (Other a) = a
 
 -- The value is the variant of its row: a listed protocol is no `Other`, and neither is an attribute whose kind has a
 -- row.
-abbrev pub bareudp_names_row : InfoBareUdp → Type 0
-bareudp_names_row (Ethertype p) = p ≡ ethernet_protocol_of (ethernet_protocol_number p)
-bareudp_names_row (Other a) = has_no_row bareudp (proper_kind a.kind)
-bareudp_names_row _ = Unit {0}
+abbrev pub bareudp_is_row_variant : InfoBareUdp → Type 0
+bareudp_is_row_variant (Ethertype p) = p ≡ ethernet_protocol_of (ethernet_protocol_number p)
+bareudp_is_row_variant (Other a) = has_no_row bareudp (proper_kind a.kind)
+bareudp_is_row_variant _ = Unit {0}

@@ -3,7 +3,7 @@ use Rattle.std.specs.Prelude.{◌≡◌, ◌∷◌, []}
 use Rattle.std.specs.Net.Addr.{ipv4_octets, ipv6_octets}
 use Rattle.netlink_packet_core.specs.Attributes.{Attribute, proper_kind}
 use Rattle.netlink_packet_core.specs.Numbers.{be2, be4, le4}
-use Rattle.netlink_packet_core.specs.Truths.{truth_byte}
+use Rattle.netlink_packet_core.specs.Booleans.{boolean_byte}
 use Rattle.link_info_types.specs.GeneveTypes.{geneve_df_number, geneve_df_of}
 use Rattle.link_info_grammar.specs.Families.{geneve}
 use Rattle.attribute_tables_grammar.specs.LookUps.{has_no_row}
@@ -20,11 +20,11 @@ geneve_entry (Tos n) = attribute 4 (n ∷ [])
 geneve_entry (Port n) = attribute 5 (be2 n)
 geneve_entry CollectMetadata = attribute 6 []
 geneve_entry (Remote6 a) = attribute 7 (ipv6_octets a)
-geneve_entry (UdpCsum b) = attribute 8 (truth_byte b)
-geneve_entry (UdpZeroCsum6Tx b) = attribute 9 (truth_byte b)
-geneve_entry (UdpZeroCsum6Rx b) = attribute 10 (truth_byte b)
+geneve_entry (UdpCsum b) = attribute 8 (boolean_byte b)
+geneve_entry (UdpZeroCsum6Tx b) = attribute 9 (boolean_byte b)
+geneve_entry (UdpZeroCsum6Rx b) = attribute 10 (boolean_byte b)
 geneve_entry (Label n) = attribute 11 (be4 n)
-geneve_entry (TtlInherit b) = attribute 12 (truth_byte b)
+geneve_entry (TtlInherit b) = attribute 12 (boolean_byte b)
 geneve_entry (Df d) = attribute 13 (geneve_df_number d ∷ [])
 geneve_entry InnerProtoInherit = attribute 14 []
 geneve_entry (Local a) = attribute 17 (ipv4_octets a)
@@ -33,7 +33,7 @@ geneve_entry (Other a) = a
 
 -- The value is the variant of its row: a listed setting is no `Other`, and neither is an attribute whose kind has a
 -- row.
-abbrev pub geneve_names_row : InfoGeneve → Type 0
-geneve_names_row (Df d) = d ≡ geneve_df_of (geneve_df_number d)
-geneve_names_row (Other a) = has_no_row geneve (proper_kind a.kind)
-geneve_names_row _ = Unit {0}
+abbrev pub geneve_is_row_variant : InfoGeneve → Type 0
+geneve_is_row_variant (Df d) = d ≡ geneve_df_of (geneve_df_number d)
+geneve_is_row_variant (Other a) = has_no_row geneve (proper_kind a.kind)
+geneve_is_row_variant _ = Unit {0}

@@ -3,7 +3,7 @@ use Rattle.std.specs.Prelude.{◌≡◌, ◌∷◌, []}
 use Rattle.std.specs.Net.Addr.{ipv4_octets}
 use Rattle.netlink_packet_core.specs.Attributes.{Attribute, proper_kind}
 use Rattle.netlink_packet_core.specs.Numbers.{be2, be4, le2, le4}
-use Rattle.netlink_packet_core.specs.Truths.{truth_byte}
+use Rattle.netlink_packet_core.specs.Booleans.{boolean_byte}
 use Rattle.link_info_types.specs.GreTypes.{gre_io_flags_bits, gre_encap_flags_bits, gre_encap_type_number, gre_encap_type_of, er_span_dir_number, er_span_dir_of}
 use Rattle.link_info_grammar.specs.Families.{gre}
 use Rattle.attribute_tables_grammar.specs.LookUps.{has_no_row}
@@ -22,7 +22,7 @@ gre_entry (Local a) = attribute 6 (ipv4_octets a)
 gre_entry (Remote a) = attribute 7 (ipv4_octets a)
 gre_entry (Ttl n) = attribute 8 (n ∷ [])
 gre_entry (Tos n) = attribute 9 (n ∷ [])
-gre_entry (PathMTUDiscovery b) = attribute 10 (truth_byte b)
+gre_entry (PathMTUDiscovery b) = attribute 10 (boolean_byte b)
 gre_entry (EncapType t) = attribute 14 (le2 (gre_encap_type_number t))
 gre_entry (EncapFlags f) = attribute 15 (le2 (gre_encap_flags_bits f))
 gre_entry (SourcePort n) = attribute 16 (be2 n)
@@ -37,8 +37,8 @@ gre_entry (Other a) = a
 
 -- The value is the variant of its row: a listed encapsulation or direction is no `Other`, and neither is an attribute
 -- whose kind has a row.
-abbrev pub gre_names_row : InfoGre → Type 0
-gre_names_row (EncapType t) = t ≡ gre_encap_type_of (gre_encap_type_number t)
-gre_names_row (ErSpanDir d) = d ≡ er_span_dir_of (er_span_dir_number d)
-gre_names_row (Other a) = has_no_row gre (proper_kind a.kind)
-gre_names_row _ = Unit {0}
+abbrev pub gre_is_row_variant : InfoGre → Type 0
+gre_is_row_variant (EncapType t) = t ≡ gre_encap_type_of (gre_encap_type_number t)
+gre_is_row_variant (ErSpanDir d) = d ≡ er_span_dir_of (er_span_dir_number d)
+gre_is_row_variant (Other a) = has_no_row gre (proper_kind a.kind)
+gre_is_row_variant _ = Unit {0}

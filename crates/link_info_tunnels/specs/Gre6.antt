@@ -37,8 +37,8 @@ gre6_entry (Other a) = a
 
 -- The value is the variant of its row: a listed encapsulation or direction is no `Other`, and neither is an attribute
 -- whose kind has a row.
-abbrev pub gre6_names_row : InfoGre6 → Type 0
-gre6_names_row (EncapType t) = t ≡ gre_encap_type_of (gre_encap_type_number t)
-gre6_names_row (ErSpanDir d) = d ≡ er_span_dir_of (er_span_dir_number d)
-gre6_names_row (Other a) = has_no_row gre6 (proper_kind a.kind)
-gre6_names_row _ = Unit {0}
+abbrev pub gre6_is_row_variant : InfoGre6 → Type 0
+gre6_is_row_variant (EncapType t) = t ≡ gre_encap_type_of (gre_encap_type_number t)
+gre6_is_row_variant (ErSpanDir d) = d ≡ er_span_dir_of (er_span_dir_number d)
+gre6_is_row_variant (Other a) = has_no_row gre6 (proper_kind a.kind)
+gre6_is_row_variant _ = Unit {0}

@@ -5,7 +5,7 @@ use Rattle.netlink_packet_core.specs.Addresses.{ip_octets, HasAddressLength}
 use Rattle.netlink_packet_core.specs.Attributes.{Attribute, proper_kind}
 use Rattle.netlink_packet_core.specs.Families.{attribute, family_row}
 use Rattle.netlink_packet_core.specs.Numbers.{be2, be4, le2, le4}
-use Rattle.netlink_packet_core.specs.Truths.{truth_byte}
+use Rattle.netlink_packet_core.specs.Booleans.{boolean_byte}
 use Rattle.attribute_tables_grammar.specs.Lists.{any}
 use Rattle.attribute_tables_grammar.specs.LookUps.{has_no_row, list_of}
 use Rattle.attribute_tables_grammar.specs.Peers.{bytes_peer}
@@ -53,7 +53,7 @@ ip_tunnel_entry (Ipv4Flags n) = attribute 8 (be2 n)
 ip_tunnel_entry (Ipv6SitFlags n) = attribute 8 (be2 n)
 ip_tunnel_entry (Ipv6Flags f) = attribute 8 (le4 (ip6_tunnel_flags_bits f))
 ip_tunnel_entry (Protocol p) = attribute 9 (ip_protocol_number p ∷ [])
-ip_tunnel_entry (PMtuDisc b) = attribute 10 (truth_byte b)
+ip_tunnel_entry (PMtuDisc b) = attribute 10 (boolean_byte b)
 ip_tunnel_entry (Ipv6RdPrefix a) = attribute 11 (ipv6_octets a)
 ip_tunnel_entry (Ipv6RdRelayPrefix a) = attribute 12 (ipv4_octets a)
 ip_tunnel_entry (Ipv6RdPrefixLen n) = attribute 13 (le2 n)
@@ -68,13 +68,13 @@ ip_tunnel_entry (Other a) = a
 
 -- The value is the variant of its row: flags are those of the kind of link, a listed protocol or encapsulation is no
 -- `Other`, and neither is an attribute whose kind has a row.
-abbrev pub ip_tunnel_names_row : InfoKind → InfoIpTunnel → Type 0
-ip_tunnel_names_row k (Local a) = HasAddressLength a
-ip_tunnel_names_row k (Remote a) = HasAddressLength a
-ip_tunnel_names_row k (Ipv4Flags n) = k ≡ Kind.IpIp
-ip_tunnel_names_row k (Ipv6SitFlags n) = k ≡ Kind.SitTun
-ip_tunnel_names_row k (Ipv6Flags f) = k ≡ Kind.Ip6Tnl
-ip_tunnel_names_row k (Protocol p) = p ≡ ip_protocol_of (ip_protocol_number p)
-ip_tunnel_names_row k (EncapType t) = t ≡ tunnel_encap_type_of (tunnel_encap_type_number t)
-ip_tunnel_names_row k (Other a) = has_no_row (ip_tunnel_of k) (proper_kind a.kind)
-ip_tunnel_names_row k _ = Unit {0}
+abbrev pub ip_tunnel_is_row_variant : InfoKind → InfoIpTunnel → Type 0
+ip_tunnel_is_row_variant k (Local a) = HasAddressLength a
+ip_tunnel_is_row_variant k (Remote a) = HasAddressLength a
+ip_tunnel_is_row_variant k (Ipv4Flags n) = k ≡ Kind.IpIp
+ip_tunnel_is_row_variant k (Ipv6SitFlags n) = k ≡ Kind.SitTun
+ip_tunnel_is_row_variant k (Ipv6Flags f) = k ≡ Kind.Ip6Tnl
+ip_tunnel_is_row_variant k (Protocol p) = p ≡ ip_protocol_of (ip_protocol_number p)
+ip_tunnel_is_row_variant k (EncapType t) = t ≡ tunnel_encap_type_of (tunnel_encap_type_number t)
+ip_tunnel_is_row_variant k (Other a) = has_no_row (ip_tunnel_of k) (proper_kind a.kind)
+ip_tunnel_is_row_variant k _ = Unit {0}

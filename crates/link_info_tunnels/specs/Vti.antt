@@ -19,8 +19,8 @@ vti_entry (FwMark n) = attribute 6 (le4 n)
 vti_entry (Other a) = a
 
 -- The value is the variant of its row: an attribute whose kind has a row is no `Other`.
-abbrev pub vti_names_row : InfoVti → Type 0
-vti_names_row (Local a) = HasAddressLength a
-vti_names_row (Remote a) = HasAddressLength a
-vti_names_row (Other a) = has_no_row vti (proper_kind a.kind)
-vti_names_row _ = Unit {0}
+abbrev pub vti_is_row_variant : InfoVti → Type 0
+vti_is_row_variant (Local a) = HasAddressLength a
+vti_is_row_variant (Remote a) = HasAddressLength a
+vti_is_row_variant (Other a) = has_no_row vti (proper_kind a.kind)
+vti_is_row_variant _ = Unit {0}

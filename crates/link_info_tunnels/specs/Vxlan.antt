@@ -3,7 +3,7 @@ use Rattle.std.specs.Prelude.{◌≡◌, ◌∷◌, ◌++◌, []}
 use Rattle.std.specs.Net.Addr.{ipv4_octets, ipv6_octets}
 use Rattle.netlink_packet_core.specs.Attributes.{Attribute, proper_kind}
 use Rattle.netlink_packet_core.specs.Numbers.{be2, be4, be8, le4}
-use Rattle.netlink_packet_core.specs.Truths.{truth_byte}
+use Rattle.netlink_packet_core.specs.Booleans.{boolean_byte}
 use Rattle.link_info_types.specs.VxlanTypes.{vxlan_df_number, vxlan_df_of}
 use Rattle.link_info_grammar.specs.Families.{vxlan}
 use Rattle.attribute_tables_grammar.specs.LookUps.{has_no_row}
@@ -19,40 +19,40 @@ vxlan_entry (Link n) = attribute 3 (le4 n)
 vxlan_entry (Local a) = attribute 4 (ipv4_octets a)
 vxlan_entry (Ttl n) = attribute 5 (n ∷ [])
 vxlan_entry (Tos n) = attribute 6 (n ∷ [])
-vxlan_entry (Learning b) = attribute 7 (truth_byte b)
+vxlan_entry (Learning b) = attribute 7 (boolean_byte b)
 vxlan_entry (Ageing n) = attribute 8 (le4 n)
 vxlan_entry (Limit n) = attribute 9 (le4 n)
 vxlan_entry (PortRange r) = attribute 10 (be2 r.0 ++ be2 r.1)
-vxlan_entry (Proxy b) = attribute 11 (truth_byte b)
-vxlan_entry (Rsc b) = attribute 12 (truth_byte b)
-vxlan_entry (L2Miss b) = attribute 13 (truth_byte b)
-vxlan_entry (L3Miss b) = attribute 14 (truth_byte b)
+vxlan_entry (Proxy b) = attribute 11 (boolean_byte b)
+vxlan_entry (Rsc b) = attribute 12 (boolean_byte b)
+vxlan_entry (L2Miss b) = attribute 13 (boolean_byte b)
+vxlan_entry (L3Miss b) = attribute 14 (boolean_byte b)
 vxlan_entry (Port n) = attribute 15 (be2 n)
 vxlan_entry (Group6 a) = attribute 16 (ipv6_octets a)
 vxlan_entry (Local6 a) = attribute 17 (ipv6_octets a)
-vxlan_entry (UDPCsum b) = attribute 18 (truth_byte b)
-vxlan_entry (UDPZeroCsumTX b) = attribute 19 (truth_byte b)
-vxlan_entry (UDPZeroCsumRX b) = attribute 20 (truth_byte b)
-vxlan_entry (RemCsumTX b) = attribute 21 (truth_byte b)
-vxlan_entry (RemCsumRX b) = attribute 22 (truth_byte b)
+vxlan_entry (UDPCsum b) = attribute 18 (boolean_byte b)
+vxlan_entry (UDPZeroCsumTX b) = attribute 19 (boolean_byte b)
+vxlan_entry (UDPZeroCsumRX b) = attribute 20 (boolean_byte b)
+vxlan_entry (RemCsumTX b) = attribute 21 (boolean_byte b)
+vxlan_entry (RemCsumRX b) = attribute 22 (boolean_byte b)
 vxlan_entry Gbp = attribute 23 []
 vxlan_entry RemCsumNoPartial = attribute 24 []
-vxlan_entry (CollectMetadata b) = attribute 25 (truth_byte b)
+vxlan_entry (CollectMetadata b) = attribute 25 (boolean_byte b)
 vxlan_entry (Label n) = attribute 26 (be4 n)
 vxlan_entry Gpe = attribute 27 []
 vxlan_entry TtlInheritFlag = attribute 28 []
 vxlan_entry (TtlInherit n) = attribute 28 (n ∷ [])
 vxlan_entry (Df d) = attribute 29 (vxlan_df_number d ∷ [])
-vxlan_entry (Vnifilter b) = attribute 30 (truth_byte b)
-vxlan_entry (Localbypass b) = attribute 31 (truth_byte b)
+vxlan_entry (Vnifilter b) = attribute 30 (boolean_byte b)
+vxlan_entry (Localbypass b) = attribute 31 (boolean_byte b)
 vxlan_entry (LabelPolicy n) = attribute 32 (le4 n)
 vxlan_entry (ReservedBits n) = attribute 33 (be8 n)
-vxlan_entry (McRoute b) = attribute 34 (truth_byte b)
+vxlan_entry (McRoute b) = attribute 34 (boolean_byte b)
 vxlan_entry (Other a) = a
 
 -- The value is the variant of its row: a listed setting is no `Other`, and neither is an attribute whose kind has a
 -- row.
-abbrev pub vxlan_names_row : InfoVxlan → Type 0
-vxlan_names_row (Df d) = d ≡ vxlan_df_of (vxlan_df_number d)
-vxlan_names_row (Other a) = has_no_row vxlan (proper_kind a.kind)
-vxlan_names_row _ = Unit {0}
+abbrev pub vxlan_is_row_variant : InfoVxlan → Type 0
+vxlan_is_row_variant (Df d) = d ≡ vxlan_df_of (vxlan_df_number d)
+vxlan_is_row_variant (Other a) = has_no_row vxlan (proper_kind a.kind)
+vxlan_is_row_variant _ = Unit {0}

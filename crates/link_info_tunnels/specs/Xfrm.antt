@@ -14,6 +14,6 @@ xfrm_entry (IfId n) = attribute 2 (le4 n)
 xfrm_entry (Other a) = a
 
 -- The value is the variant of its row: an attribute whose kind has a row is no `Other`.
-abbrev pub xfrm_names_row : InfoXfrm → Type 0
-xfrm_names_row (Other a) = has_no_row xfrm (proper_kind a.kind)
-xfrm_names_row _ = Unit {0}
+abbrev pub xfrm_is_row_variant : InfoXfrm → Type 0
+xfrm_is_row_variant (Other a) = has_no_row xfrm (proper_kind a.kind)
+xfrm_is_row_variant _ = Unit {0}

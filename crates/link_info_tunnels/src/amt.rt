@@ -5,7 +5,7 @@ ghost use Rattle.netlink_packet_core.specs.Addresses.{ip_octets, HasAddressLengt
 ghost use Rattle.netlink_packet_core.specs.Numbers.{be2, le4};
 ghost use Rattle.netlink_packet_core.specs.Families.{attribute};
 ghost use Rattle.link_info_grammar.specs.Families.{amt};
-ghost use Rattle.link_info_tunnels.specs.Amt.{amt_entry, amt_names_row};
+ghost use Rattle.link_info_tunnels.specs.Amt.{amt_entry, amt_is_row_variant};
 
 use attribute_tables::typed;
 use link_info_types::AmtMode;
@@ -78,7 +78,7 @@ impl InfoAmt {
     // type.
     fn of_u32(kind: u16, number: u32) -> Option<Self>
         ensures value { IfSome result (λ v. amt_entry v ≡ attribute kind (le4 number)) }
-        ensures names_row { IfSome result (λ v. amt_names_row v) }
+        ensures is_row_variant { IfSome result (λ v. amt_is_row_variant v) }
         ensures none { IfNone result (kind ≢ 1 × kind ≢ 4 × kind ≢ 8) }
     {
         match kind {
@@ -92,7 +92,7 @@ impl InfoAmt {
     // The attribute of a kind that holds 2 bytes, big-endian.
     fn of_u16_be(kind: u16, number: u16) -> Option<Self>
         ensures value { IfSome result (λ v. amt_entry v ≡ attribute kind (be2 number)) }
-        ensures names_row { IfSome result (λ v. amt_names_row v) }
+        ensures is_row_variant { IfSome result (λ v. amt_is_row_variant v) }
         ensures none { IfNone result (kind ≢ 2 × kind ≢ 3) }
     {
         match kind {
@@ -106,7 +106,7 @@ impl InfoAmt {
     fn of_ip(kind: u16, address: IpAddr) -> Option<Self>
         requires { HasAddressLength address }
         ensures value { IfSome result (λ v. amt_entry v ≡ attribute kind (ip_octets address)) }
-        ensures names_row { IfSome result (λ v. amt_names_row v) }
+        ensures is_row_variant { IfSome result (λ v. amt_is_row_variant v) }
         ensures none { IfNone result (kind ≢ 5 × kind ≢ 6 × kind ≢ 7) }
     {
         match kind {
@@ -121,7 +121,7 @@ impl InfoAmt {
 impl Family for InfoAmt {
     ghost rows = { amt };
 
-    ghost names_row = { amt_names_row };
+    ghost is_row_variant = { amt_is_row_variant };
 
     fn read_row(_alloc: Global, kind: u16, payload: &[u8]) -> Result<Option<Self>, DecodeError> {
         match kind {

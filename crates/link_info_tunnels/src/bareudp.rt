@@ -2,7 +2,7 @@
 
 ghost use Rattle.std.specs.Prelude.{refl};
 ghost use Rattle.link_info_grammar.specs.Families.{bareudp};
-ghost use Rattle.link_info_tunnels.specs.Bareudp.{bareudp_entry, bareudp_names_row};
+ghost use Rattle.link_info_tunnels.specs.Bareudp.{bareudp_entry, bareudp_is_row_variant};
 
 use attribute_tables::typed;
 use netlink_packet_core::{
@@ -55,7 +55,7 @@ impl FieldNla for InfoBareUdp {
 impl Family for InfoBareUdp {
     ghost rows = { bareudp };
 
-    ghost names_row = { bareudp_names_row };
+    ghost is_row_variant = { bareudp_is_row_variant };
 
     fn read_row(_alloc: Global, kind: u16, payload: &[u8]) -> Result<Option<Self>, DecodeError> {
         match kind {

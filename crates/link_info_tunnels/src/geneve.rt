@@ -3,10 +3,10 @@
 
 ghost use Rattle.std.specs.Prelude.{refl, IfNone, IfSome, [], ◌∷◌, ◌≡◌, ◌≢◌};
 ghost use Rattle.std.specs.Net.Addr.{ipv4_octets, ipv6_octets};
-ghost use Rattle.netlink_packet_core.specs.Truths.{truth_byte};
+ghost use Rattle.netlink_packet_core.specs.Booleans.{boolean_byte};
 ghost use Rattle.netlink_packet_core.specs.Families.{attribute};
 ghost use Rattle.link_info_grammar.specs.Families.{geneve};
-ghost use Rattle.link_info_tunnels.specs.Geneve.{geneve_entry, geneve_names_row};
+ghost use Rattle.link_info_tunnels.specs.Geneve.{geneve_entry, geneve_is_row_variant};
 
 use attribute_tables::typed;
 use link_info_types::GeneveDf;
@@ -103,11 +103,11 @@ impl FieldNla for InfoGeneve {
             Self::Port(port) => (IFLA_GENEVE_PORT, Field::U16Be(*port)),
             Self::CollectMetadata => (IFLA_GENEVE_COLLECT_METADATA, Field::Empty),
             Self::Remote6(address) => (IFLA_GENEVE_REMOTE6, Field::Ipv6(*address)),
-            Self::UdpCsum(truth) => (IFLA_GENEVE_UDP_CSUM, Field::Bool(*truth)),
-            Self::UdpZeroCsum6Tx(truth) => (IFLA_GENEVE_UDP_ZERO_CSUM6_TX, Field::Bool(*truth)),
-            Self::UdpZeroCsum6Rx(truth) => (IFLA_GENEVE_UDP_ZERO_CSUM6_RX, Field::Bool(*truth)),
+            Self::UdpCsum(boolean) => (IFLA_GENEVE_UDP_CSUM, Field::Bool(*boolean)),
+            Self::UdpZeroCsum6Tx(boolean) => (IFLA_GENEVE_UDP_ZERO_CSUM6_TX, Field::Bool(*boolean)),
+            Self::UdpZeroCsum6Rx(boolean) => (IFLA_GENEVE_UDP_ZERO_CSUM6_RX, Field::Bool(*boolean)),
             Self::Label(label) => (IFLA_GENEVE_LABEL, Field::U32Be(*label)),
-            Self::TtlInherit(truth) => (IFLA_GENEVE_TTL_INHERIT, Field::Bool(*truth)),
+            Self::TtlInherit(boolean) => (IFLA_GENEVE_TTL_INHERIT, Field::Bool(*boolean)),
             Self::Df(setting) => (IFLA_GENEVE_DF, Field::U8(u8::from(*setting))),
             Self::InnerProtoInherit => (IFLA_GENEVE_INNER_PROTO_INHERIT, Field::Empty),
             Self::Local(address) => (IFLA_GENEVE_LOCAL, Field::Ipv4(*address)),
@@ -122,7 +122,7 @@ impl InfoGeneve {
     // own, since the prover's time for one match is its paths times the variants of its type.
     fn of_ipv4(kind: u16, address: Ipv4Addr) -> Option<Self>
         ensures value { IfSome result (λ v. geneve_entry v ≡ attribute kind (ipv4_octets address)) }
-        ensures names_row { IfSome result (λ v. geneve_names_row v) }
+        ensures is_row_variant { IfSome result (λ v. geneve_is_row_variant v) }
         ensures none { IfNone result (kind ≢ 2 × kind ≢ 17) }
     {
         match kind {
@@ -135,7 +135,7 @@ impl InfoGeneve {
     // The attribute of a kind that holds 1 byte.
     fn of_u8(kind: u16, number: u8) -> Option<Self>
         ensures value { IfSome result (λ v. geneve_entry v ≡ attribute kind (number ∷ [])) }
-        ensures names_row { IfSome result (λ v. geneve_names_row v) }
+        ensures is_row_variant { IfSome result (λ v. geneve_is_row_variant v) }
         ensures none { IfNone result (kind ≢ 3 × kind ≢ 4 × kind ≢ 13) }
     {
         match kind {
@@ -149,7 +149,7 @@ impl InfoGeneve {
     // The attribute of a kind that holds an IPv6 address.
     fn of_ipv6(kind: u16, address: Ipv6Addr) -> Option<Self>
         ensures value { IfSome result (λ v. geneve_entry v ≡ attribute kind (ipv6_octets address)) }
-        ensures names_row { IfSome result (λ v. geneve_names_row v) }
+        ensures is_row_variant { IfSome result (λ v. geneve_is_row_variant v) }
         ensures none { IfNone result (kind ≢ 7 × kind ≢ 18) }
     {
         match kind {
@@ -160,16 +160,16 @@ impl InfoGeneve {
     }
 
     // The attribute of a kind that holds a boolean.
-    fn of_truth(kind: u16, truth: bool) -> Option<Self>
-        ensures value { IfSome result (λ v. geneve_entry v ≡ attribute kind (truth_byte truth)) }
-        ensures names_row { IfSome result (λ v. geneve_names_row v) }
+    fn of_boolean(kind: u16, boolean: bool) -> Option<Self>
+        ensures value { IfSome result (λ v. geneve_entry v ≡ attribute kind (boolean_byte boolean)) }
+        ensures is_row_variant { IfSome result (λ v. geneve_is_row_variant v) }
         ensures none { IfNone result (kind ≢ 8 × kind ≢ 9 × kind ≢ 10 × kind ≢ 12) }
     {
         match kind {
-            IFLA_GENEVE_UDP_CSUM => Some(Self::UdpCsum(truth)),
-            IFLA_GENEVE_UDP_ZERO_CSUM6_TX => Some(Self::UdpZeroCsum6Tx(truth)),
-            IFLA_GENEVE_UDP_ZERO_CSUM6_RX => Some(Self::UdpZeroCsum6Rx(truth)),
-            IFLA_GENEVE_TTL_INHERIT => Some(Self::TtlInherit(truth)),
+            IFLA_GENEVE_UDP_CSUM => Some(Self::UdpCsum(boolean)),
+            IFLA_GENEVE_UDP_ZERO_CSUM6_TX => Some(Self::UdpZeroCsum6Tx(boolean)),
+            IFLA_GENEVE_UDP_ZERO_CSUM6_RX => Some(Self::UdpZeroCsum6Rx(boolean)),
+            IFLA_GENEVE_TTL_INHERIT => Some(Self::TtlInherit(boolean)),
             _ => None,
         }
     }
@@ -178,7 +178,7 @@ impl InfoGeneve {
 impl Family for InfoGeneve {
     ghost rows = { geneve };
 
-    ghost names_row = { geneve_names_row };
+    ghost is_row_variant = { geneve_is_row_variant };
 
     fn read_row(_alloc: Global, kind: u16, payload: &[u8]) -> Result<Option<Self>, DecodeError> {
         match kind {
@@ -200,7 +200,7 @@ impl Family for InfoGeneve {
             IFLA_GENEVE_UDP_CSUM
             | IFLA_GENEVE_UDP_ZERO_CSUM6_TX
             | IFLA_GENEVE_UDP_ZERO_CSUM6_RX
-            | IFLA_GENEVE_TTL_INHERIT => typed!(of_truth(kind), parse_bool(payload)),
+            | IFLA_GENEVE_TTL_INHERIT => typed!(of_boolean(kind), parse_bool(payload)),
             IFLA_GENEVE_LABEL => typed!(Label, parse_u32_be(payload)),
             IFLA_GENEVE_INNER_PROTO_INHERIT => Ok(Some(Self::InnerProtoInherit)),
             _ => Ok(None),

@@ -6,7 +6,7 @@ ghost use Rattle.std.specs.Net.Addr.{ipv4_octets};
 ghost use Rattle.netlink_packet_core.specs.Numbers.{be2, be4, le2, le4};
 ghost use Rattle.netlink_packet_core.specs.Families.{attribute};
 ghost use Rattle.link_info_grammar.specs.Families.{gre};
-ghost use Rattle.link_info_tunnels.specs.Gre.{gre_entry, gre_names_row};
+ghost use Rattle.link_info_tunnels.specs.Gre.{gre_entry, gre_is_row_variant};
 
 use super::gre_common::{
     IFLA_GRE_COLLECT_METADATA, IFLA_GRE_ENCAP_DPORT, IFLA_GRE_ENCAP_FLAGS, IFLA_GRE_ENCAP_SPORT,
@@ -92,7 +92,7 @@ impl FieldNla for InfoGre {
             Self::Remote(address) => (IFLA_GRE_REMOTE, Field::Ipv4(*address)),
             Self::Ttl(number) => (IFLA_GRE_TTL, Field::U8(*number)),
             Self::Tos(number) => (IFLA_GRE_TOS, Field::U8(*number)),
-            Self::PathMTUDiscovery(truth) => (IFLA_GRE_PMTUDISC, Field::Bool(*truth)),
+            Self::PathMTUDiscovery(boolean) => (IFLA_GRE_PMTUDISC, Field::Bool(*boolean)),
             Self::EncapType(encapsulation) => (
                 IFLA_GRE_ENCAP_TYPE,
                 Field::U16(u16::from(encapsulation)),
@@ -117,7 +117,7 @@ impl InfoGre {
     // type.
     fn of_u32(kind: u16, number: u32) -> Option<Self>
         ensures value { IfSome result (λ v. gre_entry v ≡ attribute kind (le4 number)) }
-        ensures names_row { IfSome result (λ v. gre_names_row v) }
+        ensures is_row_variant { IfSome result (λ v. gre_is_row_variant v) }
         ensures none { IfNone result (kind ≢ 1 × kind ≢ 20 × kind ≢ 21) }
     {
         match kind {
@@ -131,7 +131,7 @@ impl InfoGre {
     // The attribute of a kind that holds 2 bytes, big-endian.
     fn of_u16_be(kind: u16, number: u16) -> Option<Self>
         ensures value { IfSome result (λ v. gre_entry v ≡ attribute kind (be2 number)) }
-        ensures names_row { IfSome result (λ v. gre_names_row v) }
+        ensures is_row_variant { IfSome result (λ v. gre_is_row_variant v) }
         ensures none { IfNone result (kind ≢ 2 × kind ≢ 3 × kind ≢ 16 × kind ≢ 17) }
     {
         match kind {
@@ -146,7 +146,7 @@ impl InfoGre {
     // The attribute of a kind that holds 4 bytes, big-endian.
     fn of_u32_be(kind: u16, number: u32) -> Option<Self>
         ensures value { IfSome result (λ v. gre_entry v ≡ attribute kind (be4 number)) }
-        ensures names_row { IfSome result (λ v. gre_names_row v) }
+        ensures is_row_variant { IfSome result (λ v. gre_is_row_variant v) }
         ensures none { IfNone result (kind ≢ 4 × kind ≢ 5) }
     {
         match kind {
@@ -159,7 +159,7 @@ impl InfoGre {
     // The attribute of a kind that holds an IPv4 address.
     fn of_ipv4(kind: u16, address: Ipv4Addr) -> Option<Self>
         ensures value { IfSome result (λ v. gre_entry v ≡ attribute kind (ipv4_octets address)) }
-        ensures names_row { IfSome result (λ v. gre_names_row v) }
+        ensures is_row_variant { IfSome result (λ v. gre_is_row_variant v) }
         ensures none { IfNone result (kind ≢ 6 × kind ≢ 7) }
     {
         match kind {
@@ -172,7 +172,7 @@ impl InfoGre {
     // The attribute of a kind that holds 1 byte.
     fn of_u8(kind: u16, number: u8) -> Option<Self>
         ensures value { IfSome result (λ v. gre_entry v ≡ attribute kind (number ∷ [])) }
-        ensures names_row { IfSome result (λ v. gre_names_row v) }
+        ensures is_row_variant { IfSome result (λ v. gre_is_row_variant v) }
         ensures none { IfNone result (kind ≢ 8 × kind ≢ 9 × kind ≢ 22 × kind ≢ 23) }
     {
         match kind {
@@ -187,7 +187,7 @@ impl InfoGre {
     // The attribute of a kind that holds 2 bytes, little-endian.
     fn of_u16(kind: u16, number: u16) -> Option<Self>
         ensures value { IfSome result (λ v. gre_entry v ≡ attribute kind (le2 number)) }
-        ensures names_row { IfSome result (λ v. gre_names_row v) }
+        ensures is_row_variant { IfSome result (λ v. gre_is_row_variant v) }
         ensures none { IfNone result (kind ≢ 14 × kind ≢ 15 × kind ≢ 24) }
     {
         match kind {
@@ -202,7 +202,7 @@ impl InfoGre {
 impl Family for InfoGre {
     ghost rows = { gre };
 
-    ghost names_row = { gre_names_row };
+    ghost is_row_variant = { gre_is_row_variant };
 
     fn read_row(_alloc: Global, kind: u16, payload: &[u8]) -> Result<Option<Self>, DecodeError> {
         match kind {

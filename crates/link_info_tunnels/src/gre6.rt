@@ -6,7 +6,7 @@ ghost use Rattle.std.specs.Net.Addr.{ipv6_octets};
 ghost use Rattle.netlink_packet_core.specs.Numbers.{be2, be4, le2, le4};
 ghost use Rattle.netlink_packet_core.specs.Families.{attribute};
 ghost use Rattle.link_info_grammar.specs.Families.{gre6};
-ghost use Rattle.link_info_tunnels.specs.Gre6.{gre6_entry, gre6_names_row};
+ghost use Rattle.link_info_tunnels.specs.Gre6.{gre6_entry, gre6_is_row_variant};
 
 use super::gre_common::{
     IFLA_GRE_COLLECT_METADATA, IFLA_GRE_ENCAP_DPORT, IFLA_GRE_ENCAP_FLAGS, IFLA_GRE_ENCAP_LIMIT,
@@ -121,7 +121,7 @@ impl InfoGre6 {
     // type.
     fn of_u32(kind: u16, number: u32) -> Option<Self>
         ensures value { IfSome result (λ v. gre6_entry v ≡ attribute kind (le4 number)) }
-        ensures names_row { IfSome result (λ v. gre6_names_row v) }
+        ensures is_row_variant { IfSome result (λ v. gre6_is_row_variant v) }
         ensures none { IfNone result (kind ≢ 1 × kind ≢ 20 × kind ≢ 21) }
     {
         match kind {
@@ -135,7 +135,7 @@ impl InfoGre6 {
     // The attribute of a kind that holds 2 bytes, big-endian.
     fn of_u16_be(kind: u16, number: u16) -> Option<Self>
         ensures value { IfSome result (λ v. gre6_entry v ≡ attribute kind (be2 number)) }
-        ensures names_row { IfSome result (λ v. gre6_names_row v) }
+        ensures is_row_variant { IfSome result (λ v. gre6_is_row_variant v) }
         ensures none { IfNone result (kind ≢ 2 × kind ≢ 3 × kind ≢ 16 × kind ≢ 17) }
     {
         match kind {
@@ -150,7 +150,7 @@ impl InfoGre6 {
     // The attribute of a kind that holds 4 bytes, big-endian.
     fn of_u32_be(kind: u16, number: u32) -> Option<Self>
         ensures value { IfSome result (λ v. gre6_entry v ≡ attribute kind (be4 number)) }
-        ensures names_row { IfSome result (λ v. gre6_names_row v) }
+        ensures is_row_variant { IfSome result (λ v. gre6_is_row_variant v) }
         ensures none { IfNone result (kind ≢ 4 × kind ≢ 5 × kind ≢ 12) }
     {
         match kind {
@@ -164,7 +164,7 @@ impl InfoGre6 {
     // The attribute of a kind that holds an IPv6 address.
     fn of_ipv6(kind: u16, address: Ipv6Addr) -> Option<Self>
         ensures value { IfSome result (λ v. gre6_entry v ≡ attribute kind (ipv6_octets address)) }
-        ensures names_row { IfSome result (λ v. gre6_names_row v) }
+        ensures is_row_variant { IfSome result (λ v. gre6_is_row_variant v) }
         ensures none { IfNone result (kind ≢ 6 × kind ≢ 7) }
     {
         match kind {
@@ -177,7 +177,7 @@ impl InfoGre6 {
     // The attribute of a kind that holds 1 byte.
     fn of_u8(kind: u16, number: u8) -> Option<Self>
         ensures value { IfSome result (λ v. gre6_entry v ≡ attribute kind (number ∷ [])) }
-        ensures names_row { IfSome result (λ v. gre6_names_row v) }
+        ensures is_row_variant { IfSome result (λ v. gre6_is_row_variant v) }
         ensures none { IfNone result (kind ≢ 8 × kind ≢ 9 × kind ≢ 11 × kind ≢ 22 × kind ≢ 23) }
     {
         match kind {
@@ -193,7 +193,7 @@ impl InfoGre6 {
     // The attribute of a kind that holds 2 bytes, little-endian.
     fn of_u16(kind: u16, number: u16) -> Option<Self>
         ensures value { IfSome result (λ v. gre6_entry v ≡ attribute kind (le2 number)) }
-        ensures names_row { IfSome result (λ v. gre6_names_row v) }
+        ensures is_row_variant { IfSome result (λ v. gre6_is_row_variant v) }
         ensures none { IfNone result (kind ≢ 14 × kind ≢ 15 × kind ≢ 24) }
     {
         match kind {
@@ -208,7 +208,7 @@ impl InfoGre6 {
 impl Family for InfoGre6 {
     ghost rows = { gre6 };
 
-    ghost names_row = { gre6_names_row };
+    ghost is_row_variant = { gre6_is_row_variant };
 
     fn read_row(_alloc: Global, kind: u16, payload: &[u8]) -> Result<Option<Self>, DecodeError> {
         match kind {

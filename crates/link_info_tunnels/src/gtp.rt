@@ -4,7 +4,7 @@ ghost use Rattle.std.specs.Prelude.{refl, IfNone, IfSome, ◌≡◌, ◌≢◌};
 ghost use Rattle.netlink_packet_core.specs.Families.{attribute};
 ghost use Rattle.netlink_packet_core.specs.Numbers.{le4};
 ghost use Rattle.link_info_grammar.specs.Families.{gtp};
-ghost use Rattle.link_info_tunnels.specs.Gtp.{gtp_entry, gtp_names_row};
+ghost use Rattle.link_info_tunnels.specs.Gtp.{gtp_entry, gtp_is_row_variant};
 
 use attribute_tables::typed;
 use link_info_types::GtpRole;
@@ -64,7 +64,7 @@ impl FieldNla for InfoGtp {
             Self::Fd1(number) => (IFLA_GTP_FD1, Field::U32(*number)),
             Self::PdpHashsize(number) => (IFLA_GTP_PDP_HASHSIZE, Field::U32(*number)),
             Self::Role(role) => (IFLA_GTP_ROLE, Field::U32(u32::from(*role))),
-            Self::CreateSockets(truth) => (IFLA_GTP_CREATE_SOCKETS, Field::Bool(*truth)),
+            Self::CreateSockets(boolean) => (IFLA_GTP_CREATE_SOCKETS, Field::Bool(*boolean)),
             Self::RestartCount(number) => (IFLA_GTP_RESTART_COUNT, Field::U8(*number)),
             Self::Local(address) => (IFLA_GTP_LOCAL, Field::Ipv4(*address)),
             Self::Local6(address) => (IFLA_GTP_LOCAL6, Field::Ipv6(*address)),
@@ -77,7 +77,7 @@ impl InfoGtp {
     // The attribute of a kind that holds a number of 4 bytes.
     fn of_u32(kind: u16, number: u32) -> Option<Self>
         ensures value { IfSome result (λ v. gtp_entry v ≡ attribute kind (le4 number)) }
-        ensures names_row { IfSome result (λ v. gtp_names_row v) }
+        ensures is_row_variant { IfSome result (λ v. gtp_is_row_variant v) }
         ensures none { IfNone result (kind ≢ 1 × kind ≢ 2 × kind ≢ 3 × kind ≢ 4) }
     {
         match kind {
@@ -93,7 +93,7 @@ impl InfoGtp {
 impl Family for InfoGtp {
     ghost rows = { gtp };
 
-    ghost names_row = { gtp_names_row };
+    ghost is_row_variant = { gtp_is_row_variant };
 
     fn read_row(_alloc: Global, kind: u16, payload: &[u8]) -> Result<Option<Self>, DecodeError> {
         match kind {

@@ -8,16 +8,16 @@ ghost use Rattle.std.specs.List.{All};
 ghost use Rattle.netlink_packet_core.specs.Attributes.{proper_kind};
 ghost use Rattle.netlink_packet_core.specs.AttributeViews.{IsAttribute, viewed_kind};
 ghost use Rattle.netlink_packet_core.specs.Errors.{is_memory};
-ghost use Rattle.netlink_packet_core.specs.Families.{Gives, accepts, family_row, may_want_memory, attribute};
+ghost use Rattle.netlink_packet_core.specs.Families.{Gives, accepts, family_row, may_allocate, attribute};
 ghost use Rattle.netlink_packet_core.specs.NlaBuffers.{storage};
 ghost use Rattle.attribute_tables_grammar.specs.Lists.{any, without_context};
 ghost use Rattle.attribute_tables_grammar.specs.LookUps.{has_no_row};
 ghost use Rattle.attribute_tables_grammar.specs.Readings.{reading_as};
 ghost use Rattle.attribute_tables_grammar.specs.Rules.{shape_rule};
 ghost use Rattle.link_info_kinds.specs.declared.info_kind.InfoKind.{InfoKind};
-ghost use Rattle.link_info_tunnels.specs.IpTunnel.{ip_tunnel_entry, ip_tunnel_names_row, ip_tunnel_of};
+ghost use Rattle.link_info_tunnels.specs.IpTunnel.{ip_tunnel_entry, ip_tunnel_is_row_variant, ip_tunnel_of};
 ghost use Rattle.link_info_tunnels.specs.IpTunnel.{ip_tunnel_begins_accepted, ip_tunnel_rule, tunnel_flags};
-ghost use Rattle.attribute_tables.specs.Outcomes.{IfMemory, IfRead, ListIsReadAs, ListIsWrittenBy, SucceedsExactlyWhere, SucceedsWhere};
+ghost use Rattle.attribute_tables.specs.Outcomes.{IfMemory, IfRead, ListIsReadAs, ListIsWrittenBy, SucceedsExactlyIf, SucceedsIf};
 
 use attribute_tables::{Reader, parse_list, typed};
 use attribute_tables_grammar::laws::{rows_are_looked_up, rows_without_lists_fit};
@@ -144,7 +144,7 @@ impl FieldNla for InfoIpTunnel {
             Self::Ipv6SitFlags(flags) => (IFLA_IPTUN_FLAGS, Field::U16Be(*flags)),
             Self::Ipv6Flags(flags) => (IFLA_IPTUN_FLAGS, Field::U32(flags.bits())),
             Self::Protocol(protocol) => (IFLA_IPTUN_PROTO, Field::U8(u8::from(*protocol))),
-            Self::PMtuDisc(truth) => (IFLA_IPTUN_PMTUDISC, Field::Bool(*truth)),
+            Self::PMtuDisc(boolean) => (IFLA_IPTUN_PMTUDISC, Field::Bool(*boolean)),
             Self::Ipv6RdPrefix(address) => (IFLA_IPTUN_6RD_PREFIX, Field::Ipv6(*address)),
             Self::Ipv6RdRelayPrefix(address) => (
                 IFLA_IPTUN_6RD_RELAY_PREFIX,
@@ -175,8 +175,8 @@ impl InfoIpTunnel {
     // type.
     fn of_u32(kind: u16, number: u32) -> Option<Self>
         ensures value { IfSome result (λ v. ip_tunnel_entry v ≡ attribute kind (le4 number)) }
-        ensures names_row { IfSome result
-            (λ v. (link : InfoKind) → ip_tunnel_names_row link v) }
+        ensures is_row_variant { IfSome result
+            (λ v. (link : InfoKind) → ip_tunnel_is_row_variant link v) }
         ensures none { IfNone result (kind ≢ 1 × kind ≢ 20) }
     {
         match kind {
@@ -190,8 +190,8 @@ impl InfoIpTunnel {
     fn of_ip(kind: u16, address: IpAddr) -> Option<Self>
         requires { HasAddressLength address }
         ensures value { IfSome result (λ v. ip_tunnel_entry v ≡ attribute kind (ip_octets address)) }
-        ensures names_row { IfSome result
-            (λ v. (link : InfoKind) → ip_tunnel_names_row link v) }
+        ensures is_row_variant { IfSome result
+            (λ v. (link : InfoKind) → ip_tunnel_is_row_variant link v) }
         ensures none { IfNone result (kind ≢ 2 × kind ≢ 3) }
     {
         match kind {
@@ -204,8 +204,8 @@ impl InfoIpTunnel {
     // The attribute of a kind that holds 1 byte.
     fn of_u8(kind: u16, number: u8) -> Option<Self>
         ensures value { IfSome result (λ v. ip_tunnel_entry v ≡ attribute kind (number ∷ [])) }
-        ensures names_row { IfSome result
-            (λ v. (link : InfoKind) → ip_tunnel_names_row link v) }
+        ensures is_row_variant { IfSome result
+            (λ v. (link : InfoKind) → ip_tunnel_is_row_variant link v) }
         ensures none { IfNone result (kind ≢ 4 × kind ≢ 5 × kind ≢ 6 × kind ≢ 9) }
     {
         match kind {
@@ -220,8 +220,8 @@ impl InfoIpTunnel {
     // The attribute of a kind that holds 2 bytes, little-endian.
     fn of_u16(kind: u16, number: u16) -> Option<Self>
         ensures value { IfSome result (λ v. ip_tunnel_entry v ≡ attribute kind (le2 number)) }
-        ensures names_row { IfSome result
-            (λ v. (link : InfoKind) → ip_tunnel_names_row link v) }
+        ensures is_row_variant { IfSome result
+            (λ v. (link : InfoKind) → ip_tunnel_is_row_variant link v) }
         ensures none { IfNone result (kind ≢ 13 × kind ≢ 14 × kind ≢ 15 × kind ≢ 16) }
     {
         match kind {
@@ -238,8 +238,8 @@ impl InfoIpTunnel {
     // The attribute of a kind that holds 2 bytes, big-endian.
     fn of_u16_be(kind: u16, number: u16) -> Option<Self>
         ensures value { IfSome result (λ v. ip_tunnel_entry v ≡ attribute kind (be2 number)) }
-        ensures names_row { IfSome result
-            (λ v. (link : InfoKind) → ip_tunnel_names_row link v) }
+        ensures is_row_variant { IfSome result
+            (λ v. (link : InfoKind) → ip_tunnel_is_row_variant link v) }
         ensures none { IfNone result (kind ≢ 17 × kind ≢ 18) }
     {
         match kind {
@@ -251,12 +251,12 @@ impl InfoIpTunnel {
 
     // Reads the payload of `IFLA_IPTUN_FLAGS` under a kind of link.
     fn read_flags(payload: &[u8], link: &InfoKind) -> Result<Self, DecodeError>
-        ensures judged { SucceedsExactlyWhere result
+        ensures judged { SucceedsExactlyIf result
             ((shape_rule (tunnel_flags link.now)).accepted payload.now) }
         ensures value { IfOk result
             (λ v. ip_tunnel_entry v
             ≡ attribute 8 ((shape_rule (tunnel_flags link.now)).canonical payload.now)) }
-        ensures names_row { IfOk result (λ v. ip_tunnel_names_row link.now v) }
+        ensures is_row_variant { IfOk result (λ v. ip_tunnel_is_row_variant link.now v) }
         ensures memory { IfErr result (λ e. is_memory e ≡ false) }
     {
         match link {
@@ -273,7 +273,7 @@ impl InfoIpTunnel {
     #[tactic(auto, unfolding(crate::specs::IpTunnel::ip_tunnel_of))]
     fn read_row(buf: &NlaBuffer<&[u8]>, link: &InfoKind) -> Result<Option<Self>, DecodeError>
         requires { IsAttribute (storage buf.now).now }
-        ensures judged { SucceedsExactlyWhere result
+        ensures judged { SucceedsExactlyIf result
             (accepts (ip_tunnel_of link.now) (storage buf.now).now) }
         ensures none { IfOk result
             (λ o. IfNone o
@@ -281,7 +281,7 @@ impl InfoIpTunnel {
             (proper_kind (viewed_kind (storage buf.now).now)))) }
         ensures value { IfRead result
             (λ v. Gives (ip_tunnel_of link.now) (storage buf.now).now (ip_tunnel_entry v)) }
-        ensures names_row { IfRead result (λ v. ip_tunnel_names_row link.now v) }
+        ensures is_row_variant { IfRead result (λ v. ip_tunnel_is_row_variant link.now v) }
         ensures memory { IfErr result (λ e. is_memory e ≡ false) }
     {
         let kind = buf.kind();
@@ -317,10 +317,10 @@ impl<'a, 'b> ParseableParametrized<NlaBuffer<&'a [u8]>, &'b InfoKind> for InfoIp
 
     ghost accepts = { λ b k. accepts (ip_tunnel_of k.now) (storage b).now };
 
-    ghost may_want_memory = { λ b k. may_want_memory (ip_tunnel_of k.now) (storage b).now };
+    ghost may_allocate = { λ b k. may_allocate (ip_tunnel_of k.now) (storage b).now };
 
     ghost gives = { λ b k v. Gives (ip_tunnel_of k.now) (storage b).now (ip_tunnel_entry v)
-        × ip_tunnel_names_row k.now v };
+        × ip_tunnel_is_row_variant k.now v };
 
     fn parse_with_param(
         alloc: Global,
@@ -350,9 +350,9 @@ impl<'k> Reader for InfoIpTunnelReader<'k> {
 
     ghost row_of = { λ r. family_row (ip_tunnel_of r.kind.now) };
 
-    ghost names_row = { λ r. ip_tunnel_names_row r.kind.now };
+    ghost is_row_variant = { λ r. ip_tunnel_is_row_variant r.kind.now };
 
-    ghost may_want_memory = { λ r. may_want_memory (ip_tunnel_of r.kind.now) };
+    ghost may_allocate = { λ r. may_allocate (ip_tunnel_of r.kind.now) };
 
     #[tactic(auto, using(attribute_tables::proofs::Families::families, crate::proofs::IpTunnels::ip_tunnels))]
     fn read(&self, alloc: Global, buf: &NlaBuffer<&[u8]>) -> Result<InfoIpTunnel, DecodeError> {
@@ -373,12 +373,12 @@ pub fn parse_ip_tunnel(
     bytes: &[u8],
     kind: &InfoKind,
 ) -> Result<Vec<InfoIpTunnel>, DecodeError>
-    ensures judged { SucceedsWhere result ((ip_tunnel_rule kind.now).accepted bytes.now) }
+    ensures judged { SucceedsIf result ((ip_tunnel_rule kind.now).accepted bytes.now) }
     ensures read { ListIsReadAs result ip_tunnel_entry (λ _. true)
         (reading_as any (without_context (family_row (ip_tunnel_of kind.now))) bytes.now) }
     ensures written { ListIsWrittenBy result ip_tunnel_entry (λ _. true) (ip_tunnel_rule kind.now)
         bytes.now }
-    ensures names_row { IfOk result (λ v. All (ip_tunnel_names_row kind.now) v.items) }
+    ensures is_row_variant { IfOk result (λ v. All (ip_tunnel_is_row_variant kind.now) v.items) }
     ensures not_empty { IfErr result (λ _. 0 < length bytes.now) }
     ensures memory { IfMemory result (ip_tunnel_begins_accepted kind.now bytes.now ≡ true) }
 {

@@ -2,7 +2,7 @@
 
 ghost use Rattle.std.specs.Prelude.{refl};
 ghost use Rattle.link_info_grammar.specs.Families.{vti};
-ghost use Rattle.link_info_tunnels.specs.Vti.{vti_entry, vti_names_row};
+ghost use Rattle.link_info_tunnels.specs.Vti.{vti_entry, vti_is_row_variant};
 
 use attribute_tables::typed;
 use netlink_packet_core::{
@@ -61,7 +61,7 @@ impl FieldNla for InfoVti {
 impl Family for InfoVti {
     ghost rows = { vti };
 
-    ghost names_row = { vti_names_row };
+    ghost is_row_variant = { vti_is_row_variant };
 
     fn read_row(_alloc: Global, kind: u16, payload: &[u8]) -> Result<Option<Self>, DecodeError> {
         match kind {

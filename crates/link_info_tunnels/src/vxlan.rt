@@ -3,11 +3,11 @@
 
 ghost use Rattle.std.specs.Prelude.{refl, IfNone, IfSome, [], ◌∷◌, ◌≡◌, ◌≢◌};
 ghost use Rattle.std.specs.Net.Addr.{ipv4_octets, ipv6_octets};
-ghost use Rattle.netlink_packet_core.specs.Truths.{truth_byte};
+ghost use Rattle.netlink_packet_core.specs.Booleans.{boolean_byte};
 ghost use Rattle.netlink_packet_core.specs.Numbers.{le4};
 ghost use Rattle.netlink_packet_core.specs.Families.{attribute};
 ghost use Rattle.link_info_grammar.specs.Families.{vxlan};
-ghost use Rattle.link_info_tunnels.specs.Vxlan.{vxlan_entry, vxlan_names_row};
+ghost use Rattle.link_info_tunnels.specs.Vxlan.{vxlan_entry, vxlan_is_row_variant};
 
 use attribute_tables::typed;
 use link_info_types::VxlanDf;
@@ -185,35 +185,35 @@ impl FieldNla for InfoVxlan {
             Self::Local(address) => (IFLA_VXLAN_LOCAL, Field::Ipv4(*address)),
             Self::Ttl(number) => (IFLA_VXLAN_TTL, Field::U8(*number)),
             Self::Tos(number) => (IFLA_VXLAN_TOS, Field::U8(*number)),
-            Self::Learning(truth) => (IFLA_VXLAN_LEARNING, Field::Bool(*truth)),
+            Self::Learning(boolean) => (IFLA_VXLAN_LEARNING, Field::Bool(*boolean)),
             Self::Ageing(number) => (IFLA_VXLAN_AGEING, Field::U32(*number)),
             Self::Limit(number) => (IFLA_VXLAN_LIMIT, Field::U32(*number)),
             Self::PortRange(range) => (IFLA_VXLAN_PORT_RANGE, Field::Range(*range)),
-            Self::Proxy(truth) => (IFLA_VXLAN_PROXY, Field::Bool(*truth)),
-            Self::Rsc(truth) => (IFLA_VXLAN_RSC, Field::Bool(*truth)),
-            Self::L2Miss(truth) => (IFLA_VXLAN_L2MISS, Field::Bool(*truth)),
-            Self::L3Miss(truth) => (IFLA_VXLAN_L3MISS, Field::Bool(*truth)),
+            Self::Proxy(boolean) => (IFLA_VXLAN_PROXY, Field::Bool(*boolean)),
+            Self::Rsc(boolean) => (IFLA_VXLAN_RSC, Field::Bool(*boolean)),
+            Self::L2Miss(boolean) => (IFLA_VXLAN_L2MISS, Field::Bool(*boolean)),
+            Self::L3Miss(boolean) => (IFLA_VXLAN_L3MISS, Field::Bool(*boolean)),
             Self::Port(port) => (IFLA_VXLAN_PORT, Field::U16Be(*port)),
             Self::Group6(address) => (IFLA_VXLAN_GROUP6, Field::Ipv6(*address)),
             Self::Local6(address) => (IFLA_VXLAN_LOCAL6, Field::Ipv6(*address)),
-            Self::UDPCsum(truth) => (IFLA_VXLAN_UDP_CSUM, Field::Bool(*truth)),
-            Self::UDPZeroCsumTX(truth) => (IFLA_VXLAN_UDP_ZERO_CSUM6_TX, Field::Bool(*truth)),
-            Self::UDPZeroCsumRX(truth) => (IFLA_VXLAN_UDP_ZERO_CSUM6_RX, Field::Bool(*truth)),
-            Self::RemCsumTX(truth) => (IFLA_VXLAN_REMCSUM_TX, Field::Bool(*truth)),
-            Self::RemCsumRX(truth) => (IFLA_VXLAN_REMCSUM_RX, Field::Bool(*truth)),
+            Self::UDPCsum(boolean) => (IFLA_VXLAN_UDP_CSUM, Field::Bool(*boolean)),
+            Self::UDPZeroCsumTX(boolean) => (IFLA_VXLAN_UDP_ZERO_CSUM6_TX, Field::Bool(*boolean)),
+            Self::UDPZeroCsumRX(boolean) => (IFLA_VXLAN_UDP_ZERO_CSUM6_RX, Field::Bool(*boolean)),
+            Self::RemCsumTX(boolean) => (IFLA_VXLAN_REMCSUM_TX, Field::Bool(*boolean)),
+            Self::RemCsumRX(boolean) => (IFLA_VXLAN_REMCSUM_RX, Field::Bool(*boolean)),
             Self::Gbp => (IFLA_VXLAN_GBP, Field::Empty),
             Self::RemCsumNoPartial => (IFLA_VXLAN_REMCSUM_NOPARTIAL, Field::Empty),
-            Self::CollectMetadata(truth) => (IFLA_VXLAN_COLLECT_METADATA, Field::Bool(*truth)),
+            Self::CollectMetadata(boolean) => (IFLA_VXLAN_COLLECT_METADATA, Field::Bool(*boolean)),
             Self::Label(label) => (IFLA_VXLAN_LABEL, Field::U32Be(*label)),
             Self::Gpe => (IFLA_VXLAN_GPE, Field::Empty),
             Self::TtlInheritFlag => (IFLA_VXLAN_TTL_INHERIT, Field::Empty),
             Self::TtlInherit(number) => (IFLA_VXLAN_TTL_INHERIT, Field::U8(*number)),
             Self::Df(setting) => (IFLA_VXLAN_DF, Field::U8(u8::from(*setting))),
-            Self::Vnifilter(truth) => (IFLA_VXLAN_VNIFILTER, Field::Bool(*truth)),
-            Self::Localbypass(truth) => (IFLA_VXLAN_LOCALBYPASS, Field::Bool(*truth)),
+            Self::Vnifilter(boolean) => (IFLA_VXLAN_VNIFILTER, Field::Bool(*boolean)),
+            Self::Localbypass(boolean) => (IFLA_VXLAN_LOCALBYPASS, Field::Bool(*boolean)),
             Self::LabelPolicy(policy) => (IFLA_VXLAN_LABEL_POLICY, Field::U32(*policy)),
             Self::ReservedBits(bits) => (IFLA_VXLAN_RESERVED_BITS, Field::U64Be(*bits)),
-            Self::McRoute(truth) => (IFLA_VXLAN_MC_ROUTE, Field::Bool(*truth)),
+            Self::McRoute(boolean) => (IFLA_VXLAN_MC_ROUTE, Field::Bool(*boolean)),
             Self::Other(nla) => (nla.kind(), Field::Bytes(nla.value())),
         }
     }
@@ -225,7 +225,7 @@ impl InfoVxlan {
     // type.
     fn of_u32(kind: u16, number: u32) -> Option<Self>
         ensures value { IfSome result (λ v. vxlan_entry v ≡ attribute kind (le4 number)) }
-        ensures names_row { IfSome result (λ v. vxlan_names_row v) }
+        ensures is_row_variant { IfSome result (λ v. vxlan_is_row_variant v) }
         ensures none { IfNone result (kind ≢ 1 × kind ≢ 3 × kind ≢ 8 × kind ≢ 9 × kind ≢ 32) }
     {
         match kind {
@@ -241,7 +241,7 @@ impl InfoVxlan {
     // The attribute of a kind that holds an IPv4 address.
     fn of_ipv4(kind: u16, address: Ipv4Addr) -> Option<Self>
         ensures value { IfSome result (λ v. vxlan_entry v ≡ attribute kind (ipv4_octets address)) }
-        ensures names_row { IfSome result (λ v. vxlan_names_row v) }
+        ensures is_row_variant { IfSome result (λ v. vxlan_is_row_variant v) }
         ensures none { IfNone result (kind ≢ 2 × kind ≢ 4) }
     {
         match kind {
@@ -254,7 +254,7 @@ impl InfoVxlan {
     // The attribute of a kind that holds 1 byte.
     fn of_u8(kind: u16, number: u8) -> Option<Self>
         ensures value { IfSome result (λ v. vxlan_entry v ≡ attribute kind (number ∷ [])) }
-        ensures names_row { IfSome result (λ v. vxlan_names_row v) }
+        ensures is_row_variant { IfSome result (λ v. vxlan_is_row_variant v) }
         ensures none { IfNone result (kind ≢ 5 × kind ≢ 6 × kind ≢ 28 × kind ≢ 29) }
     {
         match kind {
@@ -267,29 +267,29 @@ impl InfoVxlan {
     }
 
     // The attribute of a kind that holds a boolean.
-    fn of_truth(kind: u16, truth: bool) -> Option<Self>
-        ensures value { IfSome result (λ v. vxlan_entry v ≡ attribute kind (truth_byte truth)) }
-        ensures names_row { IfSome result (λ v. vxlan_names_row v) }
+    fn of_boolean(kind: u16, boolean: bool) -> Option<Self>
+        ensures value { IfSome result (λ v. vxlan_entry v ≡ attribute kind (boolean_byte boolean)) }
+        ensures is_row_variant { IfSome result (λ v. vxlan_is_row_variant v) }
         ensures none { IfNone result
             (kind ≢ 7 × kind ≢ 11 × kind ≢ 12 × kind ≢ 13 × kind ≢ 14 × kind ≢ 18
             × kind ≢ 19 × kind ≢ 20 × kind ≢ 21 × kind ≢ 22 × kind ≢ 25 × kind ≢ 30
             × kind ≢ 31 × kind ≢ 34) }
     {
         match kind {
-            IFLA_VXLAN_LEARNING => Some(Self::Learning(truth)),
-            IFLA_VXLAN_PROXY => Some(Self::Proxy(truth)),
-            IFLA_VXLAN_RSC => Some(Self::Rsc(truth)),
-            IFLA_VXLAN_L2MISS => Some(Self::L2Miss(truth)),
-            IFLA_VXLAN_L3MISS => Some(Self::L3Miss(truth)),
-            IFLA_VXLAN_UDP_CSUM => Some(Self::UDPCsum(truth)),
-            IFLA_VXLAN_UDP_ZERO_CSUM6_TX => Some(Self::UDPZeroCsumTX(truth)),
-            IFLA_VXLAN_UDP_ZERO_CSUM6_RX => Some(Self::UDPZeroCsumRX(truth)),
-            IFLA_VXLAN_REMCSUM_TX => Some(Self::RemCsumTX(truth)),
-            IFLA_VXLAN_REMCSUM_RX => Some(Self::RemCsumRX(truth)),
-            IFLA_VXLAN_COLLECT_METADATA => Some(Self::CollectMetadata(truth)),
-            IFLA_VXLAN_VNIFILTER => Some(Self::Vnifilter(truth)),
-            IFLA_VXLAN_LOCALBYPASS => Some(Self::Localbypass(truth)),
-            IFLA_VXLAN_MC_ROUTE => Some(Self::McRoute(truth)),
+            IFLA_VXLAN_LEARNING => Some(Self::Learning(boolean)),
+            IFLA_VXLAN_PROXY => Some(Self::Proxy(boolean)),
+            IFLA_VXLAN_RSC => Some(Self::Rsc(boolean)),
+            IFLA_VXLAN_L2MISS => Some(Self::L2Miss(boolean)),
+            IFLA_VXLAN_L3MISS => Some(Self::L3Miss(boolean)),
+            IFLA_VXLAN_UDP_CSUM => Some(Self::UDPCsum(boolean)),
+            IFLA_VXLAN_UDP_ZERO_CSUM6_TX => Some(Self::UDPZeroCsumTX(boolean)),
+            IFLA_VXLAN_UDP_ZERO_CSUM6_RX => Some(Self::UDPZeroCsumRX(boolean)),
+            IFLA_VXLAN_REMCSUM_TX => Some(Self::RemCsumTX(boolean)),
+            IFLA_VXLAN_REMCSUM_RX => Some(Self::RemCsumRX(boolean)),
+            IFLA_VXLAN_COLLECT_METADATA => Some(Self::CollectMetadata(boolean)),
+            IFLA_VXLAN_VNIFILTER => Some(Self::Vnifilter(boolean)),
+            IFLA_VXLAN_LOCALBYPASS => Some(Self::Localbypass(boolean)),
+            IFLA_VXLAN_MC_ROUTE => Some(Self::McRoute(boolean)),
             _ => None,
         }
     }
@@ -297,7 +297,7 @@ impl InfoVxlan {
     // The attribute of a kind that holds an IPv6 address.
     fn of_ipv6(kind: u16, address: Ipv6Addr) -> Option<Self>
         ensures value { IfSome result (λ v. vxlan_entry v ≡ attribute kind (ipv6_octets address)) }
-        ensures names_row { IfSome result (λ v. vxlan_names_row v) }
+        ensures is_row_variant { IfSome result (λ v. vxlan_is_row_variant v) }
         ensures none { IfNone result (kind ≢ 16 × kind ≢ 17) }
     {
         match kind {
@@ -311,7 +311,7 @@ impl InfoVxlan {
 impl Family for InfoVxlan {
     ghost rows = { vxlan };
 
-    ghost names_row = { vxlan_names_row };
+    ghost is_row_variant = { vxlan_is_row_variant };
 
     fn read_row(_alloc: Global, kind: u16, payload: &[u8]) -> Result<Option<Self>, DecodeError> {
         match kind {
@@ -330,16 +330,16 @@ impl Family for InfoVxlan {
             | IFLA_VXLAN_PROXY
             | IFLA_VXLAN_RSC
             | IFLA_VXLAN_L2MISS
-            | IFLA_VXLAN_L3MISS => typed!(of_truth(kind), parse_bool(payload)),
+            | IFLA_VXLAN_L3MISS => typed!(of_boolean(kind), parse_bool(payload)),
             IFLA_VXLAN_UDP_CSUM
             | IFLA_VXLAN_UDP_ZERO_CSUM6_TX
             | IFLA_VXLAN_UDP_ZERO_CSUM6_RX
             | IFLA_VXLAN_REMCSUM_TX
-            | IFLA_VXLAN_REMCSUM_RX => typed!(of_truth(kind), parse_bool(payload)),
+            | IFLA_VXLAN_REMCSUM_RX => typed!(of_boolean(kind), parse_bool(payload)),
             IFLA_VXLAN_COLLECT_METADATA
             | IFLA_VXLAN_VNIFILTER
             | IFLA_VXLAN_LOCALBYPASS
-            | IFLA_VXLAN_MC_ROUTE => typed!(of_truth(kind), parse_bool(payload)),
+            | IFLA_VXLAN_MC_ROUTE => typed!(of_boolean(kind), parse_bool(payload)),
             IFLA_VXLAN_PORT_RANGE => typed!(PortRange, parse_range(payload)),
             IFLA_VXLAN_PORT => typed!(Port, parse_u16_be(payload)),
             IFLA_VXLAN_GROUP6 | IFLA_VXLAN_LOCAL6 => typed!(

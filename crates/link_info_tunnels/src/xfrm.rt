@@ -2,7 +2,7 @@
 
 ghost use Rattle.std.specs.Prelude.{refl};
 ghost use Rattle.link_info_grammar.specs.Families.{xfrm};
-ghost use Rattle.link_info_tunnels.specs.Xfrm.{xfrm_entry, xfrm_names_row};
+ghost use Rattle.link_info_tunnels.specs.Xfrm.{xfrm_entry, xfrm_is_row_variant};
 
 use attribute_tables::typed;
 use netlink_packet_core::{DecodeError, DefaultNla, Family, Field, FieldNla, Nla, parse_u32};
@@ -38,7 +38,7 @@ impl FieldNla for InfoXfrm {
 impl Family for InfoXfrm {
     ghost rows = { xfrm };
 
-    ghost names_row = { xfrm_names_row };
+    ghost is_row_variant = { xfrm_is_row_variant };
 
     fn read_row(_alloc: Global, kind: u16, payload: &[u8]) -> Result<Option<Self>, DecodeError> {
         match kind {

@@ -1,6 +1,6 @@
 -- The rules of lists, payloads and link info, under the names that contracts use.
 use Rattle.std.proofs.Common.{◌≡◌, ℕ, ◌<◌, true, false, List, [], ◌∷◌, length, Option, None, refl, sym, ap, ◌∙◌, arith}
-use Rattle.attribute_tables_grammar.specs.Laws.{MeasuresTellRules, RowsAreLookedUp, SamenessGoesBySteps}
+use Rattle.attribute_tables_grammar.specs.Laws.{MeasuresDetermineRules, RowsAreLookedUp, SamenessUnfolds}
 use Rattle.attribute_tables_grammar.specs.Lists.{LawfulGrammar, list_rule, non_empty}
 use Rattle.attribute_tables_grammar.specs.LookUps.{link_info_of, payload_rule, rows_rule}
 use Rattle.attribute_tables_grammar.specs.Peers.{Peer}
@@ -39,11 +39,11 @@ module _ (p : Peer) where
   lawful_info law = law
 
   -- link info in an attribute, from the laws of measures
-  pub info_none : MeasuresTellRules → (b : List ℕ) → length b ≡ 0 → None ≡ measure inside b
+  pub info_none : MeasuresDetermineRules → (b : List ℕ) → length b ≡ 0 → None ≡ measure inside b
   unfolding info_payload link_info_of data_rule_under port_data_rule_under
   info_none laws b l = laws.no_bytes non_empty (info_names p) b l tt
 
-  pub info_some : MeasuresTellRules → (b : List ℕ) → 0 < length b → measure (info_list p) b ≡ measure inside b
+  pub info_some : MeasuresDetermineRules → (b : List ℕ) → 0 < length b → measure (info_list p) b ≡ measure inside b
   unfolding info_payload link_info_of data_rule_under port_data_rule_under
   info_some laws b l = sym (laws.non_empty (info_names p) b l)
 
@@ -58,11 +58,11 @@ module _ (p : Peer) where
   info_same law a b l m = law.same a b l m
 
   -- empty bytes are no link info, so they are equivalent to none
-  pub info_no_left : SamenessGoesBySteps → (a b : List ℕ) → length a ≡ 0 → false ≡ inside.same a b
+  pub info_no_left : SamenessUnfolds → (a b : List ℕ) → length a ≡ 0 → false ≡ inside.same a b
   unfolding info_payload link_info_of data_rule_under port_data_rule_under
   info_no_left laws a b l = laws.no_left non_empty (info_names p) a b l tt
 
-  pub info_no_right : SamenessGoesBySteps → (a b : List ℕ) → length b ≡ 0 → false ≡ inside.same a b
+  pub info_no_right : SamenessUnfolds → (a b : List ℕ) → length b ≡ 0 → false ≡ inside.same a b
   unfolding info_payload link_info_of data_rule_under port_data_rule_under
   info_no_right laws a b l = laws.no_right non_empty (info_names p) a b l tt
 

@@ -1,8 +1,8 @@
 pub mod Held
 pub mod Loop
-pub mod OwnText
+pub mod CanonicalParts
 pub mod SameShapes
 pub mod WriteSteps
-pub mod FrontSteps
+pub mod PrefixSteps
 pub mod Sameness
 pub mod Accepted

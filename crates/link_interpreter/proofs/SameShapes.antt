@@ -8,8 +8,8 @@ use Rattle.std.proofs.lemmas.Bool.Decides.{same_from_decides, nat_tests}
 use Rattle.std.proofs.lemmas.List.{take-append-drop, length-drop, length-take, take_rest, take-replicate}
 use Rattle.std.proofs.lemmas.Slice.Eq.{bytes_eq-Decides}
 use Rattle.netlink_packet_core_grammar.specs.Attributes.{zeros}
-use Rattle.netlink_packet_core_grammar.specs.Truths.{truth_of}
-use Rattle.attribute_tables_grammar.specs.Shapes.{number, number_truth}
+use Rattle.netlink_packet_core_grammar.specs.Booleans.{boolean_of}
+use Rattle.attribute_tables_grammar.specs.Shapes.{number, number_boolean}
 use Rattle.link_interpreter.specs.Sameness.{mark_of}
 
 -- ---- bytes that are zero or not
@@ -17,17 +17,17 @@ use Rattle.link_interpreter.specs.Sameness.{mark_of}
 suc_not : (n : ℕ) → (suc n == 0) ≡ false
 suc_not n = ne_eqb (suc n) 0 (λ h. absurd (omega arith))
 
-same_truth : (a b : ℕ) → (mark_of 0 a == mark_of 0 b) ≡ (truth_of a == truth_of b)
-same_truth zero zero = refl
-same_truth zero (suc b) = simp suc_not
-same_truth (suc a) zero = simp suc_not
-same_truth (suc a) (suc b) = simp suc_not
+same_boolean : (a b : ℕ) → (mark_of 0 a == mark_of 0 b) ≡ (boolean_of a == boolean_of b)
+same_boolean zero zero = refl
+same_boolean zero (suc b) = simp suc_not
+same_boolean (suc a) zero = simp suc_not
+same_boolean (suc a) (suc b) = simp suc_not
 
-pub same_truths : (p q : List ℕ) → bytes_eq (map (mark_of 0) p) (map (mark_of 0) q) ≡ bytes_eq (map truth_of p) (map truth_of q)
-same_truths [] [] = refl
-same_truths [] (b ∷ q) = refl
-same_truths (a ∷ p) [] = refl
-same_truths (a ∷ p) (b ∷ q) = λ i. same_truth a b i && same_truths p q i
+pub same_booleans : (p q : List ℕ) → bytes_eq (map (mark_of 0) p) (map (mark_of 0) q) ≡ bytes_eq (map boolean_of p) (map boolean_of q)
+same_booleans [] [] = refl
+same_booleans [] (b ∷ q) = refl
+same_booleans (a ∷ p) [] = refl
+same_booleans (a ∷ p) (b ∷ q) = λ i. same_boolean a b i && same_booleans p q i
 
 -- ---- 4 bytes and a boolean
 
@@ -39,27 +39,27 @@ after_four (a ∷ b ∷ c ∷ []) = refl
 after_four (a ∷ b ∷ c ∷ d ∷ p) = refl
 
 -- the payload's first 4 bytes and the next 4, as the code cuts them
-cut_truth : (p a x : List ℕ) → a ≡ take 4 p → x ≡ take 4 (take (length p - length a) (drop (length a) p)) → x ≡ take 4 (drop 4 p)
-cut_truth p a x e h =
+cut_boolean : (p a x : List ℕ) → a ≡ take 4 p → x ≡ take 4 (take (length p - length a) (drop (length a) p)) → x ≡ take 4 (drop 4 p)
+cut_boolean p a x e h =
     h ∙ ap (λ a. take 4 (take (length p - length a) (drop (length a) p))) e
     ∙ ap (take 4) (take_rest p (length (take 4 p)) ∙ after_four p)
 
-pub behind_same : (a x y : List ℕ) → bytes_eq x y ≡ bytes_eq (a ++ x) (a ++ y)
-behind_same [] x y = refl
-behind_same (b ∷ a) x y = behind_same a x y ∙ simp (eq-eqb b b refl)
+pub following_same : (a x y : List ℕ) → bytes_eq x y ≡ bytes_eq (a ++ x) (a ++ y)
+following_same [] x y = refl
+following_same (b ∷ a) x y = following_same a x y ∙ simp (eq-eqb b b refl)
 
-truths : (m n : ℕ) → beq (m == 0) (n == 0) ≡ bytes_eq (truth_of m ∷ 0 ∷ 0 ∷ 0 ∷ []) (truth_of n ∷ 0 ∷ 0 ∷ 0 ∷ [])
-truths zero zero = refl
-truths zero (suc n) = simp suc_not
-truths (suc m) zero = simp suc_not
-truths (suc m) (suc n) = simp suc_not
+booleans : (m n : ℕ) → beq (m == 0) (n == 0) ≡ bytes_eq (boolean_of m ∷ 0 ∷ 0 ∷ 0 ∷ []) (boolean_of n ∷ 0 ∷ 0 ∷ 0 ∷ [])
+booleans zero zero = refl
+booleans zero (suc n) = simp suc_not
+booleans (suc m) zero = simp suc_not
+booleans (suc m) (suc n) = simp suc_not
 
 pub same_after : (p q : List ℕ) (r s : Bool) (a b x y : List ℕ) → a ≡ take 4 p → b ≡ take 4 q →
     x ≡ take 4 (take (length p - length a) (drop (length a) p)) → y ≡ take 4 (take (length q - length b) (drop (length b) q)) → a ≡ b → r ≡ (number x == 0) → s ≡ (number y == 0) →
-    beq r s ≡ bytes_eq (take 4 p ++ number_truth (take 4 (drop 4 p))) (take 4 q ++ number_truth (take 4 (drop 4 q)))
+    beq r s ≡ bytes_eq (take 4 p ++ number_boolean (take 4 (drop 4 p))) (take 4 q ++ number_boolean (take 4 (drop 4 q)))
 same_after p q r s a b x y ea eb ex ey e z w =
-    (λ i. beq (z i) (w i)) ∙ truths (number x) (number y) ∙ behind_same b (number_truth x) (number_truth y) ∙ ap (λ a. bytes_eq (a ++ number_truth x) (b ++ number_truth y)) (sym e)
-    ∙ (λ i. bytes_eq (ea i ++ number_truth (cut_truth p a x ea ex i)) (eb i ++ number_truth (cut_truth q b y eb ey i)))
+    (λ i. beq (z i) (w i)) ∙ booleans (number x) (number y) ∙ following_same b (number_boolean x) (number_boolean y) ∙ ap (λ a. bytes_eq (a ++ number_boolean x) (b ++ number_boolean y)) (sym e)
+    ∙ (λ i. bytes_eq (ea i ++ number_boolean (cut_boolean p a x ea ex i)) (eb i ++ number_boolean (cut_boolean q b y eb ey i)))
 
 -- ---- cut or filled up to a size
 
@@ -109,28 +109,28 @@ module _ (n c : ℕ) (p q x y : List ℕ) (ex : x ≡ take n p) (ey : y ≡ take
   pad : (p x : List ℕ) → x ≡ take n p → take n (p ++ zeros n) ≡ x ++ zeros (n - length x)
   pad p x e = pad_in n n p (omega arith) ∙ ap (λ x. x ++ zeros (n - length x)) (sym e)
 
-  told : (bytes_eq (take c x) (take c y) && (is_rest_zero x && is_rest_zero y)) ≡ equal
-  told =
+  decided : (bytes_eq (take c x) (take c y) && (is_rest_zero x && is_rest_zero y)) ≡ equal
+  decided =
       (λ i. bytes_eq (take c x) (take c y) && ((number (take_rest x c i) == 0) && (number (take_rest y c i) == 0)))
       ∙ same_filled c _ _ x y ec (let a = ap length ex ∙ length-take n p in let b = ap length ey ∙ length-take n q in omega arith)
       ∙ (λ i. bytes_eq (sym (pad p x ex) i) (sym (pad q y ey) i))
 
   -- the common prefixes are equal, and the left rest decides
   pub by_rests : (b : Bool) → bytes_eq (take c x) (take c y) ≡ true → is_rest_zero x ≡ b → (b && is_rest_zero y) ≡ equal
-  by_rests b t a = (λ i. sym t i && (sym a i && is_rest_zero y)) ∙ told
+  by_rests b t a = (λ i. sym t i && (sym a i && is_rest_zero y)) ∙ decided
 
-  pub by_front : bytes_eq (take c x) (take c y) ≡ false → false ≡ equal
-  by_front t = ap (λ b. b && (is_rest_zero x && is_rest_zero y)) (sym t) ∙ told
+  pub by_prefix : bytes_eq (take c x) (take c y) ≡ false → false ≡ equal
+  by_prefix t = ap (λ b. b && (is_rest_zero x && is_rest_zero y)) (sym t) ∙ decided
 
 -- a byte that is 1 if and only if a number isn't zero
-pub truth_byte : (n : ℕ) (b : Bool) → b ≡ (n == 0) → bool_byte (not b) ≡ truth_of n
-truth_byte n b h = ap (λ b. bool_byte (not b)) h ∙ by n where
-  by : (n : ℕ) → bool_byte (not (n == 0)) ≡ truth_of n
+pub boolean_byte : (n : ℕ) (b : Bool) → b ≡ (n == 0) → bool_byte (not b) ≡ boolean_of n
+boolean_byte n b h = ap (λ b. bool_byte (not b)) h ∙ by n where
+  by : (n : ℕ) → bool_byte (not (n == 0)) ≡ boolean_of n
   by zero = refl
   by (suc n) = ap (λ b. bool_byte (not b)) (suc_not n)
 
 -- a record is already canonical if it has its size and zeros after the bytes that count
-pub own_record : (m n : ℕ) (p : List ℕ) → length p ≡ n → number (drop m p) ≡ 0 → take m p ++ zeros (n - m) ≡ p
-own_record m n p l z =
+pub canonical_record : (m n : ℕ) (p : List ℕ) → length p ≡ n → number (drop m p) ≡ 0 → take m p ++ zeros (n - m) ≡ p
+canonical_record m n p l z =
     let e : drop m p ≡ zeros (n - m) = number_zero (drop m p) z ∙ ap zeros (length-drop m p) ∙ ap (λ k. zeros (k - m)) l in
     ap (λ x. take m p ++ x) (sym e) ∙ take-append-drop m p

@@ -8,8 +8,8 @@ use Rattle.attribute_tables_grammar.specs.Shapes.{raw}
 use Rattle.attribute_tables_grammar.specs.Tables.{info_row, row_in_force}
 use Rattle.attribute_tables_grammar.specs.Lists.{nothing, Context, Row, row_at, same_attribute, list_rule, ListForm, any, Grammar}
 use Rattle.attribute_tables_grammar.specs.Peers.{Peer}
-use Rattle.attribute_tables_grammar.specs.Sameness.{kept_of, same_walk, goes_on, same_kinds}
-use Rattle.attribute_tables_grammar.specs.Laws.{RowsAreLookedUp, KeptBySteps, SamenessGoesBySteps, AttributesAreCompared}
+use Rattle.attribute_tables_grammar.specs.Sameness.{kept_of, same_walk, continues, same_kinds}
+use Rattle.attribute_tables_grammar.specs.Laws.{RowsAreLookedUp, KeptAttributesUnfold, SamenessUnfolds, AttributesAreCompared}
 use Rattle.link_tables.specs.declared.rows.Held.{Held}
 use Rattle.link_tables.specs.declared.rows.Form.{Form}
 use Rattle.link_tables.specs.declared.rows.Held.TheVariants.{List as HeldList}
@@ -24,8 +24,8 @@ use Rattle.link_interpreter.proofs.Held.{list_held}
 
 -- two attributes under one look-up, when the first one's row holds the payload of this rule
 module _ (law : AttributesAreCompared) (f : ℕ → Row) (e h : Attribute) where
-  pub says_rule : (r : Rule) (s : Bool) → r ≡ (row_at f e).rule → true ≡ same_kinds (row_at f e) e.kind h.kind → s ≡ r.same e.payload h.payload → s ≡ same_attribute (row_at f e) (row_at f h) e h
-  says_rule r s is kinds same =
+  pub holds_rule : (r : Rule) (s : Bool) → r ≡ (row_at f e).rule → true ≡ same_kinds (row_at f e) e.kind h.kind → s ≡ r.same e.payload h.payload → s ≡ same_attribute (row_at f e) (row_at f h) e h
+  holds_rule r s is kinds same =
       same ∙ ap (λ r. r.same e.payload h.payload) is
       ∙ ap (λ b. b && (row_at f e).rule.same e.payload h.payload) kinds ∙ law.by_kind f e h
 
@@ -58,8 +58,8 @@ module _ (d q : List ℕ → Rule) (c : Context) where
 pub held_same : RowsAreLookedUp → (p : Peer) (held : Held) (form : Form) (t : Table) → held ≡ HeldList form t → (a b : List ℕ) → (list_rule (form_of form) (rows_of p (table_of t.0))).same a b ≡ (held_rule p held).same a b
 held_same law p held form t e a b = ap (λ r. r.same a b) (list_held law p held form t e)
 
-module _ (law : SamenessGoesBySteps) (form : ListForm) (g : Grammar) (a b : List ℕ) where
-  pub left_longer : (e : Attribute) (x : List ℕ) (r : Next) → kept_of form a ≡ goes_on form e x → ((f : _) (y : _) → r ≡ Kept f y → ⊥) → kept_of form b ≡ next_of form r → false ≡ same_walk form g nothing a b
+module _ (law : SamenessUnfolds) (form : ListForm) (g : Grammar) (a b : List ℕ) where
+  pub left_longer : (e : Attribute) (x : List ℕ) (r : Next) → kept_of form a ≡ continues form e x → ((f : _) (y : _) → r ≡ Kept f y → ⊥) → kept_of form b ≡ next_of form r → false ≡ same_walk form g nothing a b
   left_longer e x (Kept f y) k not l = absurd (not f y refl)
   left_longer e x End k not l = law.right_ended form g nothing a b e x k l
   left_longer e x Cut k not l = law.right_stopped form g nothing a b l
@@ -70,15 +70,15 @@ module _ (law : SamenessGoesBySteps) (form : ListForm) (g : Grammar) (a b : List
   left_shorter Cut k not l = law.right_stopped form g nothing a b l
 
 -- a list of any attributes has a next one, and the other ends
-module _ (kept : KeptBySteps) (law : SamenessGoesBySteps) (g : Grammar) (c : Context) (a : List ℕ) where
-  pub other_ended : (e : Attribute) (x : List ℕ) → kept_of any a ≡ goes_on any e x → (b : List ℕ) → first_attribute b ≡ None → false ≡ same_walk any g c a b
+module _ (kept : KeptAttributesUnfold) (law : SamenessUnfolds) (g : Grammar) (c : Context) (a : List ℕ) where
+  pub other_ended : (e : Attribute) (x : List ℕ) → kept_of any a ≡ continues any e x → (b : List ℕ) → first_attribute b ≡ None → false ≡ same_walk any g c a b
   other_ended e x k [] f = law.right_ended any g c a [] e x k (kept.ended any [] refl)
   other_ended e x k (y ∷ b) f = law.right_stopped any g c a (y ∷ b) (kept.stopped any (y ∷ b) f (omega arith))
 
-  other_goes_on : kept_of any a ≡ Some [] → (b : List ℕ) → 0 < length b → (o : Option (Attribute × List ℕ)) → first_attribute b ≡ o → false ≡ same_walk any g c a b
-  other_goes_on k b l (Some (f, y)) h = law.left_ended any g c a b f y k (kept.more any b f y h refl)
-  other_goes_on k b l None h = law.right_stopped any g c a b (kept.stopped any b h l)
+  other_continues : kept_of any a ≡ Some [] → (b : List ℕ) → 0 < length b → (o : Option (Attribute × List ℕ)) → first_attribute b ≡ o → false ≡ same_walk any g c a b
+  other_continues k b l (Some (f, y)) h = law.left_ended any g c a b f y k (kept.more any b f y h refl)
+  other_continues k b l None h = law.right_stopped any g c a b (kept.stopped any b h l)
 
   pub both_ended : length a ≡ 0 → (b : List ℕ) → eqb (length b) 0 ≡ same_walk any g c a b
   both_ended l [] = law.ended any g c a [] (kept.ended any a l) (kept.ended any [] refl)
-  both_ended l (y ∷ b) = ne_eqb (suc (length b)) 0 (λ h. absurd (omega (arith, h))) ∙ other_goes_on (kept.ended any a l) (y ∷ b) (omega arith) (first_attribute (y ∷ b)) refl
+  both_ended l (y ∷ b) = ne_eqb (suc (length b)) 0 (λ h. absurd (omega (arith, h))) ∙ other_continues (kept.ended any a l) (y ∷ b) (omega arith) (first_attribute (y ∷ b)) refl

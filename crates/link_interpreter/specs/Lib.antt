@@ -1,5 +1,5 @@
 pub mod Measures
-pub mod Fronts
+pub mod Prefixes
 pub mod Sameness
 pub mod Peers
-pub mod Room
+pub mod Capacity

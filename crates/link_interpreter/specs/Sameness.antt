@@ -2,7 +2,7 @@
 use Rattle.std.specs.Prelude.{ℕ, ◌==◌, ◌<◌, cond, List, [], length, Option, Some, None}
 use Rattle.netlink_packet_core_grammar.specs.Attributes.{Attribute}
 use Rattle.attribute_tables_grammar.specs.Lists.{ListForm}
-use Rattle.attribute_tables_grammar.specs.Sameness.{goes_on}
+use Rattle.attribute_tables_grammar.specs.Sameness.{continues}
 use Rattle.link_interpreter.specs.declared.attribute.Attribute as declared
 use Rattle.link_interpreter.specs.declared.same.Next.{Next}
 use Rattle.link_interpreter.specs.declared.same.Next.TheVariants.{Kept, End, Cut}
@@ -17,7 +17,7 @@ attribute_of e = record { kind = e.kind; payload = e.payload.now }
 
 -- The attributes that a list keeps, from its next one.
 abbrev pub next_of : ListForm → Next → Option (List Attribute)
-next_of form (Kept e after) = goes_on form (attribute_of e) after.now
+next_of form (Kept e after) = continues form (attribute_of e) after.now
 next_of form End = Some []
 next_of form Cut = None
 

@@ -4,7 +4,7 @@ ghost use Rattle.std.specs.Prelude.{◌≡◌, ◌≤◌, ◌-◌, ◌+◌, ◌+
 ghost use Rattle.netlink_packet_core_grammar.specs.Attributes.{first_attribute, attribute_text, nla_align, zeros};
 ghost use Rattle.link_interpreter.specs.Sameness.{attribute_of};
 
-use attribute_tables_grammar::laws::own_texts_go_by_steps;
+use attribute_tables_grammar::laws::canonical_lists_unfold;
 use netlink_packet_core_grammar::laws::{first_attributes_are_viewed, first_attributes_are_within};
 
 /// Kinds without their flag bits are below this (netlink.h, `NLA_TYPE_MASK`).
@@ -23,7 +23,7 @@ pub struct Attribute<'a> {
 pub fn first_attribute(bytes: &[u8]) -> Option<(Attribute<'_>, &[u8])>
     ensures first { first_attribute bytes.now ≡ option_map (λ r. (attribute_of r.0, r.1.now)) result }
     ensures within { IfSome result (λ r. 4 + length r.0.payload.now ≤ length bytes.now) }
-    ensures behind { IfSome result
+    ensures following { IfSome result
         (λ r. length r.1.now ≡ length bytes.now - nla_align (4 + length r.0.payload.now)) }
 {
     first_attributes_are_viewed();
@@ -57,11 +57,11 @@ fn is_padded(bytes: &[u8], size: usize) -> bool
 
 /// Returns whether the attribute at the start of the bytes is padded with zeros. If its kind and
 /// payload are already canonical, so are its bytes.
-pub fn is_own_attribute(bytes: &[u8], attribute: Attribute<'_>, after: &[u8]) -> bool
+pub fn is_canonical_attribute(bytes: &[u8], attribute: Attribute<'_>, after: &[u8]) -> bool
     requires { first_attribute bytes.now ≡ Some (attribute_of attribute, after.now) }
     ensures { result ≡ true → bytes.now ≡ attribute_text (attribute_of attribute.entry) ++ after.now }
 {
     first_attributes_are_within();
-    own_texts_go_by_steps();
+    canonical_lists_unfold();
     is_padded(bytes, 4 + attribute.payload.len())
 }

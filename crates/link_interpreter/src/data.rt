@@ -7,7 +7,7 @@ ghost use Rattle.link_info_grammar.specs.LinkInfo.{data_rule_under, port_data_ru
 
 use crate::measure::measure_held;
 use crate::peers::PeerSet;
-use attribute_tables_grammar::laws::{measures_tell_rules, names_are_looked_up};
+use attribute_tables_grammar::laws::{measures_determine_rules, names_are_looked_up};
 use link_tables::{data_held, port_held};
 use netlink_packet_core_numbers::DecodeError;
 
@@ -17,7 +17,7 @@ pub fn accepts_data<P: PeerSet>(peers: &P, name: &[u8], payload: &[u8]) -> bool
     ensures { result ≡ (data_rule_under P.peer name.now).accepted payload.now }
 {
     names_are_looked_up();
-    measures_tell_rules();
+    measures_determine_rules();
     measure_held(peers, data_held(name), payload).is_some()
 }
 
@@ -27,7 +27,7 @@ pub fn accepts_port_data<P: PeerSet>(peers: &P, name: &[u8], payload: &[u8]) -> 
     ensures { result ≡ (port_data_rule_under P.peer name.now).accepted payload.now }
 {
     names_are_looked_up();
-    measures_tell_rules();
+    measures_determine_rules();
     measure_held(peers, port_held(name), payload).is_some()
 }
 

@@ -8,7 +8,7 @@ mod info;
 mod link_info;
 mod measure;
 mod peers;
-mod room;
+mod capacity;
 mod same;
 mod same_shapes;
 mod shapes;
@@ -23,7 +23,7 @@ pub use link_info::{
 };
 pub use measure::{measure_held, walk_list};
 pub use peers::{BytesPeer, PeerMeasure, PeerRule, PeerSet, Ruled, WritePeer};
-pub use room::{append, append_zeros};
+pub use capacity::{append, append_zeros};
 pub use same::same_held;
 pub use shapes::{Measured, measure_shape};
 pub use tables::{Found, find};

@@ -10,7 +10,7 @@ use crate::measure::measure_info;
 use crate::peers::{BytesPeer, PeerRule, PeerSet, Ruled};
 use crate::same::same_info;
 use crate::shapes::Measured;
-use attribute_tables_grammar::laws::measures_tell_rules;
+use attribute_tables_grammar::laws::measures_determine_rules;
 use netlink_packet_core_numbers::DecodeError;
 
 /// The measure of a list of link info.
@@ -27,8 +27,8 @@ pub struct ListMeasure {
 // Returns the measure of a list of link info, with these peers; `None` if the bytes are none.
 fn measure_list<P: PeerSet>(peers: &P, bytes: &[u8]) -> Option<Measured>
     ensures measure { option_map view result ≡ measure (info_rule_under P.peer) bytes.now }
-    ensures own { IfSome result
-        (λ m. m.is_own ≡ true → (info_rule_under P.peer).canonical bytes.now ≡ bytes.now) }
+    ensures already_canonical { IfSome result
+        (λ m. m.is_canonical ≡ true → (info_rule_under P.peer).canonical bytes.now ≡ bytes.now) }
 {
     measure_info(peers, bytes)
 }
@@ -39,7 +39,7 @@ fn check_over<P: PeerSet>(peers: &P, bytes: &[u8]) -> Result<ListMeasure, Decode
     ensures measure { IfOk result (λ m. IsListMeasure (info_rule_under P.peer) bytes.now m) }
     ensures err { IfErr result (λ e. is_memory e ≡ false) }
 {
-    measures_tell_rules();
+    measures_determine_rules();
     let Some(found) = measure_list(peers, bytes) else {
         return Err(DecodeError::from("not a list of link info"));
     };

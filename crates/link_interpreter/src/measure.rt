@@ -1,22 +1,22 @@
 //! Measures of lists, without typed values.
 
 ghost use Rattle.std.specs.Prelude.{◌≡◌, ◌<◌, ◌+◌, ◌*◌, ◌^◌, ◌&&◌, ℕ, true, false, cond, nat_lt, option_map, IfSome};
-ghost use Rattle.attribute_tables_grammar.specs.Lists.{is_kept, first_alone, list_rule};
+ghost use Rattle.attribute_tables_grammar.specs.Lists.{is_kept, first_only, list_rule};
 ghost use Rattle.attribute_tables_grammar.specs.LookUps.{payload_rule};
 ghost use Rattle.attribute_tables_grammar.specs.Walks.{measure, plus, with_header, dropped, closed};
-ghost use Rattle.link_interpreter.specs.Fronts.{IsOwnFront};
+ghost use Rattle.link_interpreter.specs.Prefixes.{IsCanonicalPrefix};
 ghost use Rattle.link_interpreter.specs.Measures.{view, rows_of, table_list, info_list};
 ghost use Rattle.link_interpreter.specs.Sameness.{attribute_of};
 ghost use Rattle.link_tables.specs.Rows.{form_of};
 ghost use Rattle.link_tables.specs.Tables.{held_rule, info_payload, table_of};
 
-use crate::attribute::{Attribute, KIND_BOUND, first_attribute, is_own_attribute};
+use crate::attribute::{Attribute, KIND_BOUND, first_attribute, is_canonical_attribute};
 use crate::info::{info_is_a_list_inside, link_info_is_lawful, written_info_kind};
 use crate::peers::PeerSet;
 use crate::shapes::{Measured, NOTHING_YET, measure_shape};
 use crate::tables::find;
 use attribute_tables_grammar::laws::{
-    measures_go_by_steps, measures_tell_rules, own_texts_go_by_steps, rows_are_looked_up,
+    measures_unfold, measures_determine_rules, canonical_lists_unfold, rows_are_looked_up,
 };
 use link_tables::{Form, Held, NO_KINDS, Table, info_held, next_force};
 
@@ -26,18 +26,18 @@ pub fn is_kept(form: Form, attribute: Attribute<'_>) -> bool
 {
     match form {
         Form::OfKindOne | Form::Ports => attribute.kind % KIND_BOUND == 1,
-        Form::Any | Form::NonEmpty | Form::FirstAlone => true,
+        Form::Any | Form::NonEmpty | Form::FirstOnly => true,
     }
 }
 
 /// Adds an attribute to a measure, from the measure of its payload. The flags are joined by `&`,
 /// since `&&` in a struct literal splits the prover's goals.
-pub fn with_attribute(total: Measured, inside: Measured, is_own: bool) -> Measured
+pub fn with_attribute(total: Measured, inside: Measured, is_canonical: bool) -> Measured
     requires len { total.text_len + inside.text_len + 7 < 2 ^ 128 }
     requires headers { total.attributes + inside.attributes + 1 < 2 ^ 64 }
     ensures measure { view result ≡ plus (view total) (with_header (view inside)) }
-    ensures own { result.is_own ≡ total.is_own && (inside.is_own && is_own) }
-    ensures front { result.front ≡ 0 }
+    ensures already_canonical { result.is_canonical ≡ total.is_canonical && (inside.is_canonical && is_canonical) }
+    ensures prefix { result.prefix ≡ 0 }
 {
     let size = 4 + inside.text_len;
     Measured {
@@ -45,8 +45,8 @@ pub fn with_attribute(total: Measured, inside: Measured, is_own: bool) -> Measur
         attributes: total.attributes + (1 + inside.attributes),
         fits: total.fits & ((size <= 65535) & inside.fits),
         empty_ports: total.empty_ports | inside.empty_ports,
-        is_own: total.is_own & (inside.is_own & is_own),
-        front: 0,
+        is_canonical: total.is_canonical & (inside.is_canonical & is_canonical),
+        prefix: 0,
     }
 }
 
@@ -54,22 +54,22 @@ pub fn with_attribute(total: Measured, inside: Measured, is_own: bool) -> Measur
 fn with_dropped(total: Measured) -> Measured
     requires { total.attributes + 1 < 2 ^ 64 }
     ensures measure { view result ≡ plus (view total) dropped }
-    ensures own { result.is_own ≡ false }
+    ensures already_canonical { result.is_canonical ≡ false }
 {
     Measured {
         text_len: total.text_len,
         attributes: total.attributes + 1,
         fits: total.fits,
         empty_ports: total.empty_ports,
-        is_own: false,
-        front: 0,
+        is_canonical: false,
+        prefix: 0,
     }
 }
 
 // Completes the measure of a list: notes a list of ports that keeps no entry.
 fn close(form: Form, total: Measured) -> Measured
     ensures measure { view result ≡ closed (form_of form) (view total) }
-    ensures own { result.is_own ≡ total.is_own }
+    ensures already_canonical { result.is_canonical ≡ total.is_canonical }
 {
     match form {
         Form::Ports => Measured {
@@ -77,8 +77,8 @@ fn close(form: Form, total: Measured) -> Measured
             attributes: total.attributes,
             fits: total.fits,
             empty_ports: (total.text_len == 0) | total.empty_ports,
-            is_own: total.is_own,
-            front: 0,
+            is_canonical: total.is_canonical,
+            prefix: 0,
         },
         _ => total,
     }
@@ -90,8 +90,8 @@ fn close(form: Form, total: Measured) -> Measured
 pub fn measure_held<P: PeerSet>(peers: &P, held: Held, bytes: &[u8]) -> Option<Measured>
     ensures measure { option_map view result
         ≡ measure (held_rule P.peer held) bytes.now }
-    ensures own { IfSome result
-        (λ m. m.is_own ≡ true
+    ensures already_canonical { IfSome result
+        (λ m. m.is_canonical ≡ true
         → (held_rule P.peer held).canonical bytes.now ≡ bytes.now) }
 {
     match held {
@@ -110,8 +110,8 @@ pub fn measure_held<P: PeerSet>(peers: &P, held: Held, bytes: &[u8]) -> Option<M
 fn measure_inside<P: PeerSet>(peers: &P, held: Held, bytes: &[u8]) -> Option<Measured>
     ensures measure { option_map view result
         ≡ measure (held_rule P.peer held) bytes.now }
-    ensures own { IfSome result
-        (λ m. m.is_own ≡ true
+    ensures already_canonical { IfSome result
+        (λ m. m.is_canonical ≡ true
         → (held_rule P.peer held).canonical bytes.now ≡ bytes.now) }
 {
     rows_are_looked_up();
@@ -125,22 +125,22 @@ fn measure_inside<P: PeerSet>(peers: &P, held: Held, bytes: &[u8]) -> Option<Mea
 
 // The number of bytes after the canonical prefix, which grows only while all attributes are already
 // canonical.
-fn left_behind(left: usize, is_own: bool, rest: usize) -> usize
-    ensures { result ≡ cond is_own rest left }
+fn bytes_following(left: usize, is_canonical: bool, rest: usize) -> usize
+    ensures { result ≡ cond is_canonical rest left }
 {
-    if is_own { rest } else { left }
+    if is_canonical { rest } else { left }
 }
 
-// The measure of a whole list, with its canonical prefix of `front` bytes. One of 4 GiB or more
+// The measure of a whole list, with its canonical prefix of `prefix` bytes. One of 4 GiB or more
 // isn't recorded.
-fn with_front(found: Measured, front: usize) -> Measured
+fn with_prefix(found: Measured, prefix: usize) -> Measured
     ensures measure { view result ≡ view found }
-    ensures own { result.is_own ≡ found.is_own }
-    ensures front { result.front ≡ cond (nat_lt front (2 ^ 32)) front 0 }
+    ensures already_canonical { result.is_canonical ≡ found.is_canonical }
+    ensures prefix { result.prefix ≡ cond (nat_lt prefix (2 ^ 32)) prefix 0 }
 {
     Measured {
-        front: if front < 0x1_0000_0000 {
-            front as u32
+        prefix: if prefix < 0x1_0000_0000 {
+            prefix as u32
         } else {
             0
         },
@@ -154,17 +154,17 @@ fn with_front(found: Measured, front: usize) -> Measured
 pub fn walk_list<P: PeerSet>(peers: &P, form: Form, table: Table, bytes: &[u8]) -> Option<Measured>
     ensures measure { option_map view result
         ≡ measure (table_list P.peer (table_of table.0) form) bytes.now }
-    ensures own { IfSome result
-        (λ m. m.is_own ≡ true
+    ensures already_canonical { IfSome result
+        (λ m. m.is_canonical ≡ true
         → (table_list P.peer (table_of table.0) form).canonical bytes.now ≡ bytes.now) }
-    ensures front { IfSome result
-        (λ m. IsOwnFront (table_list P.peer (table_of table.0) form) bytes.now m.front) }
+    ensures prefix { IfSome result
+        (λ m. IsCanonicalPrefix (table_list P.peer (table_of table.0) form) bytes.now m.prefix) }
 {
-    measures_go_by_steps();
-    measures_tell_rules();
-    own_texts_go_by_steps();
+    measures_unfold();
+    measures_determine_rules();
+    canonical_lists_unfold();
     match form {
-        Form::FirstAlone => return measure_first(peers, table, bytes),
+        Form::FirstOnly => return measure_first(peers, table, bytes),
         Form::NonEmpty | Form::Ports => {
             if bytes.is_empty() {
                 return None;
@@ -184,9 +184,9 @@ pub fn walk_list<P: PeerSet>(peers: &P, form: Form, table: Table, bytes: &[u8]) 
             let Some(inside) = measure_held(peers, found.held, attribute.payload) else {
                 return None;
             };
-            let is_own = is_own_attribute(rest, attribute, after);
-            total = with_attribute(total, inside, is_own & (found.kind == attribute.kind));
-            left = left_behind(left, total.is_own, after.len());
+            let is_canonical = is_canonical_attribute(rest, attribute, after);
+            total = with_attribute(total, inside, is_canonical & (found.kind == attribute.kind));
+            left = bytes_following(left, total.is_canonical, after.len());
         } else {
             total = with_dropped(total);
         }
@@ -194,8 +194,8 @@ pub fn walk_list<P: PeerSet>(peers: &P, form: Form, table: Table, bytes: &[u8]) 
     }
     let found = close(form, total);
     match form {
-        Form::Any => Some(with_front(found, bytes.len() - left)),
-        _ => Some(with_front(found, 0)),
+        Form::Any => Some(with_prefix(found, bytes.len() - left)),
+        _ => Some(with_prefix(found, 0)),
     }
 }
 
@@ -203,15 +203,15 @@ pub fn walk_list<P: PeerSet>(peers: &P, form: Form, table: Table, bytes: &[u8]) 
 #[cycle(measure)]
 fn measure_first<P: PeerSet>(peers: &P, table: Table, bytes: &[u8]) -> Option<Measured>
     ensures measure { option_map view result
-        ≡ measure (list_rule first_alone (rows_of P.peer (table_of table.0))) bytes.now }
-    ensures own { IfSome result
-        (λ m. m.is_own ≡ true
-        → (list_rule first_alone (rows_of P.peer (table_of table.0))).canonical bytes.now ≡ bytes.now) }
-    ensures front { IfSome result (λ m. m.front ≡ 0) }
+        ≡ measure (list_rule first_only (rows_of P.peer (table_of table.0))) bytes.now }
+    ensures already_canonical { IfSome result
+        (λ m. m.is_canonical ≡ true
+        → (list_rule first_only (rows_of P.peer (table_of table.0))).canonical bytes.now ≡ bytes.now) }
+    ensures prefix { IfSome result (λ m. m.prefix ≡ 0) }
 {
-    measures_go_by_steps();
-    measures_tell_rules();
-    own_texts_go_by_steps();
+    measures_unfold();
+    measures_determine_rules();
+    canonical_lists_unfold();
     let Some((attribute, after)) = first_attribute(bytes) else {
         return None;
     };
@@ -219,8 +219,8 @@ fn measure_first<P: PeerSet>(peers: &P, table: Table, bytes: &[u8]) -> Option<Me
     let Some(inside) = measure_held(peers, found.held, attribute.payload) else {
         return None;
     };
-    let is_own = is_own_attribute(bytes, attribute, after);
-    let is_whole = is_own & ((found.kind == attribute.kind) & after.is_empty());
+    let is_canonical = is_canonical_attribute(bytes, attribute, after);
+    let is_whole = is_canonical & ((found.kind == attribute.kind) & after.is_empty());
     Some(with_attribute(NOTHING_YET, inside, is_whole))
 }
 
@@ -228,11 +228,11 @@ fn measure_first<P: PeerSet>(peers: &P, table: Table, bytes: &[u8]) -> Option<Me
 #[cycle(measure)]
 fn measure_link_info<P: PeerSet>(peers: &P, bytes: &[u8]) -> Option<Measured>
     ensures measure { option_map view result ≡ measure (payload_rule P.peer info_payload) bytes.now }
-    ensures own { IfSome result
-        (λ m. m.is_own ≡ true
+    ensures already_canonical { IfSome result
+        (λ m. m.is_canonical ≡ true
         → (payload_rule P.peer info_payload).canonical bytes.now ≡ bytes.now) }
 {
-    measures_tell_rules();
+    measures_determine_rules();
     info_is_a_list_inside(peers);
     if bytes.is_empty() {
         None
@@ -245,12 +245,12 @@ fn measure_link_info<P: PeerSet>(peers: &P, bytes: &[u8]) -> Option<Measured>
 #[cycle(measure)]
 pub fn measure_info<P: PeerSet>(peers: &P, bytes: &[u8]) -> Option<Measured>
     ensures measure { option_map view result ≡ measure (info_list P.peer) bytes.now }
-    ensures own { IfSome result
-        (λ m. m.is_own ≡ true → (info_list P.peer).canonical bytes.now ≡ bytes.now) }
+    ensures already_canonical { IfSome result
+        (λ m. m.is_canonical ≡ true → (info_list P.peer).canonical bytes.now ≡ bytes.now) }
 {
     link_info_is_lawful(peers);
-    measures_go_by_steps();
-    own_texts_go_by_steps();
+    measures_unfold();
+    canonical_lists_unfold();
     let mut rest = bytes;
     let mut total = NOTHING_YET;
     let mut force = NO_KINDS;
@@ -265,9 +265,9 @@ pub fn measure_info<P: PeerSet>(peers: &P, bytes: &[u8]) -> Option<Measured>
         let Some(inside) = measure_held(peers, held, attribute.payload) else {
             return None;
         };
-        let is_own = is_own_attribute(rest, attribute, after);
-        let is_kept_so = is_own & (written_info_kind(attribute.kind) == attribute.kind);
-        total = with_attribute(total, inside, is_kept_so);
+        let is_canonical = is_canonical_attribute(rest, attribute, after);
+        let is_canonical_kind = is_canonical & (written_info_kind(attribute.kind) == attribute.kind);
+        total = with_attribute(total, inside, is_canonical_kind);
         force = next_force(force, kind, attribute.payload);
         rest = after;
     }

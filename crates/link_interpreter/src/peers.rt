@@ -7,7 +7,7 @@ ghost use Rattle.attribute_tables_grammar.specs.Walks.{measure};
 ghost use Rattle.netlink_packet_core_numbers.specs.Errors.{is_memory};
 ghost use Rattle.link_interpreter.specs.Measures.{view};
 ghost use Rattle.link_interpreter.specs.Peers.{IsPeerMeasure};
-ghost use Rattle.link_interpreter.specs.Room.{HasRoom};
+ghost use Rattle.link_interpreter.specs.Capacity.{HasCapacity};
 
 use crate::shapes::{Measured, measure_shape};
 use crate::write_shapes::write_shape;
@@ -76,8 +76,8 @@ pub trait PeerSet {
     /// Returns the measure of a peer's payload; `None` if it isn't accepted.
     fn measure_peer(&self, payload: &[u8]) -> Option<Measured>
         ensures measure { option_map view result ≡ measure (peer_rule peer) payload.now }
-        ensures own { IfSome result
-            (λ m. m.is_own ≡ true → peer.canonical payload.now ≡ payload.now) };
+        ensures already_canonical { IfSome result
+            (λ m. m.is_canonical ≡ true → peer.canonical payload.now ≡ payload.now) };
 
     /// Returns whether two peers' payloads are equivalent.
     fn same_peer(&self, left: &[u8], right: &[u8]) -> bool
@@ -89,9 +89,9 @@ pub trait WritePeer: PeerSet {
     /// Appends a peer's canonical payload; `out` has to have the capacity.
     fn write_peer(&self, payload: &[u8], out: &mut Vec<u8>)
         requires accepted { Self.peer.accepted payload.now ≡ true }
-        requires room { HasRoom out.old (Self.peer.canonical payload.now) }
+        requires capacity { HasCapacity out.old (Self.peer.canonical payload.now) }
         ensures text { out.new.items ≡ out.old.items ++ Self.peer.canonical payload.now }
-        ensures room { vec_capacity out.old ≤ vec_capacity out.new };
+        ensures capacity { vec_capacity out.old ≤ vec_capacity out.new };
 }
 
 /// Peers that are kept as bytes: every payload is accepted, only equal ones are equivalent, and
@@ -164,8 +164,8 @@ impl<R: PeerRule> PeerSet for Ruled<'_, R> {
             attributes: found.attributes,
             fits: true,
             empty_ports: false,
-            is_own: false,
-            front: 0,
+            is_canonical: false,
+            prefix: 0,
         })
     }
 

@@ -2,7 +2,7 @@
 
 ghost use Rattle.std.specs.Prelude.{◌≡◌, true, is_some, IfSome};
 ghost use Rattle.netlink_packet_core_grammar.specs.Attributes.{proper_kind};
-ghost use Rattle.attribute_tables_grammar.specs.Lists.{first_alone, list_rule, row_of, same_attribute};
+ghost use Rattle.attribute_tables_grammar.specs.Lists.{first_only, list_rule, row_of, same_attribute};
 ghost use Rattle.attribute_tables_grammar.specs.LookUps.{payload_rule, table_row};
 ghost use Rattle.attribute_tables_grammar.specs.Sameness.{kept_of, same_kinds};
 ghost use Rattle.link_interpreter.specs.Measures.{info_list, info_names, rows_of, table_list};
@@ -18,7 +18,7 @@ use crate::peers::PeerSet;
 use crate::same_shapes::same_shape;
 use crate::tables::find;
 use attribute_tables_grammar::laws::{
-    attributes_are_compared, rows_are_looked_up, sameness_goes_by_steps, what_is_kept_goes_by_steps,
+    attributes_are_compared, rows_are_looked_up, sameness_unfolds, kept_attributes_unfold,
 };
 use link_tables::{Form, Held, InForce, NO_KINDS, Table, info_held, next_force};
 
@@ -37,7 +37,7 @@ fn next_kept(form: Form, bytes: &[u8]) -> Next<'_>
     ensures kept { kept_of (form_of form) bytes.now ≡ next_of (form_of form) result }
     ensures shorter { IsShorter bytes.now result }
 {
-    what_is_kept_goes_by_steps();
+    kept_attributes_unfold();
     let mut rest = bytes;
     while !rest.is_empty() {
         let Some((attribute, after)) = first_attribute(rest) else {
@@ -91,10 +91,10 @@ fn same_list<P: PeerSet>(peers: &P, form: Form, table: Table, left: &[u8], right
     ensures { result ≡ (table_list P.peer (table_of table.0) form).same
         left.now right.now }
 {
-    sameness_goes_by_steps();
+    sameness_unfolds();
     attributes_are_compared();
     match form {
-        Form::FirstAlone => return same_first(peers, table, left, right),
+        Form::FirstOnly => return same_first(peers, table, left, right),
         Form::NonEmpty | Form::Ports => {
             if left.is_empty() || right.is_empty() {
                 return false;
@@ -106,7 +106,7 @@ fn same_list<P: PeerSet>(peers: &P, form: Form, table: Table, left: &[u8], right
     let mut other = right;
     loop {
         match (next_kept(form, rest), next_kept(form, other)) {
-            (Next::Kept(a, after), Next::Kept(b, behind)) => {
+            (Next::Kept(a, after), Next::Kept(b, following)) => {
                 let Some(held) = held_by_both(peers, table, a.kind, b.kind) else {
                     return false;
                 };
@@ -114,7 +114,7 @@ fn same_list<P: PeerSet>(peers: &P, form: Form, table: Table, left: &[u8], right
                     return false;
                 }
                 rest = after;
-                other = behind;
+                other = following;
             }
             (Next::End, Next::End) => return true,
             _ => return false,
@@ -125,10 +125,10 @@ fn same_list<P: PeerSet>(peers: &P, form: Form, table: Table, left: &[u8], right
 // Whether the first attributes of two lists are equivalent under a table.
 #[cycle(same)]
 fn same_first<P: PeerSet>(peers: &P, table: Table, left: &[u8], right: &[u8]) -> bool
-    ensures { result ≡ (list_rule first_alone (rows_of P.peer (table_of table.0))).same
+    ensures { result ≡ (list_rule first_only (rows_of P.peer (table_of table.0))).same
         left.now right.now }
 {
-    sameness_goes_by_steps();
+    sameness_unfolds();
     attributes_are_compared();
     let Some((a, _)) = first_attribute(left) else {
         return false;
@@ -147,7 +147,7 @@ fn same_first<P: PeerSet>(peers: &P, table: Table, left: &[u8], right: &[u8]) ->
 fn same_link_info<P: PeerSet>(peers: &P, left: &[u8], right: &[u8]) -> bool
     ensures { result ≡ (payload_rule P.peer info_payload).same left.now right.now }
 {
-    sameness_goes_by_steps();
+    sameness_unfolds();
     info_is_a_list_inside(peers);
     if left.is_empty() || right.is_empty() {
         false
@@ -185,8 +185,8 @@ fn same_in_force<P: PeerSet>(
 pub fn same_info<P: PeerSet>(peers: &P, left: &[u8], right: &[u8]) -> bool
     ensures { result ≡ (info_list P.peer).same left.now right.now }
 {
-    what_is_kept_goes_by_steps();
-    sameness_goes_by_steps();
+    kept_attributes_unfold();
+    sameness_unfolds();
     attributes_are_compared();
     let mut rest = left;
     let mut other = right;
@@ -195,7 +195,7 @@ pub fn same_info<P: PeerSet>(peers: &P, left: &[u8], right: &[u8]) -> bool
         let Some((a, after)) = first_attribute(rest) else {
             return false;
         };
-        let Some((b, behind)) = first_attribute(other) else {
+        let Some((b, following)) = first_attribute(other) else {
             return false;
         };
         if !same_in_force(peers, force, a, b) {
@@ -203,7 +203,7 @@ pub fn same_info<P: PeerSet>(peers: &P, left: &[u8], right: &[u8]) -> bool
         }
         force = next_force(force, a.kind % KIND_BOUND, a.payload);
         rest = after;
-        other = behind;
+        other = following;
     }
     other.is_empty()
 }

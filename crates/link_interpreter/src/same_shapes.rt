@@ -2,7 +2,7 @@
 
 ghost use Rattle.std.specs.Prelude.{◌≡◌, ◌==◌, take, map, bytes_eq};
 ghost use Rattle.attribute_tables_grammar.specs.Rules.{shape_rule};
-ghost use Rattle.attribute_tables_grammar.specs.Shapes.{number, id_and_truth, resized};
+ghost use Rattle.attribute_tables_grammar.specs.Shapes.{number, id_and_boolean, resized};
 ghost use Rattle.link_tables.specs.Rows.{shape_of};
 ghost use Rattle.link_interpreter.specs.Sameness.{mark_of};
 
@@ -34,24 +34,24 @@ fn same_marks(byte: u8, left: &[u8], right: &[u8]) -> bool
 {
     let mut rest = left;
     let mut other = right;
-    while let (Some((a, after)), Some((b, behind))) = (rest.split_first(), other.split_first()) {
+    while let (Some((a, after)), Some((b, following))) = (rest.split_first(), other.split_first()) {
         if (*a == byte) != (*b == byte) {
             return false;
         }
         rest = after;
-        other = behind;
+        other = following;
     }
     rest.is_empty() && other.is_empty()
 }
 
 // Whether the first 4 bytes, and the booleans in the next 4, are equal.
-fn same_id_and_truth(left: &[u8], right: &[u8]) -> bool
-    ensures { result ≡ (shape_rule id_and_truth).same left.now right.now }
+fn same_id_and_boolean(left: &[u8], right: &[u8]) -> bool
+    ensures { result ≡ (shape_rule id_and_boolean).same left.now right.now }
 {
     let id = first(left, 4);
     let other = first(right, 4);
-    let truth = first(&left[id.len()..], 4);
-    id == other && is_zero(truth) == is_zero(first(&right[other.len()..], 4))
+    let boolean = first(&left[id.len()..], 4);
+    id == other && is_zero(boolean) == is_zero(first(&right[other.len()..], 4))
 }
 
 // Whether two payloads are equal once both are cut or filled up with zeros to a size.
@@ -73,11 +73,11 @@ pub fn same_shape(shape: Shape, left: &[u8], right: &[u8]) -> bool
         Shape::Raw | Shape::Never => left == right,
         Shape::NonzeroByte => same_marks(0, left, right),
         Shape::OneByte => same_marks(1, left, right),
-        Shape::TruthOfFour => is_zero(left) == is_zero(right),
+        Shape::BooleanOfFour => is_zero(left) == is_zero(right),
         Shape::Presence => true,
         Shape::Text => without_nul(left) == without_nul(right),
         Shape::FixedRecord(size, _) => first(left, size as usize) == first(right, size as usize),
-        Shape::IdAndTruth => same_id_and_truth(left, right),
+        Shape::IdAndBoolean => same_id_and_boolean(left, right),
         Shape::Resized(size) => same_resized(size, left, right),
     }
 }

@@ -23,10 +23,10 @@ pub struct Measured {
     /// Whether a list of ports inside keeps no entry.
     pub empty_ports: bool,
     /// Whether the bytes are known to be already canonical. If false, they may be so nevertheless.
-    pub is_own: bool,
+    pub is_canonical: bool,
     /// The length of the canonical prefix of a list, as far as it is known: leading bytes, up to
     /// the end of an attribute, that are already canonical. It is measured only for whole lists.
-    pub front: u32,
+    pub prefix: u32,
 }
 
 /// The measure of the empty list.
@@ -35,14 +35,14 @@ pub const NOTHING_YET: Measured = Measured {
     attributes: 0,
     fits: true,
     empty_ports: false,
-    is_own: true,
-    front: 0,
+    is_canonical: true,
+    prefix: 0,
 };
 
 fn measure_text(payload: &[u8]) -> Option<Measured>
     ensures measure { option_map view result ≡ measure (shape_rule text) payload.now }
-    ensures own { IfSome result
-        (λ m. m.is_own ≡ true → (shape_rule text).canonical payload.now ≡ payload.now) }
+    ensures already_canonical { IfSome result
+        (λ m. m.is_canonical ≡ true → (shape_rule text).canonical payload.now ≡ payload.now) }
 {
     if !is_text(payload) {
         return None;
@@ -53,14 +53,14 @@ fn measure_text(payload: &[u8]) -> Option<Measured>
         attributes: 0,
         fits: true,
         empty_ports: false,
-        is_own: len < payload.len(),
-        front: 0,
+        is_canonical: len < payload.len(),
+        prefix: 0,
     })
 }
 
 // Whether an accepted payload is the canonical one of its shape; false for shapes that aren't
 // examined.
-fn is_own_spelling(shape: Shape, payload: &[u8]) -> bool
+fn is_canonical_payload(shape: Shape, payload: &[u8]) -> bool
     requires { accepts (shape_of shape) payload.now ≡ true }
     ensures { result ≡ true → (shape_rule (shape_of shape)).canonical payload.now ≡ payload.now }
 {
@@ -70,8 +70,8 @@ fn is_own_spelling(shape: Shape, payload: &[u8]) -> bool
         Shape::Presence => payload.is_empty(),
         Shape::Resized(n) => payload.len() == n as usize,
         Shape::FixedRecord(m, n) => payload.len() == n as usize && is_zero(&payload[m as usize..]),
-        Shape::TruthOfFour => payload[0] <= 1 && is_zero(&payload[1..]),
-        Shape::IdAndTruth => payload.len() == 8 && payload[4] <= 1 && is_zero(&payload[5..]),
+        Shape::BooleanOfFour => payload[0] <= 1 && is_zero(&payload[1..]),
+        Shape::IdAndBoolean => payload.len() == 8 && payload[4] <= 1 && is_zero(&payload[5..]),
         Shape::Text | Shape::Never => false,
     }
 }
@@ -80,8 +80,8 @@ fn is_own_spelling(shape: Shape, payload: &[u8]) -> bool
 #[inline(always)]
 pub fn measure_shape(shape: Shape, payload: &[u8]) -> Option<Measured>
     ensures measure { option_map view result ≡ measure (shape_rule (shape_of shape)) payload.now }
-    ensures own { IfSome result
-        (λ m. m.is_own ≡ true
+    ensures already_canonical { IfSome result
+        (λ m. m.is_canonical ≡ true
         → (shape_rule (shape_of shape)).canonical payload.now ≡ payload.now) }
 {
     let len = payload.len();
@@ -90,13 +90,13 @@ pub fn measure_shape(shape: Shape, payload: &[u8]) -> Option<Measured>
         Shape::Either(m, n) => (len == m as usize || len == n as usize, len),
         Shape::AtMost(n) => (len <= n as usize, len),
         Shape::NonzeroByte | Shape::OneByte => (len == 1, 1),
-        Shape::TruthOfFour => (len == 4, 4),
+        Shape::BooleanOfFour => (len == 4, 4),
         Shape::Presence => (true, 0),
         Shape::Text => return measure_text(payload),
         Shape::Raw => (true, len),
         Shape::Never => (false, len),
         Shape::FixedRecord(m, n) => (len >= m as usize, m.max(n) as usize),
-        Shape::IdAndTruth => (len >= 8, 8),
+        Shape::IdAndBoolean => (len >= 8, 8),
         Shape::Resized(n) => (true, n as usize),
     };
     if is_accepted {
@@ -105,8 +105,8 @@ pub fn measure_shape(shape: Shape, payload: &[u8]) -> Option<Measured>
             attributes: 0,
             fits: true,
             empty_ports: false,
-            is_own: is_own_spelling(shape, payload),
-            front: 0,
+            is_canonical: is_canonical_payload(shape, payload),
+            prefix: 0,
         })
     } else {
         None

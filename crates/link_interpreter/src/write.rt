@@ -2,22 +2,22 @@
 
 ghost use Rattle.std.specs.Prelude.{◌≡◌, ◌≤◌, ◌+◌, ◌-◌, ◌++◌, true, length, vec_capacity};
 ghost use Rattle.netlink_packet_core_grammar.specs.Attributes.{attribute_text};
-ghost use Rattle.attribute_tables_grammar.specs.Lists.{first_alone, list_rule};
+ghost use Rattle.attribute_tables_grammar.specs.Lists.{first_only, list_rule};
 ghost use Rattle.attribute_tables_grammar.specs.LookUps.{payload_rule};
 ghost use Rattle.attribute_tables_grammar.specs.Writing.{IsWritable};
 ghost use Rattle.link_interpreter.specs.Measures.{info_list, rows_of, table_list};
-ghost use Rattle.link_interpreter.specs.Room.{HasRoom};
+ghost use Rattle.link_interpreter.specs.Capacity.{HasCapacity};
 ghost use Rattle.link_tables.specs.Tables.{held_rule, info_payload, table_of};
 
 use crate::attribute::{KIND_BOUND, first_attribute};
 use crate::info::{info_is_a_list_inside, written_info_kind};
 use crate::measure::is_kept;
 use crate::peers::WritePeer;
-use crate::room::{append, append_padding, write_header};
+use crate::capacity::{append, append_padding, write_header};
 use crate::tables::find;
 use crate::write_shapes::write_shape;
 use attribute_tables_grammar::laws::{
-    measures_tell_rules, rows_are_looked_up, texts_are_written_by_steps,
+    measures_determine_rules, rows_are_looked_up, writing_unfolds,
 };
 use link_tables::{Form, Held, NO_KINDS, Table, info_held, next_force};
 
@@ -27,10 +27,10 @@ pub fn write_held<P: WritePeer>(peers: &P, held: Held, bytes: &[u8], out: &mut V
     requires accepted { (held_rule P.peer held).accepted bytes.now
         ≡ true }
     requires fits { (held_rule P.peer held).fits bytes.now ≡ true }
-    requires room { HasRoom out.old ((held_rule P.peer held).canonical bytes.now) }
+    requires capacity { HasCapacity out.old ((held_rule P.peer held).canonical bytes.now) }
     ensures text { out.new.items ≡ out.old.items
         ++ (held_rule P.peer held).canonical bytes.now }
-    ensures room { vec_capacity out.old ≤ vec_capacity out.new }
+    ensures capacity { vec_capacity out.old ≤ vec_capacity out.new }
 {
     rows_are_looked_up();
     match held {
@@ -57,7 +57,7 @@ pub fn write_attribute<P: WritePeer>(
       kind = kind;
       payload = (held_rule P.peer held).canonical payload.now;
     }) }
-    ensures room { vec_capacity out.old ≤ vec_capacity out.new }
+    ensures capacity { vec_capacity out.old ≤ vec_capacity out.new }
 {
     let start = out.len();
     append(&[0, 0, 0, 0], out);
@@ -73,16 +73,16 @@ fn write_list<P: WritePeer>(peers: &P, form: Form, table: Table, bytes: &[u8], o
     requires accepted { (table_list P.peer (table_of table.0) form).accepted bytes.now
         ≡ true }
     requires fits { (table_list P.peer (table_of table.0) form).fits bytes.now ≡ true }
-    requires room { HasRoom out.old ((table_list P.peer (table_of table.0) form).canonical bytes.now) }
+    requires capacity { HasCapacity out.old ((table_list P.peer (table_of table.0) form).canonical bytes.now) }
     ensures text { out.new.items ≡ out.old.items
         ++ (table_list P.peer (table_of table.0) form).canonical bytes.now }
-    ensures room { vec_capacity out.old ≤ vec_capacity out.new }
+    ensures capacity { vec_capacity out.old ≤ vec_capacity out.new }
 {
-    if let Form::FirstAlone = form {
+    if let Form::FirstOnly = form {
         return write_first(peers, table, bytes, out);
     }
-    measures_tell_rules();
-    texts_are_written_by_steps();
+    measures_determine_rules();
+    writing_unfolds();
     let mut rest = bytes;
     while !rest.is_empty() {
         let Some((attribute, after)) = first_attribute(rest) else {
@@ -99,15 +99,15 @@ fn write_list<P: WritePeer>(peers: &P, form: Form, table: Table, bytes: &[u8], o
 // Appends the canonical encoding of an accepted list of only its first attribute, under a table.
 #[cycle(write)]
 fn write_first<P: WritePeer>(peers: &P, table: Table, bytes: &[u8], out: &mut Vec<u8>)
-    requires accepted { (list_rule first_alone (rows_of P.peer (table_of table.0))).accepted bytes.now
+    requires accepted { (list_rule first_only (rows_of P.peer (table_of table.0))).accepted bytes.now
         ≡ true }
-    requires fits { (list_rule first_alone (rows_of P.peer (table_of table.0))).fits bytes.now ≡ true }
-    requires room { HasRoom out.old ((list_rule first_alone (rows_of P.peer (table_of table.0))).canonical bytes.now) }
+    requires fits { (list_rule first_only (rows_of P.peer (table_of table.0))).fits bytes.now ≡ true }
+    requires capacity { HasCapacity out.old ((list_rule first_only (rows_of P.peer (table_of table.0))).canonical bytes.now) }
     ensures text { out.new.items ≡ out.old.items
-        ++ (list_rule first_alone (rows_of P.peer (table_of table.0))).canonical bytes.now }
-    ensures room { vec_capacity out.old ≤ vec_capacity out.new }
+        ++ (list_rule first_only (rows_of P.peer (table_of table.0))).canonical bytes.now }
+    ensures capacity { vec_capacity out.old ≤ vec_capacity out.new }
 {
-    texts_are_written_by_steps();
+    writing_unfolds();
     let Some((attribute, _)) = first_attribute(bytes) else {
         unreachable!();
     };
@@ -120,9 +120,9 @@ fn write_first<P: WritePeer>(peers: &P, table: Table, bytes: &[u8], out: &mut Ve
 fn write_link_info<P: WritePeer>(peers: &P, bytes: &[u8], out: &mut Vec<u8>)
     requires accepted { (payload_rule P.peer info_payload).accepted bytes.now ≡ true }
     requires fits { (payload_rule P.peer info_payload).fits bytes.now ≡ true }
-    requires room { HasRoom out.old ((payload_rule P.peer info_payload).canonical bytes.now) }
+    requires capacity { HasCapacity out.old ((payload_rule P.peer info_payload).canonical bytes.now) }
     ensures text { out.new.items ≡ out.old.items ++ (payload_rule P.peer info_payload).canonical bytes.now }
-    ensures room { vec_capacity out.old ≤ vec_capacity out.new }
+    ensures capacity { vec_capacity out.old ≤ vec_capacity out.new }
 {
     info_is_a_list_inside(peers);
     write_info(peers, bytes, out);
@@ -134,11 +134,11 @@ fn write_link_info<P: WritePeer>(peers: &P, bytes: &[u8], out: &mut Vec<u8>)
 pub fn write_info<P: WritePeer>(peers: &P, bytes: &[u8], out: &mut Vec<u8>)
     requires accepted { (info_list P.peer).accepted bytes.now ≡ true }
     requires fits { (info_list P.peer).fits bytes.now ≡ true }
-    requires room { HasRoom out.old ((info_list P.peer).canonical bytes.now) }
+    requires capacity { HasCapacity out.old ((info_list P.peer).canonical bytes.now) }
     ensures text { out.new.items ≡ out.old.items ++ (info_list P.peer).canonical bytes.now }
-    ensures room { vec_capacity out.old ≤ vec_capacity out.new }
+    ensures capacity { vec_capacity out.old ≤ vec_capacity out.new }
 {
-    texts_are_written_by_steps();
+    writing_unfolds();
     let mut rest = bytes;
     let mut force = NO_KINDS;
     while !rest.is_empty() {

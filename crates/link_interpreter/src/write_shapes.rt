@@ -3,11 +3,11 @@
 ghost use Rattle.std.specs.Prelude.{◌≡◌, ◌≤◌, ◌+◌, ◌++◌, true, length, take, vec_capacity};
 ghost use Rattle.netlink_packet_core_grammar.specs.Attributes.{zeros};
 ghost use Rattle.attribute_tables_grammar.specs.Rules.{shape_rule};
-ghost use Rattle.attribute_tables_grammar.specs.Shapes.{accepts, number_truth};
+ghost use Rattle.attribute_tables_grammar.specs.Shapes.{accepts, number_boolean};
 ghost use Rattle.link_tables.specs.Rows.{shape_of};
-ghost use Rattle.link_interpreter.specs.Room.{HasRoom};
+ghost use Rattle.link_interpreter.specs.Capacity.{HasCapacity};
 
-use crate::room::{append, append_zeros};
+use crate::capacity::{append, append_zeros};
 use crate::same_shapes::{first, is_zero};
 use link_tables::Shape;
 use netlink_packet_core_numbers::without_nul;
@@ -16,19 +16,19 @@ use netlink_packet_core_numbers::without_nul;
 fn append_resized(size: usize, payload: &[u8], out: &mut Vec<u8>)
     requires { length out.old.items + size ≤ vec_capacity out.old }
     ensures text { out.new.items ≡ out.old.items ++ take size (payload.now ++ zeros size) }
-    ensures room { vec_capacity out.old ≤ vec_capacity out.new }
+    ensures capacity { vec_capacity out.old ≤ vec_capacity out.new }
 {
-    let front = first(payload, size);
-    append(front, out);
-    append_zeros(size - front.len(), out);
+    let prefix = first(payload, size);
+    append(prefix, out);
+    append_zeros(size - prefix.len(), out);
 }
 
 // Appends a number of 4 bytes that is 1 if `number` isn't zero, else 0.
-fn append_truth(number: &[u8], out: &mut Vec<u8>)
+fn append_boolean(number: &[u8], out: &mut Vec<u8>)
     requires number { length number.now ≡ 4 }
-    requires room { length out.old.items + 4 ≤ vec_capacity out.old }
-    ensures text { out.new.items ≡ out.old.items ++ number_truth number.now }
-    ensures room { vec_capacity out.old ≤ vec_capacity out.new }
+    requires capacity { length out.old.items + 4 ≤ vec_capacity out.old }
+    ensures text { out.new.items ≡ out.old.items ++ number_boolean number.now }
+    ensures capacity { vec_capacity out.old ≤ vec_capacity out.new }
 {
     append(&[u8::from(!is_zero(number)), 0, 0, 0], out);
 }
@@ -36,10 +36,10 @@ fn append_truth(number: &[u8], out: &mut Vec<u8>)
 /// Appends the canonical payload of an accepted one; `out` has to have the capacity.
 pub fn write_shape(shape: Shape, payload: &[u8], out: &mut Vec<u8>)
     requires accepted { accepts (shape_of shape) payload.now ≡ true }
-    requires room { HasRoom out.old ((shape_rule (shape_of shape)).canonical payload.now) }
+    requires capacity { HasCapacity out.old ((shape_rule (shape_of shape)).canonical payload.now) }
     ensures text { out.new.items
         ≡ out.old.items ++ (shape_rule (shape_of shape)).canonical payload.now }
-    ensures room { vec_capacity out.old ≤ vec_capacity out.new }
+    ensures capacity { vec_capacity out.old ≤ vec_capacity out.new }
 {
     match shape {
         Shape::Exact(_) | Shape::Either(_, _) | Shape::AtMost(_) | Shape::Raw => append(
@@ -52,14 +52,14 @@ pub fn write_shape(shape: Shape, payload: &[u8], out: &mut Vec<u8>)
             append(without_nul(payload), out);
             append(&[0], out);
         }
-        Shape::TruthOfFour => append_truth(payload, out),
+        Shape::BooleanOfFour => append_boolean(payload, out),
         Shape::FixedRecord(m, n) => {
             append(&payload[..m as usize], out);
             append_zeros(n.saturating_sub(m) as usize, out);
         }
-        Shape::IdAndTruth => {
+        Shape::IdAndBoolean => {
             append(&payload[..4], out);
-            append_truth(&payload[4..8], out);
+            append_boolean(&payload[4..8], out);
         }
         Shape::Resized(n) => append_resized(n as usize, payload, out),
     }

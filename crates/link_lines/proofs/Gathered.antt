@@ -6,12 +6,12 @@ use Rattle.std.proofs.lemmas.List.{append-nil, length-append, take-append-drop}
 use Rattle.link_capture_grammar.specs.Body.{link_body}
 use Rattle.link_capture_grammar.specs.declared.fault.CaptureFault.{CaptureFault}
 use Rattle.link_capture_grammar.specs.declared.fault.FaultKind.TheVariants.{Memory}
-use Rattle.link_capture_grammar.specs.Captures.{Judged, first_fault, first_frame, texts, fault_after_under, HeaderStands, IsLegal, StopsAt}
-use Rattle.link_capture_grammar.specs.Laws.{CapturesGoByFrames, FramesStandAlone, PrefixTexts}
-use Rattle.link_capture_reader.specs.Readers.{LacksRoomAt}
+use Rattle.link_capture_grammar.specs.Captures.{Judged, first_fault, first_frame, texts, fault_after_under, HeaderIsAllowed, IsLegal, StopsAt}
+use Rattle.link_capture_grammar.specs.Laws.{CapturesUnfoldByFrames, FramesAreIndependent, PrefixTexts}
+use Rattle.link_capture_reader.specs.Readers.{LacksCapacityAt}
 use Rattle.link_lines_texts.specs.Captures.{Choice, text_lines, lines}
 use Rattle.link_lines_texts.specs.Laws.{LinesAreJoined}
-use Rattle.link_lines.specs.Outcomes.{WantsMemoryAt}
+use Rattle.link_lines.specs.Outcomes.{NeedsMemoryAt}
 use Rattle.link_lines.proofs.Joined.{texts_nil, lines_nil}
 
 -- The result of `normalize_bytes`, and the texts that it appends to nothing.
@@ -42,8 +42,8 @@ module _ (ch : Choice) (limit : ℕ) (c old new start items : List ℕ) where
 -- ---- when something has to be written
 
 -- A prefix of the bytes has no more texts.
-front_texts : PrefixTexts link_body → (limit at : ℕ) (c : List ℕ) → length (texts limit (take at c)) ≤ length (texts limit c)
-front_texts stay limit at c =
+prefix_has_texts : PrefixTexts link_body → (limit at : ℕ) (c : List ℕ) → length (texts limit (take at c)) ≤ length (texts limit c)
+prefix_has_texts stay limit at c =
     let more = stay limit (take at c) (drop at c) in
     let all : texts limit c ≡ texts limit (take at c) ++ more.0 = ap (texts limit) (sym (take-append-drop at c)) ∙ more.1 in
     omega (arith, ap length all, length-append (texts limit (take at c)) more.0)
@@ -58,8 +58,8 @@ some_texts stay (Err x) limit c start items g l =
     elim (cases_lt 0 (length (texts limit c))) [
       | inl some ↦ some
       | inr none ↦
-          let front = front_texts stay limit x.offset c in
-          let other : x.kind ≢ Memory = λ m. let k = gathered_length start items (texts limit (take x.offset c)) g.nothing (g.memory m).1 in omega (arith, l, none, k, front) in
+          let prefix = prefix_has_texts stay limit x.offset c in
+          let other : x.kind ≢ Memory = λ m. let k = gathered_length start items (texts limit (take x.offset c)) g.nothing (g.memory m).1 in omega (arith, l, none, k, prefix) in
           omega (arith, l, none, gathered_length start items (texts limit c) g.nothing (g.fault other).1)
     ]
 
@@ -69,32 +69,32 @@ some_bytes limit [] l = absurd (omega (arith, ap length (texts_nil limit), l))
 some_bytes limit (b ∷ c) l = omega arith
 
 -- The first frame of such bytes is accepted.
-front_accepted : CapturesGoByFrames link_body → (limit : ℕ) (c : List ℕ) (j : Judged) → first_frame limit c ≡ j → 0 < length (texts limit c) → (frame : ℕ × List ℕ) × (first_frame limit c ≡ Ok frame)
-front_accepted go limit c (Ok frame) e l = (frame, e)
-front_accepted go limit c (Err kind) e l = absurd (omega (arith, ap length (go.front_texts limit c kind e), l))
+prefix_accepted : CapturesUnfoldByFrames link_body → (limit : ℕ) (c : List ℕ) (j : Judged) → first_frame limit c ≡ j → 0 < length (texts limit c) → (frame : ℕ × List ℕ) × (first_frame limit c ≡ Ok frame)
+prefix_accepted go limit c (Ok frame) e l = (frame, e)
+prefix_accepted go limit c (Err kind) e l = absurd (omega (arith, ap length (go.prefix_has_texts limit c kind e), l))
 
 -- The header of the first frame is valid.
-front_stands : CapturesGoByFrames link_body → FramesStandAlone link_body → (limit : ℕ) (c : List ℕ) → 0 < length (texts limit c) → HeaderStands limit c
-front_stands go frames limit c l =
-    let front = front_accepted go limit c (first_frame limit c) refl l in
-    let a = frames.accepted limit c front.0 front.1 in
+prefix_has_header : CapturesUnfoldByFrames link_body → FramesAreIndependent link_body → (limit : ℕ) (c : List ℕ) → 0 < length (texts limit c) → HeaderIsAllowed limit c
+prefix_has_header go frames limit c l =
+    let prefix = prefix_accepted go limit c (first_frame limit c) refl l in
+    let a = frames.accepted limit c prefix.0 prefix.1 in
     inr (omega (arith, a.low, a.is), omega (arith, a.high, a.is))
 
 -- An allocation for its text may fail.
-pub texts_wanted : CapturesGoByFrames link_body → (limit : ℕ) (c : List ℕ) → 0 < length (texts limit c) → WantsMemoryAt limit c 0
-texts_wanted go limit c l = front_accepted go limit c (first_frame limit c) refl l
+pub texts_needed : CapturesUnfoldByFrames link_body → (limit : ℕ) (c : List ℕ) → 0 < length (texts limit c) → NeedsMemoryAt limit c 0
+texts_needed go limit c l = prefix_accepted go limit c (first_frame limit c) refl l
 
 -- An accepted frame for whose text there was less capacity.
-pub memory_wanted : {Z : Type 0} → (limit : ℕ) (c : List ℕ) (at : ℕ) (old : Vec ℕ Z) → LacksRoomAt limit c at old → WantsMemoryAt limit c at
-memory_wanted limit c at old lacks = ((lacks.0, lacks.1), lacks.2)
+pub memory_needed : {Z : Type 0} → (limit : ℕ) (c : List ℕ) (at : ℕ) (old : Vec ℕ Z) → LacksCapacityAt limit c at old → NeedsMemoryAt limit c at
+memory_needed limit c at old lacks = ((lacks.0, lacks.1), lacks.2)
 
 legal_nil : (limit : ℕ) → IsLegal limit []
 unfolding fault_after_under
 legal_nil limit = refl
 
 -- An allocation fails for the lines: nothing is shown, and no bytes are before the first frame.
-pub nothing_shown : (ch : Choice) → CapturesGoByFrames link_body → FramesStandAlone link_body → LinesAreJoined → (limit : ℕ) (c old new : List ℕ) → 0 < length (texts limit c) → new ≡ old → StopsAt limit c 0 × (new ≡ old ++ lines ch limit [])
+pub nothing_shown : (ch : Choice) → CapturesUnfoldByFrames link_body → FramesAreIndependent link_body → LinesAreJoined → (limit : ℕ) (c old new : List ℕ) → 0 < length (texts limit c) → new ≡ old → StopsAt limit c 0 × (new ≡ old ++ lines ch limit [])
 nothing_shown ch go frames joined limit c old new l e = (
-  record { inside = some_bytes limit c l; start = refl; header = front_stands go frames limit c l; legal = legal_nil limit },
+  record { inside = some_bytes limit c l; start = refl; header = prefix_has_header go frames limit c l; legal = legal_nil limit },
   e ∙ sym (append-nil old) ∙ ap (λ x. old ++ x) (sym (lines_nil ch joined limit)),
 )

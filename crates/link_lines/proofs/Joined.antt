@@ -40,13 +40,13 @@ lines_of_none ch joined old [] e = sym (append-nil old) ∙ ap (λ x. old ++ x) 
 lines_of_none ch joined old (b ∷ t) e = absurd (omega arith)
 
 -- Texts that are continued have the lines of both parts.
-pub lines_go_on : (ch : Choice) → LinesAreJoined → (limit : ℕ) (s t out : List ℕ) → limit < 2 ^ 32 → texts limit t ≡ texts limit s ++ out → lines ch limit t ≡ lines ch limit s ++ text_lines ch out
-lines_go_on ch joined limit s t out b e = ap (text_lines ch) e ∙ joined ch limit s out b
+pub lines_continue : (ch : Choice) → LinesAreJoined → (limit : ℕ) (s t out : List ℕ) → limit < 2 ^ 32 → texts limit t ≡ texts limit s ++ out → lines ch limit t ≡ lines ch limit s ++ text_lines ch out
+lines_continue ch joined limit s t out b e = ap (text_lines ch) e ∙ joined ch limit s out b
 
 -- The lines of texts that a reader gained are appended too.
 pub lines_gained : (ch : Choice) → LinesAreJoined → (limit : ℕ) (s t out : List ℕ) → limit < 2 ^ 32 → Gains limit s t [] out → lines ch limit t ≡ lines ch limit s ++ text_lines ch out
-lines_gained ch joined limit s t out b g = lines_go_on ch joined limit s t out b (g.1 ∙ ap (λ x. texts limit s ++ x) (sym g.2))
+lines_gained ch joined limit s t out b g = lines_continue ch joined limit s t out b (g.1 ∙ ap (λ x. texts limit s ++ x) (sym g.2))
 
 -- The lines of a prefix of the texts are a prefix of the lines.
 pub lines_begin : (ch : Choice) → LinesAreJoined → (limit : ℕ) (s t : List ℕ) → limit < 2 ^ 32 → IsPrefix (texts limit s) (texts limit t) → IsPrefix (lines ch limit s) (lines ch limit t)
-lines_begin ch joined limit s t b p = (text_lines ch p.0, lines_go_on ch joined limit s t p.0 b p.1)
+lines_begin ch joined limit s t b p = (text_lines ch p.0, lines_continue ch joined limit s t p.0 b p.1)

@@ -13,12 +13,12 @@ abbrev pub ShownAlike : Choice → ℕ → List ℕ → List ℕ → Type 0
 ShownAlike o limit a b = lines o limit a ≡ lines o limit b
 
 -- Whatever follows a capture is shown independently, after the capture's lines.
-abbrev pub IsShownInFront : Choice → ℕ → List ℕ → Type 0
-IsShownInFront o limit a = (b : List ℕ) → lines o limit (a ++ b) ≡ lines o limit a ++ lines o limit b
+abbrev pub IsShownAtStart : Choice → ℕ → List ℕ → Type 0
+IsShownAtStart o limit a = (b : List ℕ) → lines o limit (a ++ b) ≡ lines o limit a ++ lines o limit b
 
 -- A capture is shown as its texts are, and as any capture that means the same. What follows a legal capture, whose size
 -- is a multiple of 4, is shown independently.
-pub record GoesByMeaning (o : Choice) (limit : ℕ) (c : List ℕ) : Type 0 where
+pub record DependsOnMeaning (o : Choice) (limit : ℕ) (c : List ℕ) : Type 0 where
   pub normal : ShownAlike o limit (texts limit c) c
   pub same : (other : List ℕ) → SameCapture limit c other → ShownAlike o limit other c
-  pub joined : IsLegal limit c → length c % 4 ≡ 0 → IsShownInFront o limit c
+  pub joined : IsLegal limit c → length c % 4 ≡ 0 → IsShownAtStart o limit c

@@ -7,17 +7,17 @@ use Rattle.link_capture_grammar.specs.Captures.{first_fault, first_frame, IsLega
 use Rattle.link_capture_reader.specs.Outcomes.{IsOpen, IsPrefix}
 use Rattle.link_capture_refusals.specs.RefusalViews.{all_found}
 use Rattle.link_lines_texts.specs.Captures.{Choice, lines}
-use Rattle.link_lines.specs.Refused.{refusal_told}
+use Rattle.link_lines.specs.Refused.{reported_refusal}
 use Rattle.link_lines.specs.declared.refused.ShowFault.{ShowFault}
 
 -- The cause of running out of memory at an offset: the message there is accepted, and its text had to be written.
-abbrev pub WantsMemoryAt : ℕ → List ℕ → ℕ → Type 0
-WantsMemoryAt limit c at = (frame : ℕ × List ℕ) × (first_frame limit (drop at c) ≡ Ok frame)
+abbrev pub NeedsMemoryAt : ℕ → List ℕ → ℕ → Type 0
+NeedsMemoryAt limit c at = (frame : ℕ × List ℕ) × (first_frame limit (drop at c) ≡ Ok frame)
 
 -- The first `at` bytes of s have no fault or a cut frame, and w are their lines.
-pub record ShowsFront (o : Choice) (limit : ℕ) (s w : List ℕ) (at : ℕ) : Type 0 where
+pub record ShowsPrefix (o : Choice) (limit : ℕ) (s w : List ℕ) (at : ℕ) : Type 0 where
   pub inside : at ≤ length s
-  pub going : IsOpen (first_fault limit (take at s))
+  pub is_open : IsOpen (first_fault limit (take at s))
   pub written : w ≡ lines o limit (take at s)
 
 -- More bytes were read than can be counted. All of them but the last piece, of at most 65,536 bytes, were accepted, and
@@ -25,13 +25,13 @@ pub record ShowsFront (o : Choice) (limit : ℕ) (s w : List ℕ) (at : ℕ) : T
 pub record PassesLength (o : Choice) (limit : ℕ) (s w : List ℕ) (at : ℕ) : Type 0 where
   pub long : 2 ^ 64 ≤ length s
   pub last : length s ≤ at + 65536
-  pub front : ShowsFront o limit s w at
+  pub prefix : ShowsPrefix o limit s w at
 
 -- The bytes s were read, w was written, and the result is a fault of this kind at this offset. The propositions ended,
 -- read_failed and write_failed are what the devices reported.
 abbrev pub ShownAt : Choice → Type 0 → Type 0 → Type 0 → ℕ → List ℕ → List ℕ → FaultKind → ℕ → Type 0
 ShownAt o ended read_failed write_failed limit s w Cut at = ended × (first_fault limit s ≡ Some (record { kind = Cut; offset = at })) × (w ≡ lines o limit s)
-ShownAt o ended read_failed write_failed limit s w Memory at = ShowsFront o limit s w at
+ShownAt o ended read_failed write_failed limit s w Memory at = ShowsPrefix o limit s w at
 ShownAt o ended read_failed write_failed limit s w Read at = read_failed × (at ≡ length s) × IsOpen (first_fault limit s) × (w ≡ lines o limit s)
 ShownAt o ended read_failed write_failed limit s w Write at = write_failed × (at ≡ min (length w) (2 ^ 64 - 1)) × IsPrefix w (lines o limit s)
 ShownAt o ended read_failed write_failed limit s w TooLong at = PassesLength o limit s w at
@@ -42,7 +42,7 @@ ShownAt o ended read_failed write_failed limit s w kind at = (first_fault limit 
 abbrev pub Shown : Choice → Type 0 → Type 0 → Type 0 → ℕ → List ℕ → List ℕ → Result (Unit {0}) ShowFault → Type 0
 Shown o ended read_failed write_failed limit s w (Ok x) = ended × IsLegal limit s × (w ≡ lines o limit s)
 Shown o ended read_failed write_failed limit s w (Err e) =
-    ShownAt o ended read_failed write_failed limit s w e.fault.kind e.fault.offset × (all_found e.refusal ≡ refusal_told s e.fault.kind e.fault.offset)
+    ShownAt o ended read_failed write_failed limit s w e.fault.kind e.fault.offset × (all_found e.refusal ≡ reported_refusal s e.fault.kind e.fault.offset)
 
 -- What was read has left the source, which had the first bytes and has the second. What was written has come to the
 -- sink, which held the third and holds the fourth.

@@ -1,16 +1,16 @@
 //! The lines of a capture, from a source to a sink.
 
 ghost use Rattle.std.specs.Prelude.{◌≡◌, ◌≤◌};
-ghost use Rattle.link_capture_reader.specs.Devices.{Rises, TellsItsEnd};
+ghost use Rattle.link_capture_reader.specs.Devices.{Rises, ReportsItsEnd};
 ghost use Rattle.link_lines.specs.Options.{choice_of};
 ghost use Rattle.link_lines.specs.Outcomes.{Shows, ShowsKeeping};
-ghost use Rattle.link_lines.specs.Refused.{alone};
+ghost use Rattle.link_lines.specs.Refused.{without_refusal};
 
 use crate::lines::push_lines;
 use crate::options::LineOptions;
-use crate::refused::{ShowFault, keep, told};
+use crate::refused::{ShowFault, keep, with_refusal};
 use link_capture_grammar::fault::{CaptureFault, FaultKind};
-use link_capture_grammar::laws::{captures_go_by_frames, texts_of_a_prefix_stay};
+use link_capture_grammar::laws::{captures_unfold_by_frames, texts_of_a_prefix_stay};
 use link_capture_reader::{CaptureReader, FirstBytes, Sink, Source, keep_first, write_all};
 use link_capture_refusals::laws::refused_frames_are_whole;
 use link_lines_texts::laws::lines_are_joined;
@@ -18,7 +18,7 @@ use std::alloc::Global;
 
 /// Returns a fault of this kind at an offset, without a refusal.
 fn fault_at(kind: FaultKind, offset: u64) -> ShowFault
-    ensures { result ≡ alone (record { kind = kind; offset = offset }) }
+    ensures { result ≡ without_refusal (record { kind = kind; offset = offset }) }
 {
     ShowFault::from(CaptureFault { kind, offset })
 }
@@ -50,7 +50,7 @@ pub fn show<S: Source, K: Sink>(
     requires { 16 ≤ limit }
     ensures { Shows (choice_of options.entry) (S.to_come source.old) (S.to_come source.new)
         (K.holds sink.old) (K.holds sink.new)
-        (TellsItsEnd (S.ends_told source.old) (S.ends_told source.new) (S.to_come source.new))
+        (ReportsItsEnd (S.ends_reported source.old) (S.ends_reported source.new) (S.to_come source.new))
         (Rises (S.failures source.old) (S.failures source.new))
         (Rises (K.failures sink.old) (K.failures sink.new)) limit result }
 {
@@ -73,18 +73,18 @@ pub fn show_keeping_first<S: Source, K: Sink>(
     requires { 16 ≤ limit }
     ensures { ShowsKeeping first.new.items (choice_of options.entry)
         (S.to_come source.old) (S.to_come source.new) (K.holds sink.old) (K.holds sink.new)
-        (TellsItsEnd (S.ends_told source.old) (S.ends_told source.new) (S.to_come source.new))
+        (ReportsItsEnd (S.ends_reported source.old) (S.ends_reported source.new) (S.to_come source.new))
         (Rises (S.failures source.old) (S.failures source.new))
         (Rises (K.failures sink.old) (K.failures sink.new)) limit result }
 {
     first.clear();
     texts_of_a_prefix_stay();
-    captures_go_by_frames();
+    captures_unfold_by_frames();
     refused_frames_are_whole();
     lines_are_joined();
     let mut reader = CaptureReader::new(alloc, limit);
     let mut buffer = [0u8; 65536];
-    let mut front = Vec::new(alloc);
+    let mut prefix = Vec::new(alloc);
     let mut texts = Vec::new(alloc);
     let mut lines = Vec::new(alloc);
     let mut written = 0u64;
@@ -98,17 +98,17 @@ pub fn show_keeping_first<S: Source, K: Sink>(
         }
         let piece = &buffer[..size];
         keep_first(first, piece);
-        if keep(&mut front, reader.kept_bytes(), piece).is_err() {
+        if keep(&mut prefix, reader.kept_bytes(), piece).is_err() {
             return Err(fault_at(FaultKind::Memory, accepted));
         }
-        let start = accepted - front.len() as u64;
+        let start = accepted - prefix.len() as u64;
         let fed = reader.feed(piece, &mut texts);
         if push_lines(texts.as_slice(), options, &mut lines).is_err() {
             return Err(fault_at(FaultKind::Memory, accepted));
         }
         written = write_all(sink, lines.as_slice(), written)?;
         if let Err(fault) = fed {
-            return Err(told(fault, start, &mut front, piece));
+            return Err(with_refusal(fault, start, &mut prefix, piece));
         }
         texts.clear();
         lines.clear();

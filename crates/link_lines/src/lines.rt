@@ -7,7 +7,7 @@ ghost use Rattle.link_lines.specs.Options.{choice_of};
 ghost use Rattle.link_lines_texts.specs.Captures.{is_frame, shown_lines, text_lines};
 
 use crate::options::LineOptions;
-use link_lines_texts::laws::lines_go_by_frames;
+use link_lines_texts::laws::lines_unfold_by_frames;
 use link_lines_texts::push_frame;
 use netlink_packet_core::{NETLINK_HEADER_LEN, NetlinkBuffer, nla_align};
 use std::alloc::AllocError;
@@ -29,7 +29,7 @@ fn frame_len(bytes: &[u8]) -> Option<usize>
 }
 
 /// Returns the bytes after a frame of this length and its padding.
-fn behind(bytes: &[u8], size: usize) -> &[u8]
+fn after_padding(bytes: &[u8], size: usize) -> &[u8]
     requires { size < 2 ^ 32 }
     ensures { result.now ≡ drop (nla_align size) bytes.now }
 {
@@ -67,11 +67,11 @@ pub fn push_lines(
     ensures ok { OnOk result (out.new.items
         ≡ out.old.items ++ text_lines (choice_of options.entry) texts.now) }
 {
-    lines_go_by_frames();
+    lines_unfold_by_frames();
     let mut rest = texts;
     while let Some(size) = frame_len(rest) {
         push_shown(&rest[..size], options, out)?;
-        rest = behind(rest, size);
+        rest = after_padding(rest, size);
     }
     Ok(())
 }

@@ -4,7 +4,7 @@ ghost use Rattle.std.specs.Prelude.{◌≡◌, ◌+◌, ◌-◌, ◌^◌, ◌<�
 ghost use Rattle.std.specs.Fmt.{WritesOnOk, WritesStyledOnOk};
 ghost use Rattle.link_capture_grammar.specs.declared.fault.FaultKind.{FaultKind};
 ghost use Rattle.link_capture_refusals.specs.RefusalViews.{all_found};
-ghost use Rattle.link_lines.specs.Refused.{StandsIn, alone, fault_words, refusal_told};
+ghost use Rattle.link_lines.specs.Refused.{HasFrameAt, without_refusal, fault_message, reported_refusal};
 
 use link_capture_grammar::fault::{CaptureFault, FaultKind};
 use link_capture_refusals::{Refusal, why_frame};
@@ -23,7 +23,7 @@ pub struct ShowFault {
 }
 
 impl From<CaptureFault> for ShowFault {
-    ghost from_gives = { λ fault e. e ≡ alone fault };
+    ghost from_gives = { λ fault e. e ≡ without_refusal fault };
 
     fn from(fault: CaptureFault) -> ShowFault {
         ShowFault {
@@ -35,9 +35,9 @@ impl From<CaptureFault> for ShowFault {
 
 // Options of a format change nothing: the text is always the same.
 impl fmt::Display for ShowFault {
-    ghost output = { λ e. Some (fault_words e) };
+    ghost output = { λ e. Some (fault_message e) };
 
-    ghost styled_output = { λ e _. Some (fault_words e) };
+    ghost styled_output = { λ e _. Some (fault_message e) };
 
     fn fmt<W: fmt::Write>(&self, f: &mut fmt::Formatter<W>) -> fmt::Result {
         f.write_str(self.fault.text().as_str())?;
@@ -53,26 +53,26 @@ impl fmt::Display for ShowFault {
 
 /// Keeps the bytes of a cut frame, if there are any, and reserves capacity for those of the piece
 /// that follows them.
-pub(crate) fn keep(front: &mut Vec<u8>, kept: &[u8], piece: &[u8]) -> Result<(), AllocError>
-    ensures kept { OnOk result (front.new.items ≡ kept.now) }
-    ensures room { OnOk result (0 < length kept.now
-        → length kept.now + length piece.now ≤ vec_capacity front.new) }
+pub(crate) fn keep(prefix: &mut Vec<u8>, kept: &[u8], piece: &[u8]) -> Result<(), AllocError>
+    ensures kept { OnOk result (prefix.new.items ≡ kept.now) }
+    ensures capacity { OnOk result (0 < length kept.now
+        → length kept.now + length piece.now ≤ vec_capacity prefix.new) }
 {
-    front.clear();
+    prefix.clear();
     if kept.is_empty() {
         return Ok(());
     }
-    front.reserve(kept.len() + piece.len())?;
-    append(kept, front);
+    prefix.reserve(kept.len() + piece.len())?;
+    append(kept, prefix);
     Ok(())
 }
 
 /// Returns the reason of a refused body, from bytes that begin at the offset `start` and have the
 /// frame with the fault.
 fn refusal_at(fault: CaptureFault, start: u64, bytes: &[u8]) -> Option<Refusal>
-    requires { fault.kind ≡ FaultKind.Refused → StandsIn start bytes.now fault.offset }
+    requires { fault.kind ≡ FaultKind.Refused → HasFrameAt start bytes.now fault.offset }
     ensures { (before : List ℕ) → length before ≡ start
-        → all_found result ≡ refusal_told (before ++ bytes.now) fault.kind fault.offset }
+        → all_found result ≡ reported_refusal (before ++ bytes.now) fault.kind fault.offset }
 {
     match fault.kind {
         FaultKind::Refused => {
@@ -85,27 +85,27 @@ fn refusal_at(fault: CaptureFault, start: u64, bytes: &[u8]) -> Option<Refusal>
     }
 }
 
-/// Returns a fault that came with a piece, with its refusal. `front` has the bytes of the frame
+/// Returns a fault that came with a piece, with its refusal. `prefix` has the bytes of the frame
 /// that was cut before the piece, and these begin at the offset `start`.
-pub(crate) fn told(fault: CaptureFault, start: u64, front: &mut Vec<u8>, piece: &[u8]) -> ShowFault
+pub(crate) fn with_refusal(fault: CaptureFault, start: u64, prefix: &mut Vec<u8>, piece: &[u8]) -> ShowFault
     requires frame { fault.kind ≡ FaultKind.Refused
-        → StandsIn start (front.old.items ++ piece.now) fault.offset }
-    requires room { 0 < length front.old.items
-        → length front.old.items + length piece.now ≤ vec_capacity front.old }
+        → HasFrameAt start (prefix.old.items ++ piece.now) fault.offset }
+    requires capacity { 0 < length prefix.old.items
+        → length prefix.old.items + length piece.now ≤ vec_capacity prefix.old }
     ensures fault { result.fault ≡ fault }
     ensures refusal { (before : List ℕ) → length before ≡ start
         → all_found result.refusal
-        ≡ refusal_told (before ++ (front.old.items ++ piece.now)) fault.kind fault.offset }
+        ≡ reported_refusal (before ++ (prefix.old.items ++ piece.now)) fault.kind fault.offset }
 {
-    if front.is_empty() {
+    if prefix.is_empty() {
         return ShowFault {
             fault,
             refusal: refusal_at(fault, start, piece),
         };
     }
-    append(piece, front);
+    append(piece, prefix);
     ShowFault {
         fault,
-        refusal: refusal_at(fault, start, front.as_slice()),
+        refusal: refusal_at(fault, start, prefix.as_slice()),
     }
 }

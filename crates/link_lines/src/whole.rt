@@ -3,18 +3,18 @@
 ghost use Rattle.std.specs.Prelude.{◌≡◌, ◌≢◌, ◌≤◌, ◌<◌, ◌%◌, ◌++◌, ℕ, List, length, take, Some, IfErr, OnOk, OnErr};
 ghost use Rattle.link_capture_grammar.specs.Captures.{first_fault, texts, IsLegal, StopsAt};
 ghost use Rattle.link_capture_grammar.specs.Same.{SameCapture};
-ghost use Rattle.link_capture_reader.specs.Readers.{IsPlaceOf};
-ghost use Rattle.link_lines.specs.Meanings.{GainsLines, IsShownInFront, ShownAlike};
+ghost use Rattle.link_capture_reader.specs.Readers.{IsFrameOffsetOf};
+ghost use Rattle.link_lines.specs.Meanings.{GainsLines, IsShownAtStart, ShownAlike};
 ghost use Rattle.link_lines.specs.Options.{choice_of};
-ghost use Rattle.link_lines.specs.Outcomes.{WantsMemoryAt};
+ghost use Rattle.link_lines.specs.Outcomes.{NeedsMemoryAt};
 ghost use Rattle.link_lines_texts.specs.Captures.{text_lines};
 
 use crate::lines::push_lines;
 use crate::options::LineOptions;
 use link_capture_grammar::fault::{CaptureFault, FaultKind};
 use link_capture_grammar::laws::{
-    captures_go_by_frames, frames_stand_alone, joined_captures_have_joined_texts, texts_are_normal,
-    texts_of_a_prefix_stay, texts_tell_meanings,
+    captures_unfold_by_frames, frames_are_independent, joined_captures_have_joined_texts, texts_are_normal,
+    texts_of_a_prefix_stay, texts_determine_meanings,
 };
 use link_capture_reader::normalize_bytes;
 use link_lines_texts::laws::lines_are_joined;
@@ -70,14 +70,14 @@ pub fn show_bytes(
         (λ fault. fault.kind ≢ FaultKind.Memory → (first_fault limit bytes.now ≡ Some fault)
         × GainsLines (choice_of options.entry) limit bytes.now out.old out.new) }
     // A fault's offset is the start of a frame.
-    ensures place { IfErr result (λ fault. IsPlaceOf bytes.now fault.offset) }
+    ensures frame_start { IfErr result (λ fault. IsFrameOffsetOf bytes.now fault.offset) }
     // If an allocation fails, the bytes before the offset are legal, and their lines are appended.
     ensures memory { IfErr result
         (λ fault. fault.kind ≡ FaultKind.Memory → StopsAt limit bytes.now fault.offset
         × GainsLines (choice_of options.entry) limit (take fault.offset bytes.now) out.old out.new) }
     // An allocation fails only if the message at the offset is accepted.
     ensures cause { IfErr result
-        (λ fault. fault.kind ≡ FaultKind.Memory → WantsMemoryAt limit bytes.now fault.offset) }
+        (λ fault. fault.kind ≡ FaultKind.Memory → NeedsMemoryAt limit bytes.now fault.offset) }
     // A capture and its texts have the same lines.
     ensures normal { ShownAlike (choice_of options.entry) limit (texts limit bytes.now) bytes.now }
     // Captures that mean the same have the same lines.
@@ -86,13 +86,13 @@ pub fn show_bytes(
     // The capture that follows a legal one, whose size is a multiple of 4, is shown independently
     // of it.
     ensures joined { IsLegal limit bytes.now → length bytes.now % 4 ≡ 0
-        → IsShownInFront (choice_of options.entry) limit bytes.now }
+        → IsShownAtStart (choice_of options.entry) limit bytes.now }
 {
     texts_are_normal();
-    texts_tell_meanings();
+    texts_determine_meanings();
     joined_captures_have_joined_texts();
-    captures_go_by_frames();
-    frames_stand_alone();
+    captures_unfold_by_frames();
+    frames_are_independent();
     texts_of_a_prefix_stay();
     lines_are_joined();
     let mut texts = Vec::new(alloc);

@@ -1,5 +1,5 @@
 pub mod Named
 mod RawRows
-pub mod RawTold
+pub mod RawDetermined
 pub mod Rows
 pub mod Words

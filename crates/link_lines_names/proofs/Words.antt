@@ -2,8 +2,8 @@
 use Rattle.std.proofs.Common.{◌≡◌, ℕ, ◌<◌, ◌≤◌, true, List, [], ◌∷◌, ◌++◌, drop, refl, ap, ◌∙◌, append_assoc, arith}
 use Rattle.std.specs.Prelude.{get_or, nat_le}
 use Rattle.std.proofs.lemmas.Bool.{and_parts, leb-true}
-use Rattle.link_lines_values.specs.Laws.{Ends, IsBehindASpace, IsLine}
-pub use Rattle.link_lines_values.proofs.NumbersTold.{Digits as IsWord, behind, cut as cut_word}
+use Rattle.link_lines_values.specs.Laws.{Ends, BeginsWithSpace, IsLine}
+pub use Rattle.link_lines_values.proofs.NumbersDetermined.{Digits as IsWord, following, cut as cut_word}
 pub use Rattle.link_lines_values.proofs.OneLine.{digits_line as word_line, lines_joined}
 use Rattle.link_lines_names.specs.Names.{is_word}
 
@@ -17,12 +17,12 @@ cut_line (x ∷ a) (y ∷ b) s t h k e =
     (cc, rest.1)
 
 -- The bytes of names and numbers, none below the digits.
-pub word_of : (a : List ℕ) → is_word a ≡ true → IsWord a
-word_of [] h = record {}
-word_of (c ∷ a) h = let p = and_parts (nat_le 48 c) (is_word a) h in (leb-true 48 c p.0, word_of a p.1)
+pub message_label : (a : List ℕ) → is_word a ≡ true → IsWord a
+message_label [] h = record {}
+message_label (c ∷ a) h = let p = and_parts (nat_le 48 c) (is_word a) h in (leb-true 48 c p.0, message_label a p.1)
 
 -- A space ends a word.
-pub space_ends : (s : List ℕ) → IsBehindASpace s → Ends s
+pub space_ends : (s : List ℕ) → BeginsWithSpace s → Ends s
 space_ends [] h = record {}
 space_ends (c ∷ s) h = omega (arith, h)
 

@@ -1,5 +1,5 @@
 pub mod Names
 pub mod Raw
-pub mod Behind
+pub mod Format
 pub mod Views
 pub mod Laws

@@ -6,29 +6,29 @@ abbrev pub Named : Type 0 → Type 0
 Named B = List ℕ × B
 
 -- A kind, with its name if it has one.
-abbrev pub Titled : Type 0 → Type 0
-Titled B = ℕ × Option (Named B)
+abbrev pub NameRowOf : Type 0 → Type 0
+NameRowOf B = ℕ × Option (Named B)
 
 -- The name that a value in code represents.
 abbrev pub named_of : {N A B : Type 0} → (N → List ℕ) → (A → B) → N × A → Named B
 named_of f g n = (f n.0, g n.1)
 
 -- The rows that a constant in code represents.
-abbrev pub titles_in : {N A B : Type 0} → (N → List ℕ) → (A → B) → List (ℕ × Option (N × A)) → List (Titled B)
-titles_in f g [] = []
-titles_in f g (t ∷ ts) = (t.0, option_map (named_of f g) t.1) ∷ titles_in f g ts
+abbrev pub rows_in_code : {N A B : Type 0} → (N → List ℕ) → (A → B) → List (ℕ × Option (N × A)) → List (NameRowOf B)
+rows_in_code f g [] = []
+rows_in_code f g (t ∷ ts) = (t.0, option_map (named_of f g) t.1) ∷ rows_in_code f g ts
 
 -- ---- tests of whole tables
 
 -- A property of a kind and its name, true for a kind without one.
-abbrev pub if_named : {B : Type 0} → (ℕ → Named B → Bool) → Titled B → Bool
+abbrev pub if_named : {B : Type 0} → (ℕ → Named B → Bool) → NameRowOf B → Bool
 if_named f (k, None) = true
 if_named f (k, Some n) = f k n
 
 -- Whether a property holds for each kind that has a name, and its name.
-abbrev pub all_titles : {B : Type 0} → (ℕ → Named B → Bool) → List (Titled B) → Bool
-all_titles f [] = true
-all_titles f (t ∷ ts) = if_named f t && all_titles f ts
+abbrev pub all_named_rows : {B : Type 0} → (ℕ → Named B → Bool) → List (NameRowOf B) → Bool
+all_named_rows f [] = true
+all_named_rows f (t ∷ ts) = if_named f t && all_named_rows f ts
 
 -- Whether no byte of a string is below the digits, so that a space or a newline ends it.
 abbrev pub is_word : List ℕ → Bool
@@ -49,11 +49,11 @@ abbrev pub is_other : {B : Type 0} → List ℕ → ℕ → Named B → Bool
 is_other s k n = not (bytes_eq s n.0)
 
 -- Whether no later row has the name of this row.
-abbrev pub is_new : {B : Type 0} → Titled B → List (Titled B) → Bool
+abbrev pub is_new : {B : Type 0} → NameRowOf B → List (NameRowOf B) → Bool
 is_new (k, None) ts = true
-is_new (k, Some n) ts = all_titles (is_other n.0) ts
+is_new (k, Some n) ts = all_named_rows (is_other n.0) ts
 
 -- Whether no two rows have one name.
-abbrev pub names_apart : {B : Type 0} → List (Titled B) → Bool
+abbrev pub names_apart : {B : Type 0} → List (NameRowOf B) → Bool
 names_apart [] = true
 names_apart (t ∷ ts) = is_new t ts && names_apart ts

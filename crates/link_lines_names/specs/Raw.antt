@@ -4,12 +4,12 @@ use Rattle.link_lines_values.specs.declared.fields.FieldOf.{FieldOf}
 use Rattle.link_lines_values.specs.declared.values.ShownBy.{ShownBy}
 use Rattle.link_lines_values.specs.Bytes.{bytes_text}
 use Rattle.link_lines_values.specs.Digits.{four_digits}
-use Rattle.link_lines_values.specs.Placed.{find}
-use Rattle.link_lines_values.specs.Values.{Shown, seen, value_text}
+use Rattle.link_lines_values.specs.DenseRows.{find}
+use Rattle.link_lines_values.specs.Values.{Shown, format_of, value_text}
 use Rattle.link_lines_names.specs.declared.raw.RawBy.{RawBy}
 use Rattle.link_lines_names.specs.declared.raw.RawBy.TheVariants as R
 use Rattle.link_lines_names.specs.declared.raw_names.TheConstants.{VLAN_NAMES, BRIDGE_NAMES, BOND_NAMES, TUN_NAMES, CAN_NAMES, HSR_NAMES, DSA_NAMES, BRIDGE_PORT_NAMES, BOND_PORT_NAMES, BRIDGE_SPECIFIC_NAMES, INET6_PROTOCOL_NAMES, LINK_NAMES, VF_NAMES, GENEVE_NAMES, GRE_NAMES, GRE6_NAMES, XFRM_NAMES}
-use Rattle.link_lines_names.specs.Names.{Named, Titled, titles_in}
+use Rattle.link_lines_names.specs.Names.{Named, NameRowOf, rows_in_code}
 use Rattle.link_tables.specs.declared.table.TheConstants.{GENEVE, GRE, GRE6, LINK_BRIDGE, LINK_INET6, LINK_OTHER, LINK_UNSPEC, VF, VLAN, XFRM}
 
 -- How a raw payload is shown.
@@ -19,57 +19,57 @@ Raw = RawBy Shown
 -- The format that a value in code represents.
 abbrev pub raw_of : {N T S : Type 0} → (N → List ℕ) → (T → List (ℕ × N)) → (S → List (FieldOf N)) → RawBy (ShownBy T S) → Raw
 raw_of f g h R.Bytes = R.Bytes
-raw_of f g h (R.Sized n shown) = R.Sized n (seen f g h shown)
+raw_of f g h (R.Sized n shown) = R.Sized n (format_of f g h shown)
 
 -- The rows that a constant in code represents.
-abbrev pub raw_said : {N T S : Type 0} → (N → List ℕ) → (T → List (ℕ × N)) → (S → List (FieldOf N)) → List (ℕ × Option (N × RawBy (ShownBy T S))) → List (Titled Raw)
-raw_said f g h ts = titles_in f (raw_of f g h) ts
+abbrev pub raw_rows_of : {N T S : Type 0} → (N → List ℕ) → (T → List (ℕ × N)) → (S → List (FieldOf N)) → List (ℕ × Option (N × RawBy (ShownBy T S))) → List (NameRowOf Raw)
+raw_rows_of f g h ts = rows_in_code f (raw_of f g h) ts
 
 -- The names in tables of raw attributes: data of vlan, bridge, bond, tun, can, hsr and dsa, port data of bridge and
 -- bond, and tables of bridges and IPv6.
-unfoldable pub raw_lists : List (List (Titled Raw))
+unfoldable pub raw_lists : List (List (NameRowOf Raw))
 raw_lists =
-    map (λ b. raw_said (λ n. n.now) (λ t. t.now) (λ r. r.now) b.now)
+    map (λ b. raw_rows_of (λ n. n.now) (λ t. t.now) (λ r. r.now) b.now)
     (VLAN_NAMES ∷ BRIDGE_NAMES ∷ BOND_NAMES ∷ TUN_NAMES ∷ CAN_NAMES ∷ HSR_NAMES ∷ DSA_NAMES ∷
     BRIDGE_PORT_NAMES ∷ BOND_PORT_NAMES ∷ BRIDGE_SPECIFIC_NAMES ∷ INET6_PROTOCOL_NAMES ∷ [])
 
 -- The names of virtual functions' kinds for which the table has no row.
-abbrev pub vf_titles : List (Titled Raw)
-vf_titles = raw_said (λ n. n.now) (λ t. t.now) (λ r. r.now) VF_NAMES.now
+abbrev pub vf_names : List (NameRowOf Raw)
+vf_names = raw_rows_of (λ n. n.now) (λ t. t.now) (λ r. r.now) VF_NAMES.now
 
 -- The names of links' kinds for which the tables have no row.
-abbrev pub link_titles : List (Titled Raw)
-link_titles = raw_said (λ n. n.now) (λ t. t.now) (λ r. r.now) LINK_NAMES.now
+abbrev pub link_names : List (NameRowOf Raw)
+link_names = raw_rows_of (λ n. n.now) (λ t. t.now) (λ r. r.now) LINK_NAMES.now
 
 -- The names of kinds in data of geneve for which the table has no row.
-abbrev pub geneve_titles : List (Titled Raw)
-geneve_titles = raw_said (λ n. n.now) (λ t. t.now) (λ r. r.now) GENEVE_NAMES.now
+abbrev pub geneve_names : List (NameRowOf Raw)
+geneve_names = raw_rows_of (λ n. n.now) (λ t. t.now) (λ r. r.now) GENEVE_NAMES.now
 
 -- The names of kinds in data of gre over IPv4 for which the table has no row.
-abbrev pub gre_titles : List (Titled Raw)
-gre_titles = raw_said (λ n. n.now) (λ t. t.now) (λ r. r.now) GRE_NAMES.now
+abbrev pub gre_names : List (NameRowOf Raw)
+gre_names = raw_rows_of (λ n. n.now) (λ t. t.now) (λ r. r.now) GRE_NAMES.now
 
 -- The names of kinds in data of gre over IPv6 for which the table has no row.
-abbrev pub gre6_titles : List (Titled Raw)
-gre6_titles = raw_said (λ n. n.now) (λ t. t.now) (λ r. r.now) GRE6_NAMES.now
+abbrev pub gre6_names : List (NameRowOf Raw)
+gre6_names = raw_rows_of (λ n. n.now) (λ t. t.now) (λ r. r.now) GRE6_NAMES.now
 
 -- The names of kinds in data of xfrm for which the table has no row.
-abbrev pub xfrm_titles : List (Titled Raw)
-xfrm_titles = raw_said (λ n. n.now) (λ t. t.now) (λ r. r.now) XFRM_NAMES.now
+abbrev pub xfrm_names : List (NameRowOf Raw)
+xfrm_names = raw_rows_of (λ n. n.now) (λ t. t.now) (λ r. r.now) XFRM_NAMES.now
 
 -- The names of kinds for which the table with this index has no row.
-unfoldable pub table_titles : ℕ → List (Titled Raw)
-table_titles n =
-    cond (n == VF.0) vf_titles (cond (n == LINK_UNSPEC.0 || (n == LINK_BRIDGE.0 || (n == LINK_INET6.0 || n == LINK_OTHER.0))) link_titles
-    (cond (n == GENEVE.0) geneve_titles (cond (n == GRE.0) gre_titles (cond (n == GRE6.0) gre6_titles (cond (n == XFRM.0) xfrm_titles [])))))
+unfoldable pub table_names : ℕ → List (NameRowOf Raw)
+table_names n =
+    cond (n == VF.0) vf_names (cond (n == LINK_UNSPEC.0 || (n == LINK_BRIDGE.0 || (n == LINK_INET6.0 || n == LINK_OTHER.0))) link_names
+    (cond (n == GENEVE.0) geneve_names (cond (n == GRE.0) gre_names (cond (n == GRE6.0) gre6_names (cond (n == XFRM.0) xfrm_names [])))))
 
 -- The names of raw attributes in the table with this index; the tables with raw attributes only come last.
-unfoldable pub raw_titles_of : ℕ → List (Titled Raw)
-raw_titles_of n = cond (nat_lt n VLAN.0) (table_titles n) (get_or raw_lists (n - VLAN.0) [])
+unfoldable pub raw_names_of : ℕ → List (NameRowOf Raw)
+raw_names_of n = cond (nat_lt n VLAN.0) (table_names n) (get_or raw_lists (n - VLAN.0) [])
 
 -- The name of a kind, of which all 16 bits count.
 abbrev pub raw_name : ℕ → ℕ → Option (Named Raw)
-raw_name table kind = find kind (raw_titles_of table)
+raw_name table kind = find kind (raw_names_of table)
 
 -- The text of a payload: its value if it has the kernel's size, else its bytes.
 abbrev pub raw_payload : Raw → List ℕ → List ℕ

@@ -2,10 +2,10 @@
 // kept as bytes.
 #![tactic(auto)]
 
-mod behind;
+mod format;
 pub mod laws;
 mod raw;
 mod raw_names;
 
-pub use behind::{Behind, BehindBy, known_behind};
+pub use format::{Format, FormatBy, known_format};
 pub use raw::push_raw;

@@ -3,11 +3,11 @@
 
 ghost use Rattle.std.specs.Prelude.{◌≡◌, ◌++◌, true, [], codes, get_or, option_map, OnOk};
 ghost use Rattle.link_lines_names.specs.Names.{named_of};
-ghost use Rattle.link_lines_names.specs.Raw.{raw_lists, raw_name, raw_of, raw_payload, raw_said, raw_text};
-ghost use Rattle.link_lines_names.specs.Raw.{raw_titles_of, table_titles};
+ghost use Rattle.link_lines_names.specs.Raw.{raw_lists, raw_name, raw_of, raw_payload, raw_rows_of, raw_text};
+ghost use Rattle.link_lines_names.specs.Raw.{raw_names_of, table_names};
 ghost use Rattle.link_lines_values.specs.Bytes.{bytes_text};
 ghost use Rattle.link_lines_values.specs.Digits.{four_digits};
-ghost use Rattle.link_lines_values.specs.Placed.{are_dense};
+ghost use Rattle.link_lines_values.specs.DenseRows.{are_dense};
 
 use crate::raw_names;
 use link_lines_values::{Shown, look_up, push_bytes, push_four_digits, push_value};
@@ -48,11 +48,11 @@ pub type Raw = RawBy<Shown>;
 pub type RawName = (&'static [u8], Raw);
 
 /// A kind, with its name if raw attributes of that kind have one.
-pub type RawTitle = (u16, Option<RawName>);
+pub type RawRow = (u16, Option<RawName>);
 
 /// The entry of one kind: its name, and how its payload is shown.
 #[macro_export]
-macro_rules! raw_title {
+macro_rules! raw_name_row {
     ($kind:literal) => {
         ($kind, None)
     };
@@ -66,16 +66,16 @@ macro_rules! raw_title {
 
 /// The entries of a list of kinds.
 #[macro_export]
-macro_rules! raw_titles {
+macro_rules! raw_rows_in {
     ($($kind:literal $(, $name:literal $(, $size:literal, $shown:expr)?)?;)*) => {
-        [$($crate::raw_title!($kind $(, $name $(, $size, $shown)?)?),)*]
+        [$($crate::raw_name_row!($kind $(, $name $(, $size, $shown)?)?),)*]
     };
 }
 
 /// Returns the names in a table of raw attributes, by its index from that of the first one on.
 #[tactic(auto, unfolding(crate::specs::Raw::raw_lists))]
-fn list_titles(list: u8) -> &'static [RawTitle]
-    ensures titles { raw_said (λ b. b.now) (λ t. t.now) (λ r. r.now) result.now ≡ get_or raw_lists list [] }
+fn list_names(list: u8) -> &'static [RawRow]
+    ensures attribute_names { raw_rows_of (λ b. b.now) (λ t. t.now) (λ r. r.now) result.now ≡ get_or raw_lists list [] }
     ensures dense { are_dense result.now ≡ true }
 {
     match list {
@@ -95,9 +95,9 @@ fn list_titles(list: u8) -> &'static [RawTitle]
 }
 
 /// Returns the names of kinds for which a table has no row.
-#[tactic(auto, unfolding(crate::specs::Raw::table_titles))]
-fn table_titles(table: u8) -> &'static [RawTitle]
-    ensures titles { raw_said (λ b. b.now) (λ t. t.now) (λ r. r.now) result.now ≡ table_titles table }
+#[tactic(auto, unfolding(crate::specs::Raw::table_names))]
+fn table_names(table: u8) -> &'static [RawRow]
+    ensures attribute_names { raw_rows_of (λ b. b.now) (λ t. t.now) (λ r. r.now) result.now ≡ table_names table }
     ensures dense { are_dense result.now ≡ true }
 {
     match table {
@@ -112,15 +112,15 @@ fn table_titles(table: u8) -> &'static [RawTitle]
 }
 
 /// Returns the names of the raw attributes in a table.
-#[tactic(auto, unfolding(crate::specs::Raw::raw_titles_of))]
-fn raw_titles_of(table: Table) -> &'static [RawTitle]
-    ensures titles { raw_said (λ b. b.now) (λ t. t.now) (λ r. r.now) result.now ≡ raw_titles_of table.0 }
+#[tactic(auto, unfolding(crate::specs::Raw::raw_names_of))]
+fn raw_names_of(table: Table) -> &'static [RawRow]
+    ensures attribute_names { raw_rows_of (λ b. b.now) (λ t. t.now) (λ r. r.now) result.now ≡ raw_names_of table.0 }
     ensures dense { are_dense result.now ≡ true }
 {
     if table.0 < VLAN {
-        table_titles(table.0)
+        table_names(table.0)
     } else {
-        list_titles(table.0 - VLAN)
+        list_names(table.0 - VLAN)
     }
 }
 
@@ -129,7 +129,7 @@ fn raw_titles_of(table: Table) -> &'static [RawTitle]
 fn raw_name(table: Table, kind: u16) -> Option<RawName>
     ensures { option_map (named_of (λ b. b.now) (raw_of (λ b. b.now) (λ t. t.now) (λ r. r.now))) result ≡ raw_name table.0 kind }
 {
-    look_up(raw_titles_of(table), kind)
+    look_up(raw_names_of(table), kind)
 }
 
 /// Appends the payload of a raw attribute that has a name.

@@ -3,15 +3,15 @@
 //! with a kind only is for a kind without a name.
 
 use crate::raw::RawBy::{Bytes, Sized};
-use crate::raw::RawTitle;
-use crate::raw_titles;
+use crate::raw::RawRow;
+use crate::raw_rows_in;
 use link_lines_values::ShownBy::{
     BigEndian, Flags, FlagsAndMask, HardwareAddress, Number, Presence, Signed,
 };
 use link_lines_values::{BOND_MODE, ETHERNET_PROTOCOL, IN6_ADDR_GEN_MODE, PLAIN};
 
 /// Data of `vlan` (if_link.h: IFLA_VLAN_*).
-pub const VLAN_NAMES: &[RawTitle] = &raw_titles! {
+pub const VLAN_NAMES: &[RawRow] = &raw_rows_in! {
     1, b"IFLA_VLAN_ID", 2, Number(PLAIN);
     2, b"IFLA_VLAN_FLAGS", 8, FlagsAndMask;
     3, b"IFLA_VLAN_EGRESS_QOS";
@@ -20,7 +20,7 @@ pub const VLAN_NAMES: &[RawTitle] = &raw_titles! {
 };
 
 /// Data of `bridge` (if_link.h: IFLA_BR_*).
-pub const BRIDGE_NAMES: &[RawTitle] = &raw_titles! {
+pub const BRIDGE_NAMES: &[RawRow] = &raw_rows_in! {
     1, b"IFLA_BR_FORWARD_DELAY", 4, Number(PLAIN);
     2, b"IFLA_BR_HELLO_TIME", 4, Number(PLAIN);
     3, b"IFLA_BR_MAX_AGE", 4, Number(PLAIN);
@@ -73,7 +73,7 @@ pub const BRIDGE_NAMES: &[RawTitle] = &raw_titles! {
 };
 
 /// Data of `bond` (if_link.h: IFLA_BOND_*).
-pub const BOND_NAMES: &[RawTitle] = &raw_titles! {
+pub const BOND_NAMES: &[RawRow] = &raw_rows_in! {
     1, b"IFLA_BOND_MODE", 1, Number(BOND_MODE);
     2, b"IFLA_BOND_ACTIVE_SLAVE", 4, Number(PLAIN);
     3, b"IFLA_BOND_MIIMON", 4, Number(PLAIN);
@@ -110,7 +110,7 @@ pub const BOND_NAMES: &[RawTitle] = &raw_titles! {
 };
 
 /// Data of `tun` (if_link.h: IFLA_TUN_*).
-pub const TUN_NAMES: &[RawTitle] = &raw_titles! {
+pub const TUN_NAMES: &[RawRow] = &raw_rows_in! {
     1, b"IFLA_TUN_OWNER", 4, Number(PLAIN);
     2, b"IFLA_TUN_GROUP", 4, Number(PLAIN);
     3, b"IFLA_TUN_TYPE", 1, Number(PLAIN);
@@ -123,7 +123,7 @@ pub const TUN_NAMES: &[RawTitle] = &raw_titles! {
 };
 
 /// Data of `can` (can/netlink.h: IFLA_CAN_*).
-pub const CAN_NAMES: &[RawTitle] = &raw_titles! {
+pub const CAN_NAMES: &[RawRow] = &raw_rows_in! {
     1, b"IFLA_CAN_BITTIMING";
     2, b"IFLA_CAN_BITTIMING_CONST";
     3, b"IFLA_CAN_CLOCK", 4, Number(PLAIN);
@@ -144,7 +144,7 @@ pub const CAN_NAMES: &[RawTitle] = &raw_titles! {
 };
 
 /// Data of `hsr` (if_link.h: IFLA_HSR_*).
-pub const HSR_NAMES: &[RawTitle] = &raw_titles! {
+pub const HSR_NAMES: &[RawRow] = &raw_rows_in! {
     1, b"IFLA_HSR_SLAVE1", 4, Number(PLAIN);
     2, b"IFLA_HSR_SLAVE2", 4, Number(PLAIN);
     3, b"IFLA_HSR_MULTICAST_SPEC", 1, Number(PLAIN);
@@ -156,12 +156,12 @@ pub const HSR_NAMES: &[RawTitle] = &raw_titles! {
 };
 
 /// Data of `dsa` (if_link.h: IFLA_DSA_*).
-pub const DSA_NAMES: &[RawTitle] = &raw_titles! {
+pub const DSA_NAMES: &[RawRow] = &raw_rows_in! {
     1, b"IFLA_DSA_CONDUIT", 4, Number(PLAIN);
 };
 
 /// Port data of `bridge`, and IFLA_PROTINFO of bridges (if_link.h: IFLA_BRPORT_*).
-pub const BRIDGE_PORT_NAMES: &[RawTitle] = &raw_titles! {
+pub const BRIDGE_PORT_NAMES: &[RawRow] = &raw_rows_in! {
     1, b"IFLA_BRPORT_STATE", 1, Number(PLAIN);
     2, b"IFLA_BRPORT_PRIORITY", 2, Number(PLAIN);
     3, b"IFLA_BRPORT_COST", 4, Number(PLAIN);
@@ -209,7 +209,7 @@ pub const BRIDGE_PORT_NAMES: &[RawTitle] = &raw_titles! {
 };
 
 /// Port data of `bond` (if_link.h: IFLA_BOND_SLAVE_*).
-pub const BOND_PORT_NAMES: &[RawTitle] = &raw_titles! {
+pub const BOND_PORT_NAMES: &[RawRow] = &raw_rows_in! {
     1, b"IFLA_BOND_SLAVE_STATE", 1, Number(PLAIN);
     2, b"IFLA_BOND_SLAVE_MII_STATUS", 1, Number(PLAIN);
     3, b"IFLA_BOND_SLAVE_LINK_FAILURE_COUNT", 4, Number(PLAIN);
@@ -222,7 +222,7 @@ pub const BOND_PORT_NAMES: &[RawTitle] = &raw_titles! {
 };
 
 /// IFLA_AF_SPEC of bridges (if_bridge.h: IFLA_BRIDGE_*).
-pub const BRIDGE_SPECIFIC_NAMES: &[RawTitle] = &raw_titles! {
+pub const BRIDGE_SPECIFIC_NAMES: &[RawRow] = &raw_rows_in! {
     0, b"IFLA_BRIDGE_FLAGS", 2, Flags;
     1, b"IFLA_BRIDGE_MODE", 2, Number(PLAIN);
     2, b"IFLA_BRIDGE_VLAN_INFO";
@@ -233,7 +233,7 @@ pub const BRIDGE_SPECIFIC_NAMES: &[RawTitle] = &raw_titles! {
 };
 
 /// IFLA_PROTINFO of IPv6 (if_link.h: IFLA_INET6_*).
-pub const INET6_PROTOCOL_NAMES: &[RawTitle] = &raw_titles! {
+pub const INET6_PROTOCOL_NAMES: &[RawRow] = &raw_rows_in! {
     1, b"IFLA_INET6_FLAGS", 4, Flags;
     2, b"IFLA_INET6_CONF";
     3, b"IFLA_INET6_STATS";
@@ -246,7 +246,7 @@ pub const INET6_PROTOCOL_NAMES: &[RawTitle] = &raw_titles! {
 };
 
 /// Links (if_link.h: IFLA_*).
-pub const LINK_NAMES: &[RawTitle] = &raw_titles! {
+pub const LINK_NAMES: &[RawRow] = &raw_rows_in! {
     8, b"IFLA_COST";
     9, b"IFLA_PRIORITY";
     10;
@@ -264,19 +264,19 @@ pub const LINK_NAMES: &[RawTitle] = &raw_titles! {
 };
 
 /// Virtual functions (if_link.h: IFLA_VF_*).
-pub const VF_NAMES: &[RawTitle] = &raw_titles! {
+pub const VF_NAMES: &[RawRow] = &raw_rows_in! {
     10, b"IFLA_VF_IB_NODE_GUID";
     11, b"IFLA_VF_IB_PORT_GUID";
 };
 
 /// Data of `geneve` (if_link.h: IFLA_GENEVE_*).
-pub const GENEVE_NAMES: &[RawTitle] = &raw_titles! {
+pub const GENEVE_NAMES: &[RawRow] = &raw_rows_in! {
     15, b"IFLA_GENEVE_PORT_RANGE";
     16, b"IFLA_GENEVE_GRO_HINT", 0, Presence;
 };
 
 /// Data of kinds of `gre` over IPv4 (if_tunnel.h: IFLA_GRE_*).
-pub const GRE_NAMES: &[RawTitle] = &raw_titles! {
+pub const GRE_NAMES: &[RawRow] = &raw_rows_in! {
     11, b"IFLA_GRE_ENCAP_LIMIT", 1, Number(PLAIN);
     12, b"IFLA_GRE_FLOWINFO", 4, BigEndian(PLAIN);
     13, b"IFLA_GRE_FLAGS", 4, Flags;
@@ -285,7 +285,7 @@ pub const GRE_NAMES: &[RawTitle] = &raw_titles! {
 };
 
 /// Data of kinds of `gre` over IPv6 (if_tunnel.h: IFLA_GRE_*).
-pub const GRE6_NAMES: &[RawTitle] = &raw_titles! {
+pub const GRE6_NAMES: &[RawRow] = &raw_rows_in! {
     10, b"IFLA_GRE_PMTUDISC", 1, Number(PLAIN);
     11; 12;
     13, b"IFLA_GRE_FLAGS", 4, Flags;
@@ -294,6 +294,6 @@ pub const GRE6_NAMES: &[RawTitle] = &raw_titles! {
 };
 
 /// Data of `xfrm` (if_link.h: IFLA_XFRM_*).
-pub const XFRM_NAMES: &[RawTitle] = &raw_titles! {
+pub const XFRM_NAMES: &[RawRow] = &raw_rows_in! {
     3, b"IFLA_XFRM_COLLECT_METADATA", 0, Presence;
 };

@@ -5,7 +5,7 @@ use Rattle.link_lines_values.specs.Names.{Text, texts_of}
 use Rattle.link_lines_values.specs.declared.flags.TheConstants.{LINK_FLAGS}
 use Rattle.link_lines_values.specs.declared.number_texts.TheConstants.{AMT_MODE, GENEVE_DF, VXLAN_DF, GTP_ROLE, TUNNEL_ENCAP_TYPE, GRE_ENCAP_TYPE, ER_SPAN_DIR, IP_VLAN_MODE, MAC_VLAN_MODE, NETKIT_MODE, NETKIT_POLICY, NETKIT_SCRUB, STATE, LINK_MODE, IN6_ADDR_GEN_MODE, MCTP_PHYS_BINDING, LINK_LAYER_TYPE, MESSAGE_TYPE}
 use Rattle.linkshow_program.specs.declared.types.TheConstants.{TYPE_WORDS}
-use Rattle.linkshow_program.specs.Types.{words_of}
+use Rattle.linkshow_program.specs.Types.{message_labels}
 use Rattle.link_info_types.specs.AmtTypes.{amt_mode_number, amt_mode_text, listed_amt_modes}
 use Rattle.link_info_types.specs.GeneveTypes.{geneve_df_number, geneve_df_text, listed_geneve_dfs}
 use Rattle.link_info_types.specs.GreTypes.{er_span_dir_number, er_span_dir_text, gre_encap_type_number, gre_encap_type_text, listed_er_span_dirs, listed_gre_encap_types}
@@ -55,4 +55,4 @@ in_lower_case c = cond (nat_le 65 c && nat_le c 90) (c + 32) c
 -- The words by which linkshow knows message types are the names that lines show, in lower case, without the part up to
 -- the first `_`.
 abbrev pub TypesHaveWords : Type 0
-TypesHaveWords = words_of (λ word. word.now) TYPE_WORDS.now ≡ map (λ row. (row.0, map in_lower_case (after_first (λ c. c == 95) row.1))) (texts_of (λ name. name.now) MESSAGE_TYPE.now)
+TypesHaveWords = message_labels (λ word. word.now) TYPE_WORDS.now ≡ map (λ row. (row.0, map in_lower_case (after_first (λ c. c == 95) row.1))) (texts_of (λ name. name.now) MESSAGE_TYPE.now)

@@ -81,8 +81,8 @@ fn flags_and_ranges_are_shown(rt: HostRuntime) -> Result<(), Fail> {
 }
 
 const MARKS: [Case; 5] = [
-    (ShownBy::Truth, &[0], " off"),
-    (ShownBy::Truth, &[0, 0, 2, 0], " on"),
+    (ShownBy::Boolean, &[0], " off"),
+    (ShownBy::Boolean, &[0, 0, 2, 0], " on"),
     (ShownBy::Presence, &[1, 2], ""),
     (ShownBy::OptionalByte, &[], ""),
     (ShownBy::OptionalByte, &[200], " 200"),

@@ -6,30 +6,30 @@ use Rattle.std.proofs.lemmas.Option.{same_Some}
 use Rattle.netlink_packet_core_grammar.specs.Attributes.{Attribute, attribute_header, attribute_length, attribute_text, first_attribute, if_some, list_text, nla_align, zeros}
 use Rattle.netlink_packet_core_grammar.specs.Bytes.{AreBytes}
 use Rattle.netlink_packet_core_grammar.proofs.Attributes.{attributes_of_text, first_attribute_text}
-use Rattle.attribute_tables_grammar.specs.Lists.{Context, Grammar, ListForm, Row, all_accepted, any, first_alone, if_read, is_of_kind_one, kept, list_rule, non_empty, not_empty, nothing, of_kind_one, ports, read_as, rewrite, rewritten, row_of, written_kind}
-use Rattle.link_lines_texts.specs.Telling.{IsOwn}
+use Rattle.attribute_tables_grammar.specs.Lists.{Context, Grammar, ListForm, Row, all_accepted, any, first_only, if_read, is_of_kind_one, kept, list_rule, non_empty, not_empty, nothing, of_kind_one, ports, read_as, rewrite, rewritten, row_of, written_kind}
+use Rattle.link_lines_texts.specs.Determination.{IsCanonical}
 
 -- An attribute that its row accepts and leaves unchanged.
-pub record OwnAttribute (r : Row) (e : Attribute) : Type 0 where
+pub record CanonicalAttribute (r : Row) (e : Attribute) : Type 0 where
   pub small : e.kind < 65536
   pub kind : written_kind r e.kind ≡ e.kind
-  pub payload : IsOwn r.rule e.payload
+  pub payload : IsCanonical r.rule e.payload
 
 -- Attributes in order, each under its row.
-abbrev pub AllOwn : Grammar → Context → List Attribute → Type 0
-AllOwn g c [] = ⊤
-AllOwn g c (e ∷ es) = OwnAttribute (row_of g c e) e × AllOwn g (g.next c e) es
+abbrev pub AllCanonical : Grammar → Context → List Attribute → Type 0
+AllCanonical g c [] = ⊤
+AllCanonical g c (e ∷ es) = CanonicalAttribute (row_of g c e) e × AllCanonical g (g.next c e) es
 
-pub record OwnList (g : Grammar) (p : List ℕ) : Type 0 where
+pub record CanonicalList (g : Grammar) (p : List ℕ) : Type 0 where
   pub attributes : List Attribute
   pub is : p ≡ list_text attributes
-  pub own : AllOwn g nothing attributes
+  pub own : AllCanonical g nothing attributes
 
 -- ---- bytes
 
-front_bytes : (a b : List ℕ) → AreBytes (a ++ b) → AreBytes a
-front_bytes [] b h = record {}
-front_bytes (x ∷ a) b h = (h.0, front_bytes a b h.1)
+prefix_bytes : (a b : List ℕ) → AreBytes (a ++ b) → AreBytes a
+prefix_bytes [] b h = record {}
+prefix_bytes (x ∷ a) b h = (h.0, prefix_bytes a b h.1)
 
 back_bytes : (a b : List ℕ) → AreBytes (a ++ b) → AreBytes b
 back_bytes [] b h = h
@@ -47,11 +47,11 @@ bytes_of : (e : Attribute) (es : List Attribute) → AreBytes (list_text (e ∷ 
 unfolding list_text attribute_text
 bytes_of e es h =
     let n = attribute_length e in
-    let first = front_bytes (attribute_text e) (list_text es) h in
+    let first = prefix_bytes (attribute_text e) (list_text es) h in
     let inside = back_bytes (attribute_header n e.kind) (e.payload ++ zeros (nla_align n - n)) first in
     record {
       small = two_bytes e.kind first.1.1.0 first.1.1.1.0;
-      payload = front_bytes e.payload (zeros (nla_align n - n)) inside;
+      payload = prefix_bytes e.payload (zeros (nla_align n - n)) inside;
       rest = back_bytes (attribute_text e) (list_text es) h;
     }
 
@@ -61,10 +61,10 @@ abbrev first_or : Attribute → List Attribute → Attribute
 first_or d [] = d
 first_or d (e ∷ es) = e
 
-all_own : (g : Grammar) (c : Context) (es : List Attribute) → es ≡ rewritten g c es → all_accepted g c es ≡ true → AreBytes (list_text es) → AllOwn g c es
+all_canonical : (g : Grammar) (c : Context) (es : List Attribute) → es ≡ rewritten g c es → all_accepted g c es ≡ true → AreBytes (list_text es) → AllCanonical g c es
 unfolding rewritten all_accepted
-all_own g c [] h a b = record {}
-all_own g c (e ∷ es) h a b =
+all_canonical g c [] h a b = record {}
+all_canonical g c (e ∷ es) h a b =
     let r = row_of g c e in
     let same : e ≡ rewrite r e = ap (first_or e) h in
     let parts = and_parts (r.rule.accepted e.payload) (all_accepted g (g.next c e) es) a in
@@ -74,7 +74,7 @@ all_own g c (e ∷ es) h a b =
         kind = ap (λ f. f.kind) (sym same);
         payload = record { bytes = bytes.payload; accepted = parts.0; canonical = ap (λ f. f.payload) (sym same) };
       },
-      all_own g (g.next c e) es (ap (drop 1) h) parts.1 bytes.rest,
+      all_canonical g (g.next c e) es (ap (drop 1) h) parts.1 bytes.rest,
     )
 
 -- ---- the attributes read from such a list are those that are written
@@ -110,20 +110,20 @@ none_or_one : (o : Option (Attribute × List ℕ)) (es : List Attribute) → opt
 none_or_one None es h = absurd cc
 none_or_one (Some x) es h = (x.0, sym (same_Some (x.0 ∷ []) es h))
 
-one_text : (e : Attribute) → list_text (e ∷ []) ≡ attribute_text e ++ []
+same_implies_equal_text : (e : Attribute) → list_text (e ∷ []) ≡ attribute_text e ++ []
 unfolding list_text
-one_text e = refl
+same_implies_equal_text e = refl
 
 one_rewritten : (g : Grammar) (e : Attribute) → rewritten g nothing (e ∷ []) ≡ rewrite (row_of g nothing e) e ∷ []
 unfolding rewritten
 one_rewritten g e = refl
 
-alone : (g : Grammar) (es gs : List Attribute) → gs ≡ rewritten g nothing es → option_map (λ x. x.0 ∷ []) (first_attribute (list_text gs)) ≡ Some es → gs ≡ es
-alone g es gs w h =
+single : (g : Grammar) (es gs : List Attribute) → gs ≡ rewritten g nothing es → option_map (λ x. x.0 ∷ []) (first_attribute (list_text gs)) ≡ Some es → gs ≡ es
+single g es gs w h =
     let one = none_or_one (first_attribute (list_text gs)) es h in
     let f = rewrite (row_of g nothing one.0) one.0 in
     let is : gs ≡ f ∷ [] = w ∙ ap (λ z. rewritten g nothing z) one.1 ∙ one_rewritten g one.0 in
-    let read : first_attribute (list_text gs) ≡ Some (f, []) = ap (λ z. first_attribute (list_text z)) is ∙ ap (λ z. first_attribute z) (one_text f) ∙ first_attribute_text f [] in
+    let read : first_attribute (list_text gs) ≡ Some (f, []) = ap (λ z. first_attribute (list_text z)) is ∙ ap (λ z. first_attribute z) (same_implies_equal_text f) ∙ first_attribute_text f [] in
     is ∙ same_Some (f ∷ []) es (ap (λ o. option_map (λ x. x.0 ∷ []) o) (sym read) ∙ h)
 
 read_back : (form : ListForm) (g : Grammar) (es gs : List Attribute) → gs ≡ rewritten g nothing (kept form es) → read_as form (list_text gs) ≡ Some es → gs ≡ es
@@ -131,20 +131,20 @@ read_back any g es gs w h = same_Some gs es (sym (attributes_of_text gs) ∙ h)
 read_back of_kind_one g es gs w h = same_Some gs es (sym (attributes_of_text gs) ∙ h)
 read_back non_empty g es gs w h = filled gs es (ap (λ o. if_some o not_empty) (sym (attributes_of_text gs)) ∙ h)
 read_back ports g es gs w h = filled gs es (ap (λ o. if_some o not_empty) (sym (attributes_of_text gs)) ∙ h)
-read_back first_alone g es gs w h = alone g es gs w h
+read_back first_only g es gs w h = single g es gs w h
 
 -- Such a list kind keeps all of them.
 nothing_dropped : (form : ListForm) (g : Grammar) (es : List Attribute) → rewritten g nothing (kept form es) ≡ es → kept form es ≡ es
 nothing_dropped any g es h = refl
 nothing_dropped non_empty g es h = refl
-nothing_dropped first_alone g es h = refl
+nothing_dropped first_only g es h = refl
 nothing_dropped of_kind_one g es h = all_kept is_of_kind_one es (sym (rewritten_length g nothing (filter is_of_kind_one es)) ∙ ap length h)
 nothing_dropped ports g es h = all_kept is_of_kind_one es (sym (rewritten_length g nothing (filter is_of_kind_one es)) ∙ ap length h)
 
 module _ (form : ListForm) (g : Grammar) (p : List ℕ) (bytes : AreBytes p) where
-  own_by : (o : Option (List Attribute)) → read_as form p ≡ o → if_read false (λ es. all_accepted g nothing (kept form es)) o ≡ true → if_read [] (λ es. list_text (rewritten g nothing (kept form es))) o ≡ p → OwnList g p
-  own_by None r a c = absurd cc
-  own_by (Some es) r a c =
+  canonical_attribute_by : (o : Option (List Attribute)) → read_as form p ≡ o → if_read false (λ es. all_accepted g nothing (kept form es)) o ≡ true → if_read [] (λ es. list_text (rewritten g nothing (kept form es))) o ≡ p → CanonicalList g p
+  canonical_attribute_by None r a c = absurd cc
+  canonical_attribute_by (Some es) r a c =
       let gs = rewritten g nothing (kept form es) in
       let same : gs ≡ es = read_back form g es gs refl (ap (read_as form) c ∙ r) in
       let whole : kept form es ≡ es = nothing_dropped form g es same in
@@ -152,8 +152,8 @@ module _ (form : ListForm) (g : Grammar) (p : List ℕ) (bytes : AreBytes p) whe
       record {
         attributes = es;
         is = is;
-        own = all_own g nothing es (sym same ∙ ap (rewritten g nothing) whole) (ap (all_accepted g nothing) (sym whole) ∙ a) (subst AreBytes is bytes);
+        own = all_canonical g nothing es (sym same ∙ ap (rewritten g nothing) whole) (ap (all_accepted g nothing) (sym whole) ∙ a) (subst AreBytes is bytes);
       }
 
-pub own_list : (form : ListForm) (g : Grammar) (p : List ℕ) → IsOwn (list_rule form g) p → OwnList g p
-own_list form g p o = own_by form g p o.bytes (read_as form p) refl o.accepted o.canonical
+pub canonical_list : (form : ListForm) (g : Grammar) (p : List ℕ) → IsCanonical (list_rule form g) p → CanonicalList g p
+canonical_list form g p o = canonical_attribute_by form g p o.bytes (read_as form p) refl o.accepted o.canonical

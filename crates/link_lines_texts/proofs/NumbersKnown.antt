@@ -7,14 +7,14 @@ use Rattle.netlink_packet_core_grammar.specs.Attributes.{nla_align, zeros}
 use Rattle.netlink_packet_core_grammar.specs.Bytes.{AreBytes}
 use Rattle.netlink_packet_core_grammar.specs.Frames.{frame_length, frame_type, frame_body}
 use Rattle.netlink_packet_core_grammar.specs.Numbers.{u16_at, u32_at}
-use Rattle.link_capture_numbers.specs.Cleared.{zeros_at, repeats_request, front_cleared, numbers_cleared}
+use Rattle.link_capture_numbers.specs.Cleared.{zeros_at, repeats_request, first_frame_cleared, numbers_cleared}
 use Rattle.link_capture_numbers.proofs.Steps.{length_of, whole, stopped}
-use Rattle.link_capture_numbers.proofs.Fronts.{body_cleared, byte_of, length_same, type_same}
+use Rattle.link_capture_numbers.proofs.FirstFrames.{body_cleared, byte_of, length_same, type_same}
 use Rattle.link_lines_texts.specs.Captures.{is_frame}
-use Rattle.link_lines_texts.specs.Telling.{HasNoNumbers, NumbersAreKnown}
-use Rattle.link_lines_texts.proofs.FrameSteps.{by_fronts}
-use Rattle.link_lines_texts.proofs.HeadersTold.{u32_after}
-use Rattle.link_lines_texts.proofs.NumbersLeft.{cleared_shape, own_body}
+use Rattle.link_lines_texts.specs.Determination.{HasNoNumbers, NumbersAreKnown}
+use Rattle.link_lines_texts.proofs.FrameUnfolding.{by_first_frames}
+use Rattle.link_lines_texts.proofs.HeadersDetermined.{u32_after}
+use Rattle.link_lines_texts.proofs.NumbersLeftOut.{cleared_shape, canonical_body}
 use Rattle.netlink_packet_core_grammar.proofs.Bytes.{AreBytes-append, AreBytes-drop, AreBytes-take}
 
 -- ---- zeros over both numbers
@@ -35,8 +35,8 @@ of_zeros p e = record {
 
 -- ---- the first frame of cleared bytes
 
-own_zeros : (c d : List ℕ) (n : ℕ) → 16 ≤ n → 8 ≤ length c → take 16 d ≡ take 8 c ++ zeros 8 → take 8 (drop 8 (take n d)) ≡ zeros 8
-own_zeros c d n l h e =
+frame_zeros : (c d : List ℕ) (n : ℕ) → 16 ≤ n → 8 ≤ length c → take 16 d ≡ take 8 c ++ zeros 8 → take 8 (drop 8 (take n d)) ≡ zeros 8
+frame_zeros c d n l h e =
     sym (drop-take 8 8 (take n d)) ∙ ap (drop 8) (take-take 16 n d l ∙ e) ∙ drop_at (take 8 c) (zeros 8) 8 (length-take-le 8 c h)
 
 request_zeros : (b : List ℕ) → 20 ≤ length b → take 8 (drop 8 (drop 4 (zeros_at 12 b))) ≡ zeros 8
@@ -58,41 +58,41 @@ cleared_request c d f m own body l t h =
     let is : drop 16 f ≡ zeros_at 12 b = own ∙ body ∙ ap (λ r. cond r (zeros_at 12 b) b) (repeats c t long) in
     of_zeros (drop 4 (drop 16 f)) (ap (λ z. take 8 (drop 8 (drop 4 z))) is ∙ request_zeros b (omega (arith, known, long)))
 
-pub known_front : (c : List ℕ) → is_frame c ≡ true → NumbersAreKnown false (take (frame_length c) (numbers_cleared c))
-known_front c h =
+pub known_first : (c : List ℕ) → is_frame c ≡ true → NumbersAreKnown false (take (frame_length c) (numbers_cleared c))
+known_first c h =
     let n : ℕ = frame_length c in
     let d : List ℕ = numbers_cleared c in
     let bounds = length_of c h in
     let low = bounds.0 in
     let high = bounds.1 in
     let s = cleared_shape c h in
-    let front : take 8 (take n d) ≡ take 8 d = take-take 8 n d (omega (arith, low)) in
-    let type : u16_at 4 (take n d) ≡ frame_type c = type_same d (take n d) front ∙ s.kind in
+    let first : take 8 (take n d) ≡ take 8 d = take-take 8 n d (omega (arith, low)) in
+    let type : u16_at 4 (take n d) ≡ frame_type c = type_same d (take n d) first ∙ s.kind in
     record {
-      own = of_zeros (take n d) (own_zeros c d n low (omega (arith, low, high)) s.header);
-      request = λ t l. cleared_request c d (take n d) high (own_body n d low s.size) s.body (omega (arith, length-take n d)) (sym type ∙ t) l;
+      own = of_zeros (take n d) (frame_zeros c d n low (omega (arith, low, high)) s.header);
+      request = λ t l. cleared_request c d (take n d) high (canonical_body n d low s.size) s.body (omega (arith, length-take n d)) (sym type ∙ t) l;
     }
 
 -- ---- cleared bytes are bytes
 
-zeros_bytes : (place : ℕ) (c : List ℕ) → AreBytes c → AreBytes (zeros_at place c)
+zeros_bytes : (offset : ℕ) (c : List ℕ) → AreBytes c → AreBytes (zeros_at offset c)
 unfolding zeros_at
-zeros_bytes place c h =
-    AreBytes-append (take place c) (zeros 8 ++ drop (place + 8) c) (AreBytes-take place c h)
-    (AreBytes-append (zeros 8) (drop (place + 8) c) (omega arith, (omega arith, (omega arith, (omega arith, (omega arith, (omega arith, (omega arith, (omega arith, tt)))))))) (AreBytes-drop (place + 8) c h))
+zeros_bytes offset c h =
+    AreBytes-append (take offset c) (zeros 8 ++ drop (offset + 8) c) (AreBytes-take offset c h)
+    (AreBytes-append (zeros 8) (drop (offset + 8) c) (omega arith, (omega arith, (omega arith, (omega arith, (omega arith, (omega arith, (omega arith, (omega arith, tt)))))))) (AreBytes-drop (offset + 8) c h))
 
-front_by : (c : List ℕ) (b : Bool) → AreBytes c → AreBytes (cond b (zeros_at 28 (zeros_at 8 c)) (zeros_at 8 c))
-front_by c false h = zeros_bytes 8 c h
-front_by c true h = zeros_bytes 28 (zeros_at 8 c) (zeros_bytes 8 c h)
+first_frame_by : (c : List ℕ) (b : Bool) → AreBytes c → AreBytes (cond b (zeros_at 28 (zeros_at 8 c)) (zeros_at 8 c))
+first_frame_by c false h = zeros_bytes 8 c h
+first_frame_by c true h = zeros_bytes 28 (zeros_at 8 c) (zeros_bytes 8 c h)
 
-front_is : (c : List ℕ) → AreBytes c → AreBytes (front_cleared c)
-unfolding front_cleared
-front_is c h = front_by c (repeats_request c) h
+first_is_frame : (c : List ℕ) → AreBytes c → AreBytes (first_frame_cleared c)
+unfolding first_frame_cleared
+first_is_frame c h = first_frame_by c (repeats_request c) h
 
-bytes_behind : (c : List ℕ) → is_frame c ≡ true → (AreBytes (drop (nla_align (frame_length c)) c) → AreBytes (numbers_cleared (drop (nla_align (frame_length c)) c))) → AreBytes c → AreBytes (numbers_cleared c)
-bytes_behind c h rest a =
+bytes_after_frame : (c : List ℕ) → is_frame c ≡ true → (AreBytes (drop (nla_align (frame_length c)) c) → AreBytes (numbers_cleared (drop (nla_align (frame_length c)) c))) → AreBytes c → AreBytes (numbers_cleared c)
+bytes_after_frame c h rest a =
     let n : ℕ = nla_align (frame_length c) in
-    rw (whole c h) (AreBytes-append (take n (front_cleared c)) (numbers_cleared (drop n c)) (AreBytes-take n (front_cleared c) (front_is c a)) (rest (AreBytes-drop n c a)))
+    rw (whole c h) (AreBytes-append (take n (first_frame_cleared c)) (numbers_cleared (drop n c)) (AreBytes-take n (first_frame_cleared c) (first_is_frame c a)) (rest (AreBytes-drop n c a)))
 
 pub cleared_bytes : (c : List ℕ) → AreBytes c → AreBytes (numbers_cleared c)
-cleared_bytes = by_fronts (λ c. AreBytes c → AreBytes (numbers_cleared c)) (λ c h a. rw (stopped c h) a) bytes_behind
+cleared_bytes = by_first_frames (λ c. AreBytes c → AreBytes (numbers_cleared c)) (λ c h a. rw (stopped c h) a) bytes_after_frame

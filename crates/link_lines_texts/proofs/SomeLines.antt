@@ -10,8 +10,8 @@ use Rattle.link_capture_grammar.proofs.Normal.{texted}
 use Rattle.link_lines_texts.specs.Captures.{everything, lines, text_lines}
 use Rattle.link_lines_texts.specs.Frames.{frame_lines}
 use Rattle.link_lines_texts.specs.Laws.{AcceptedFramesHaveLines}
-use Rattle.link_lines_texts.proofs.CapturesTold.{frame_has_lines, no_text_lines, stopped_texts}
-use Rattle.link_lines_texts.proofs.FrameSteps.{in_front}
+use Rattle.link_lines_texts.proofs.CapturesDetermined.{frame_has_lines, no_text_lines, stopped_texts}
+use Rattle.link_lines_texts.proofs.FrameUnfolding.{at_start}
 
 some_since : (s : List ℕ) → (s ≡ [] → ⊥) → 0 < length s
 some_since [] h = absurd (h refl)
@@ -26,7 +26,7 @@ accepted_lines limit c frame l e =
     let text : texts limit c ≡ frame_text c i.body ++ more = in_force.captures_are_counted.next_text limit c frame e ∙ ap (λ z. z ++ more) i.text_is in
     let own = take (16 + length i.body) (frame_text c i.body) in
     let all : lines everything limit c ≡ frame_lines true own ++ text_lines everything more =
-    ap (λ z. text_lines everything z) text ∙ in_front everything c i.body more (accepted link_body limit c frame e).header small in
+    ap (λ z. text_lines everything z) text ∙ at_start everything c i.body more (accepted link_body limit c frame e).header small in
     some_since (lines everything limit c) (λ none. frame_has_lines true own (text_lines everything more) (sym all ∙ none))
 
 -- A frame that isn't accepted has none.

@@ -1,11 +1,11 @@
 -- The lemmas that the laws use.
-use Rattle.link_lines_texts.proofs.CapturesTold.{captures_told, cleared_told, meanings_told}
-use Rattle.link_lines_texts.proofs.FrameSteps.{by_frames, joined}
-use Rattle.link_lines_texts.proofs.FramesTold.{told as frames_told}
-use Rattle.link_lines_texts.proofs.LinksTold.{lists_are_told}
-use Rattle.link_lines_texts.proofs.ListSteps.{steps}
-use Rattle.link_lines_texts.proofs.ShapesTold.{shapes_told}
+use Rattle.link_lines_texts.proofs.CapturesDetermined.{captures_determined, cleared_texts_determined, meanings_determined}
+use Rattle.link_lines_texts.proofs.FrameUnfolding.{by_frames, joined}
+use Rattle.link_lines_texts.proofs.FramesDetermined.{determined as frames_determined}
+use Rattle.link_lines_texts.proofs.LinksDetermined.{lists_are_determined}
+use Rattle.link_lines_texts.proofs.ListUnfolding.{steps}
+use Rattle.link_lines_texts.proofs.ShapesDetermined.{shapes_determined}
 use Rattle.link_lines_texts.proofs.SomeLines.{have_lines}
-use Rattle.link_lines_texts.proofs.Told.{told as rows_told}
+use Rattle.link_lines_texts.proofs.RowsComputed.{determined as rows_determined}
 
-pub ruleset laws = (steps, by_frames, joined, have_lines, rows_told, shapes_told, lists_are_told, frames_told, captures_told, cleared_told, meanings_told)
+pub ruleset laws = (steps, by_frames, joined, have_lines, rows_determined, shapes_determined, lists_are_determined, frames_determined, captures_determined, cleared_texts_determined, meanings_determined)

@@ -3,38 +3,38 @@
 use Rattle.std.specs.Prelude.{ℕ, ◌==◌, ◌&&◌, ◌||◌, not, nat_le, Bool, true, false, cond, List, [], ◌∷◌, take, Option, Some, None, bytes_eq}
 use Rattle.std.specs.List.{list_all}
 use Rattle.link_tables.specs.declared.names.NameRow.{NameRow}
-use Rattle.attribute_tables_grammar.specs.Shapes.{Shape, exact, either, at_most, nonzero_byte, one_byte, truth_of_four, presence, text, raw, never, fixed_record, id_and_truth, resized}
+use Rattle.attribute_tables_grammar.specs.Shapes.{Shape, exact, either, at_most, nonzero_byte, one_byte, boolean_of_four, presence, text, raw, never, fixed_record, id_and_boolean, resized}
 use Rattle.attribute_tables_grammar.specs.Tables.{Payload, Payload.plain, Payload.peer, Payload.list, Payload.link_info, Table, Table.end, Table.row, Names, Names.others, Names.name, lacks_name}
 use Rattle.link_lines_values.specs.declared.fields.FieldShown.{FieldShown}
 use Rattle.link_lines_values.specs.declared.fields.FieldShown.TheVariants as F
 use Rattle.link_lines_values.specs.declared.values.ShownBy.TheVariants as V
-use Rattle.link_lines_values.specs.Records.{Field, fields_tell, total_size}
+use Rattle.link_lines_values.specs.Records.{Field, fields_determine, total_size}
 use Rattle.link_lines_values.specs.Values.{Shown}
 use Rattle.link_tables.specs.declared.kinds.TheConstants.{KINDS, PORT_KINDS}
 use Rattle.link_tables.specs.Names.{held_by_name}
 use Rattle.link_tables.specs.Tables.{is_link_info}
-use Rattle.link_lines_names.specs.Behind.{Inside, Inside.Value, Inside.Peer, Inside.Nested, is_inside_on_a_line, of_held}
-use Rattle.link_lines_names.specs.Names.{Titled, all_titles}
-use Rattle.link_lines_names.specs.Raw.{Raw, raw_titles_of}
-use Rattle.link_lines_texts.specs.Titles.{Name, Title, data_titles, link_titles, nested_titles, title_of, titles_of}
+use Rattle.link_lines_names.specs.Format.{Inside, Inside.Value, Inside.Peer, Inside.Nested, is_inside_on_a_line, of_held}
+use Rattle.link_lines_names.specs.Names.{NameRowOf, all_named_rows}
+use Rattle.link_lines_names.specs.Raw.{Raw, raw_names_of}
+use Rattle.link_lines_texts.specs.AttributeNames.{Name, AttributeRow, data_names, link_names, nested_names, attribute_name_of, attribute_names_of}
 
 -- ---- shapes
 
 -- The size of a canonical payload of a shape, if all of them have the same.
-abbrev pub own_size : Shape → Option ℕ
-own_size (exact n) = Some n
-own_size (either m n) = None
-own_size (at_most n) = None
-own_size nonzero_byte = Some 1
-own_size one_byte = Some 1
-own_size truth_of_four = Some 4
-own_size presence = Some 0
-own_size text = None
-own_size raw = None
-own_size never = None
-own_size (fixed_record m n) = cond (nat_le m n) (Some n) None
-own_size id_and_truth = Some 8
-own_size (resized n) = Some n
+abbrev pub canonical_size : Shape → Option ℕ
+canonical_size (exact n) = Some n
+canonical_size (either m n) = None
+canonical_size (at_most n) = None
+canonical_size nonzero_byte = Some 1
+canonical_size one_byte = Some 1
+canonical_size boolean_of_four = Some 4
+canonical_size presence = Some 0
+canonical_size text = None
+canonical_size raw = None
+canonical_size never = None
+canonical_size (fixed_record m n) = cond (nat_le m n) (Some n) None
+canonical_size id_and_boolean = Some 8
+canonical_size (resized n) = Some n
 
 -- Whether a size is known and has a property.
 abbrev pub is_sized : Option ℕ → (ℕ → Bool) → Bool
@@ -46,11 +46,11 @@ abbrev pub is_size : ℕ → Bool
 is_size n = (n == 1) || ((n == 2) || ((n == 4) || (n == 8)))
 
 -- Whether the canonical payloads of a shape are the numbers 0 and 1.
-abbrev pub is_truth : Shape → Bool
-is_truth nonzero_byte = true
-is_truth one_byte = true
-is_truth truth_of_four = true
-is_truth s = false
+abbrev pub is_boolean : Shape → Bool
+is_boolean nonzero_byte = true
+is_boolean one_byte = true
+is_boolean boolean_of_four = true
+is_boolean s = false
 
 -- Whether a shape is that of an attribute that only has to be present.
 abbrev pub is_presence : Shape → Bool
@@ -74,71 +74,71 @@ is_address (either m n) = (m == 4) && (n == 16)
 is_address s = false
 
 -- Whether a field isn't shown as a boolean.
-abbrev pub is_no_truth : FieldShown → Bool
-is_no_truth F.Truth = false
-is_no_truth v = true
+abbrev pub is_not_boolean : FieldShown → Bool
+is_not_boolean F.Boolean = false
+is_not_boolean v = true
 
 -- Whether no field of a record is shown as a boolean.
-abbrev pub lacks_truths : List Field → Bool
-lacks_truths [] = true
-lacks_truths (f ∷ fs) = is_no_truth f.2 && lacks_truths fs
+abbrev pub lacks_booleans : List Field → Bool
+lacks_booleans [] = true
+lacks_booleans (f ∷ fs) = is_not_boolean f.2 && lacks_booleans fs
 
 -- Whether the fields are a number of 4 bytes and a boolean of 4 bytes.
 abbrev pub is_setting : List Field → Bool
-is_setting (f ∷ g ∷ []) = (f.1 == 4) && (is_no_truth f.2 && (g.1 == 4))
+is_setting (f ∷ g ∷ []) = (f.1 == 4) && (is_not_boolean f.2 && (g.1 == 4))
 is_setting fs = false
 
 -- Whether a canonical payload of the shape holds the fields, followed by zeros only.
 abbrev pub has_fields : Shape → List Field → Bool
-has_fields (exact n) fs = (total_size fs == n) && lacks_truths fs
-has_fields (resized n) fs = (total_size fs == n) && lacks_truths fs
-has_fields (fixed_record m n) fs = nat_le m n && (((total_size fs == n) || (total_size fs == m)) && lacks_truths fs)
-has_fields id_and_truth fs = is_setting fs
+has_fields (exact n) fs = (total_size fs == n) && lacks_booleans fs
+has_fields (resized n) fs = (total_size fs == n) && lacks_booleans fs
+has_fields (fixed_record m n) fs = nat_le m n && (((total_size fs == n) || (total_size fs == m)) && lacks_booleans fs)
+has_fields id_and_boolean fs = is_setting fs
 has_fields s fs = false
 
 -- Whether a format determines the canonical payloads of a shape: equal texts mean equal payloads.
-abbrev pub shape_tells : Shape → Shown → Bool
-shape_tells s (V.Number numbers) = is_sized (own_size s) is_size
-shape_tells s (V.BigEndian numbers) = is_sized (own_size s) is_size
-shape_tells s V.Signed = is_sized (own_size s) (λ n. n == 4)
-shape_tells s V.Flags = is_sized (own_size s) is_size
-shape_tells s (V.NamedFlags names) = is_sized (own_size s) is_size
-shape_tells s V.BigEndianFlags = is_sized (own_size s) is_size
-shape_tells s V.FlagsBySize = is_sized (own_size s) (λ n. (n == 4) || (n == 2))
-shape_tells s V.Truth = is_truth s
-shape_tells s V.Presence = is_presence s
-shape_tells s V.OptionalByte = is_optional s
-shape_tells s V.Text = is_string s
-shape_tells s V.Bytes = true
-shape_tells s V.HardwareAddress = true
-shape_tells s V.Address = is_address s
-shape_tells s V.PortRange = is_sized (own_size s) (λ n. n == 4)
-shape_tells s V.FlagsAndMask = is_sized (own_size s) (λ n. n == 8)
-shape_tells s (V.Record fields) = fields_tell fields && has_fields s fields
-shape_tells s (V.SparseRecord fields) = fields_tell fields && has_fields s fields
+abbrev pub shape_determines : Shape → Shown → Bool
+shape_determines s (V.Number numbers) = is_sized (canonical_size s) is_size
+shape_determines s (V.BigEndian numbers) = is_sized (canonical_size s) is_size
+shape_determines s V.Signed = is_sized (canonical_size s) (λ n. n == 4)
+shape_determines s V.Flags = is_sized (canonical_size s) is_size
+shape_determines s (V.NamedFlags names) = is_sized (canonical_size s) is_size
+shape_determines s V.BigEndianFlags = is_sized (canonical_size s) is_size
+shape_determines s V.FlagsBySize = is_sized (canonical_size s) (λ n. (n == 4) || (n == 2))
+shape_determines s V.Boolean = is_boolean s
+shape_determines s V.Presence = is_presence s
+shape_determines s V.OptionalByte = is_optional s
+shape_determines s V.Text = is_string s
+shape_determines s V.Bytes = true
+shape_determines s V.HardwareAddress = true
+shape_determines s V.Address = is_address s
+shape_determines s V.PortRange = is_sized (canonical_size s) (λ n. n == 4)
+shape_determines s V.FlagsAndMask = is_sized (canonical_size s) (λ n. n == 8)
+shape_determines s (V.Record fields) = fields_determine fields && has_fields s fields
+shape_determines s (V.SparseRecord fields) = fields_determine fields && has_fields s fields
 
 -- How the payload under a name is shown, if there is a name.
-abbrev pub behind : Option Name → Option Inside
-behind None = None
-behind (Some n) = Some n.1
+abbrev pub format : Option Name → Option Inside
+format None = None
+format (Some n) = Some n.1
 
 -- ---- names
 
 -- Whether a property holds in each table of names.
-abbrev pub in_each : (List Title → Bool) → Bool
-in_each f = list_all f nested_titles && (list_all f link_titles && list_all f data_titles)
+abbrev pub in_each : (List AttributeRow → Bool) → Bool
+in_each f = list_all f nested_names && (list_all f link_names && list_all f data_names)
 
 -- Whether what is shown on the line of a name is a single line.
 abbrev pub has_line : ℕ → Name → Bool
 has_line k n = is_inside_on_a_line n.1
 
 -- Whether no raw attribute has the name of another kind's row.
-abbrev pub are_apart : List Title → List (Titled Raw) → Bool
-are_apart ts us = all_titles (λ l n. all_titles (λ k t. not (bytes_eq n.0 t.0) || (k == l)) ts) us
+abbrev pub names_differ : List AttributeRow → List (NameRowOf Raw) → Bool
+names_differ ts us = all_named_rows (λ l n. all_named_rows (λ k t. not (bytes_eq n.0 t.0) || (k == l)) ts) us
 
 -- Whether the names of raw attributes in a table differ from the names of its rows.
-abbrev pub raw_apart : ℕ → Bool
-raw_apart m = are_apart (titles_of m) (raw_titles_of m)
+abbrev pub raw_names_differ : ℕ → Bool
+raw_names_differ m = names_differ (attribute_names_of m) (raw_names_of m)
 
 -- ---- tables: each row has a name and a format that determines its payload, and each name has a row
 
@@ -168,9 +168,9 @@ abbrev mutual
   -- Whether what is shown under a payload's name determines the payload: a value, a peer, or the attributes of its
   -- table.
   pub holds_shown : Payload → Option Inside → Bool
-  holds_shown (plain s) (Some (Value v)) = shape_tells s v
+  holds_shown (plain s) (Some (Value v)) = shape_determines s v
   holds_shown peer (Some Peer) = true
-  holds_shown (list form t) (Some (Nested n)) = not (is_link_info n) && (all_titles (is_in t) (titles_of n.0) && rows_shown n.0 t)
+  holds_shown (list form t) (Some (Nested n)) = not (is_link_info n) && (all_named_rows (is_in t) (attribute_names_of n.0) && rows_shown n.0 t)
   holds_shown (link_info form data' ports) (Some (Nested n)) =
       is_link_info n && ((names_shown data' KINDS && kinds_listed KINDS data') && (names_shown ports PORT_KINDS && kinds_listed PORT_KINDS ports))
   holds_shown s inside = false
@@ -178,7 +178,7 @@ abbrev mutual
   -- Whether each row of a table is determined by what is shown of it.
   pub rows_shown : ℕ → Table → Bool
   rows_shown m end = true
-  rows_shown m (row k nested s t) = holds_shown s (behind (title_of m k)) && rows_shown m t
+  rows_shown m (row k nested s t) = holds_shown s (format (attribute_name_of m k)) && rows_shown m t
 
   -- Whether the data of each kind's name are determined by what is shown of them.
   pub names_shown : Names → List NameRow → Bool

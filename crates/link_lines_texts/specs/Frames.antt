@@ -69,14 +69,14 @@ link_lines b =
 
 -- The lines for what follows the code: for an NLMSG_ERROR (netlink.h, struct nlmsgerr) the request's header, if it is
 -- there, and the remaining bytes.
-unfoldable pub behind_code : Bool → ℕ → List ℕ → List ℕ
-behind_code numbers t r = cond (t == 2 && nat_le 16 (length r)) (request_line numbers r ++ bytes_line (codes "rest") (drop 16 r)) (bytes_line (codes "rest") r)
+unfoldable pub after_code : Bool → ℕ → List ℕ → List ℕ
+after_code numbers t r = cond (t == 2 && nat_le 16 (length r)) (request_line numbers r ++ bytes_line (codes "rest") (drop 16 r)) (bytes_line (codes "rest") r)
 
 -- The lines of the body of an NLMSG_ERROR or NLMSG_DONE: a signed code, and what follows it; one without a code, which
 -- no normal text has, is shown as bytes.
 unfoldable pub code_lines : Bool → ℕ → List ℕ → List ℕ
 code_lines numbers t b =
-    cond (nat_le 4 (length b)) (codes "  code" ++ (value_text Signed (take 4 b) ++ (10 ∷ [] ++ behind_code numbers t (drop 4 b))))
+    cond (nat_le 4 (length b)) (codes "  code" ++ (value_text Signed (take 4 b) ++ (10 ∷ [] ++ after_code numbers t (drop 4 b))))
     (bytes_line (codes "body") b)
 
 -- The lines of a message's body, by the message's type.

@@ -9,25 +9,25 @@ use Rattle.attribute_tables_grammar.specs.Tables.{Payload}
 use Rattle.link_capture_grammar.specs.Captures.{first_frame, IsLegal, texts}
 use Rattle.link_capture_grammar.specs.Same.{SameCapture}
 use Rattle.link_message_grammar.specs.LinkMessage.{unspec, bridge, inet_6, other, link_table}
-use Rattle.link_lines_texts.specs.Coverage.{has_line, holds_shown, in_each, is_info_kind, raw_apart}
-use Rattle.link_lines_texts.specs.declared.attributes.Place.{Place}
-use Rattle.link_lines_texts.specs.Lists.{list_inside, list_lines, nested_lines, next_in, own_lines, rest_lines}
-use Rattle.link_lines_names.specs.Behind.{Inside.Nested}
-use Rattle.link_lines_names.specs.Names.{all_titles, has_name, names_apart}
-use Rattle.link_lines_texts.specs.Titles.{titles_of}
+use Rattle.link_lines_texts.specs.Coverage.{has_line, holds_shown, in_each, is_info_kind, raw_names_differ}
+use Rattle.link_lines_texts.specs.declared.attributes.ListTable.{ListTable}
+use Rattle.link_lines_texts.specs.Lists.{list_inside, list_lines, nested_lines, next_in, attribute_lines, rest_lines}
+use Rattle.link_lines_names.specs.Format.{Inside.Nested}
+use Rattle.link_lines_names.specs.Names.{all_named_rows, has_name, names_apart}
+use Rattle.link_lines_texts.specs.AttributeNames.{attribute_names_of}
 use Rattle.link_tables.specs.declared.table.TheConstants.{GENEVE, GRE, GRE6, LINK_BRIDGE, LINK_INET6, LINK_INFO, LINK_OTHER, LINK_UNSPEC, VF, XFRM}
 use Rattle.link_capture_numbers.specs.Cleared.{numbers_cleared}
 use Rattle.link_lines_texts.specs.Captures.{Choice, everything, is_frame, lines, shown_lines, text_lines, without_numbers}
 
 -- The lines of a list are those of its first attribute, of the list in it, and of the rest in the context after that
 -- attribute. If no whole attribute follows, there are none.
-pub record ListsGoBySteps : Type 0 where
-  pub start : (level : ℕ) (m : Place) (bytes : List ℕ) → list_lines level m bytes ≡ rest_lines level m nothing bytes
-  pub next : (level : ℕ) (m : Place) (c : Context) (bytes : List ℕ) (e : Attribute) (after : List ℕ) → first_attribute bytes ≡ Some (e, after) → rest_lines level m c bytes ≡ own_lines level m c e ++ (nested_lines (level + 1) (list_inside m c e) ++ rest_lines level m (next_in m.table c e) after)
-  pub none : (level : ℕ) (m : Place) (c : Context) (bytes : List ℕ) → first_attribute bytes ≡ None → rest_lines level m c bytes ≡ []
+pub record ListsUnfoldByAttributes : Type 0 where
+  pub start : (level : ℕ) (m : ListTable) (bytes : List ℕ) → list_lines level m bytes ≡ rest_lines level m nothing bytes
+  pub next : (level : ℕ) (m : ListTable) (c : Context) (bytes : List ℕ) (e : Attribute) (after : List ℕ) → first_attribute bytes ≡ Some (e, after) → rest_lines level m c bytes ≡ attribute_lines level m c e ++ (nested_lines (level + 1) (list_inside m c e) ++ rest_lines level m (next_in m.table c e) after)
+  pub none : (level : ℕ) (m : ListTable) (c : Context) (bytes : List ℕ) → first_attribute bytes ≡ None → rest_lines level m c bytes ≡ []
 
 -- Bytes that begin with a whole frame have its lines, then those of what follows its padding; other bytes have none.
-pub record LinesGoByFrames : Type 0 where
+pub record LinesUnfoldByFrames : Type 0 where
   pub frame : (o : Choice) (c : List ℕ) → is_frame c ≡ true → text_lines o c ≡ shown_lines o (take (frame_length c) c) ++ text_lines o (drop (nla_align (frame_length c)) c)
   pub none : (o : Choice) (c : List ℕ) → is_frame c ≡ false → text_lines o c ≡ []
 
@@ -42,27 +42,27 @@ AcceptedFramesHaveLines = (limit : ℕ) (c : List ℕ) → limit < 2 ^ 32 → (0
 -- Each row of the tables of link messages, and of every nested table, has a name and a format that determines the row's
 -- payload; each name is that of a row; no two names of a table are equal, and none is that of a raw attribute of
 -- another kind.
-pub record RowsAreTold : Type 0 where
-  pub unspec_told : holds_shown (Payload.list any (link_table unspec)) (Some (Nested LINK_UNSPEC)) ≡ true
-  pub bridge_told : holds_shown (Payload.list any (link_table bridge)) (Some (Nested LINK_BRIDGE)) ≡ true
-  pub inet6_told : holds_shown (Payload.list any (link_table inet_6)) (Some (Nested LINK_INET6)) ≡ true
-  pub other_told : holds_shown (Payload.list any (link_table other)) (Some (Nested LINK_OTHER)) ≡ true
-  pub named : in_each (all_titles has_name) ≡ true
-  pub on_lines : in_each (all_titles has_line) ≡ true
-  pub info_named : all_titles is_info_kind (titles_of LINK_INFO.0) ≡ true
+pub record RowsAreDetermined : Type 0 where
+  pub unspec_determined : holds_shown (Payload.list any (link_table unspec)) (Some (Nested LINK_UNSPEC)) ≡ true
+  pub bridge_determined : holds_shown (Payload.list any (link_table bridge)) (Some (Nested LINK_BRIDGE)) ≡ true
+  pub inet6_determined : holds_shown (Payload.list any (link_table inet_6)) (Some (Nested LINK_INET6)) ≡ true
+  pub other_determined : holds_shown (Payload.list any (link_table other)) (Some (Nested LINK_OTHER)) ≡ true
+  pub named : in_each (all_named_rows has_name) ≡ true
+  pub on_lines : in_each (all_named_rows has_line) ≡ true
+  pub info_named : all_named_rows is_info_kind (attribute_names_of LINK_INFO.0) ≡ true
   pub apart : in_each names_apart ≡ true
-  pub raw : list_all raw_apart (VF.0 ∷ LINK_UNSPEC.0 ∷ LINK_BRIDGE.0 ∷ LINK_INET6.0 ∷ LINK_OTHER.0 ∷ GENEVE.0 ∷ GRE.0 ∷ GRE6.0 ∷ XFRM.0 ∷ []) ≡ true
+  pub raw : list_all raw_names_differ (VF.0 ∷ LINK_UNSPEC.0 ∷ LINK_BRIDGE.0 ∷ LINK_INET6.0 ∷ LINK_OTHER.0 ∷ GENEVE.0 ∷ GRE.0 ∷ GRE6.0 ∷ XFRM.0 ∷ []) ≡ true
 
 -- Two captures have the same lines if and only if they have the same texts; for legal captures, if and only if their
 -- normal texts are equal.
-abbrev pub LinesTellTexts : Type 0
-LinesTellTexts = (limit : ℕ) (s t : List ℕ) → limit < 2 ^ 32 → AreBytes s → AreBytes t → (lines everything limit s ≡ lines everything limit t) ↔ (texts limit s ≡ texts limit t)
+abbrev pub LinesDetermineTexts : Type 0
+LinesDetermineTexts = (limit : ℕ) (s t : List ℕ) → limit < 2 ^ 32 → AreBytes s → AreBytes t → (lines everything limit s ≡ lines everything limit t) ↔ (texts limit s ≡ texts limit t)
 
 -- Two captures have the same lines without numbers if and only if their texts, with the numbers cleared, are equal.
-abbrev pub LinesWithoutNumbersTellClearedTexts : Type 0
-LinesWithoutNumbersTellClearedTexts = (limit : ℕ) (s t : List ℕ) → limit < 2 ^ 32 → AreBytes s → AreBytes t →
+abbrev pub LinesWithoutNumbersDetermineClearedTexts : Type 0
+LinesWithoutNumbersDetermineClearedTexts = (limit : ℕ) (s t : List ℕ) → limit < 2 ^ 32 → AreBytes s → AreBytes t →
     (lines without_numbers limit s ≡ lines without_numbers limit t) ↔ (numbers_cleared (texts limit s) ≡ numbers_cleared (texts limit t))
 
 -- Two legal captures have the same lines if and only if they mean the same.
-abbrev pub LinesTellMeanings : Type 0
-LinesTellMeanings = (limit : ℕ) (a b : List ℕ) → limit < 2 ^ 32 → AreBytes a → AreBytes b → IsLegal limit a → IsLegal limit b → (lines everything limit a ≡ lines everything limit b) ↔ SameCapture limit a b
+abbrev pub LinesDetermineMeanings : Type 0
+LinesDetermineMeanings = (limit : ℕ) (a b : List ℕ) → limit < 2 ^ 32 → AreBytes a → AreBytes b → IsLegal limit a → IsLegal limit b → (lines everything limit a ≡ lines everything limit b) ↔ SameCapture limit a b

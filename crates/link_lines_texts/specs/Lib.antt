@@ -4,5 +4,5 @@ pub mod Frames
 pub mod Laws
 pub mod Links
 pub mod Lists
-pub mod Telling
-pub mod Titles
+pub mod Determination
+pub mod AttributeNames

@@ -5,17 +5,17 @@
 
 ghost use Rattle.std.specs.Prelude.{◌≡◌, ◌<◌, ◌≤◌, ◌+◌, ◌^◌, ◌++◌, ◌∷◌, [], true, length, replicate, option_map, IfOk, OnOk};
 ghost use Rattle.link_lines_values.specs.Indents.{indent};
-ghost use Rattle.link_lines_names.specs.Behind.{Inside, Inside.Peer, inside_of, known_inside};
+ghost use Rattle.link_lines_names.specs.Format.{Inside, Inside.Peer, inside_of, known_inside};
 ghost use Rattle.link_lines_names.specs.Views.{attribute_of};
 ghost use Rattle.link_lines_texts.specs.Lists.{header_inside, inside_list, inside_table, inside_text, list_inside};
-ghost use Rattle.link_lines_texts.specs.Lists.{list_lines, next_in, own_lines, peer_list};
+ghost use Rattle.link_lines_texts.specs.Lists.{list_lines, next_in, attribute_lines, peer_list};
 ghost use Rattle.link_tables.specs.InForce.{in_force};
 
-use crate::laws::lists_go_by_steps;
+use crate::laws::lists_unfold_by_attributes;
 use crate::links::push_link_header;
-use crate::titles::title_of;
+use crate::attribute_names::attribute_name_of;
 use link_interpreter::{Attribute, KIND_BOUND, first_attribute};
-use link_lines_names::{Behind, BehindBy, known_behind, push_raw};
+use link_lines_names::{Format, FormatBy, known_format, push_raw};
 use link_lines_values::{push_bytes, push_indent, push_value};
 use link_tables::table::LINK_INFO;
 use link_tables::{InForce, LINK_HEADER_LEN, NO_KINDS, Table, family_table, next_force};
@@ -23,7 +23,7 @@ use std::alloc::AllocError;
 
 /// The table of a list of attributes, and whether the list belongs to a peer.
 #[derive(Clone, Copy)]
-pub(crate) struct Place {
+pub(crate) struct ListTable {
     pub(crate) table: Table,
     pub(crate) is_in_peer: bool,
 }
@@ -41,13 +41,13 @@ fn force_after<'a>(table: Table, force: InForce<'a>, attribute: Attribute<'a>) -
 }
 
 /// Appends what follows an attribute's name on the same line.
-fn push_behind(behind: Behind, payload: &[u8], out: &mut Vec<u8>) -> Result<(), AllocError>
+fn push_after_name(format: Format, payload: &[u8], out: &mut Vec<u8>) -> Result<(), AllocError>
     ensures ok { OnOk result (out.new.items ≡ out.old.items
-        ++ inside_text (inside_of (λ b. b.now) (λ t. t.now) (λ r. r.now) behind.entry) payload.now) }
+        ++ inside_text (inside_of (λ b. b.now) (λ t. t.now) (λ r. r.now) format.entry) payload.now) }
 {
-    match behind {
-        BehindBy::Value(shown) => push_value(shown, payload, out),
-        BehindBy::Peer if payload.len() < LINK_HEADER_LEN => push_bytes(payload, out),
+    match format {
+        FormatBy::Value(shown) => push_value(shown, payload, out),
+        FormatBy::Peer if payload.len() < LINK_HEADER_LEN => push_bytes(payload, out),
         _ => Ok(()),
     }
 }
@@ -59,7 +59,7 @@ fn open_peer<'a>(
     level: usize,
     payload: &'a [u8],
     out: &mut Vec<u8>,
-) -> Result<Option<(Place, &'a [u8])>, AllocError>
+) -> Result<Option<(ListTable, &'a [u8])>, AllocError>
     ensures ok { OnOk result (out.new.items ≡ out.old.items ++ header_inside level Inside.Peer payload.now) }
     ensures list { IfOk result (λ found. option_map (λ f. (f.0, f.1.now)) found ≡ peer_list payload.now) }
 {
@@ -67,20 +67,20 @@ fn open_peer<'a>(
         return Ok(None);
     }
     push_link_header(level, payload, out)?;
-    let place = Place {
+    let list_table = ListTable {
         table: family_table(payload[0]),
         is_in_peer: true,
     };
-    Ok(Some((place, &payload[LINK_HEADER_LEN..])))
+    Ok(Some((list_table, &payload[LINK_HEADER_LEN..])))
 }
 
 /// Returns the table of the list that is shown below a name, if there is such a list.
-fn table_behind(behind: Behind) -> Option<Table>
-    ensures { result ≡ inside_table (inside_of (λ b. b.now) (λ t. t.now) (λ r. r.now) behind.entry) }
+fn table_of_format(format: Format) -> Option<Table>
+    ensures { result ≡ inside_table (inside_of (λ b. b.now) (λ t. t.now) (λ r. r.now) format.entry) }
 {
-    match behind {
-        BehindBy::List(_, table) => Some(table),
-        BehindBy::LinkInfo => Some(LINK_INFO),
+    match format {
+        FormatBy::List(_, table) => Some(table),
+        FormatBy::LinkInfo => Some(LINK_INFO),
         _ => None,
     }
 }
@@ -90,23 +90,23 @@ fn table_behind(behind: Behind) -> Option<Table>
 fn open_list<'a>(
     level: usize,
     is_in_peer: bool,
-    behind: Behind,
+    format: Format,
     payload: &'a [u8],
     out: &mut Vec<u8>,
-) -> Result<Option<(Place, &'a [u8])>, AllocError>
+) -> Result<Option<(ListTable, &'a [u8])>, AllocError>
     ensures ok { OnOk result (out.new.items ≡ out.old.items
-        ++ header_inside level (inside_of (λ b. b.now) (λ t. t.now) (λ r. r.now) behind.entry) payload.now) }
+        ++ header_inside level (inside_of (λ b. b.now) (λ t. t.now) (λ r. r.now) format.entry) payload.now) }
     ensures list { IfOk result (λ found. option_map (λ f. (f.0, f.1.now)) found
-        ≡ inside_list is_in_peer (inside_of (λ b. b.now) (λ t. t.now) (λ r. r.now) behind.entry) payload.now) }
+        ≡ inside_list is_in_peer (inside_of (λ b. b.now) (λ t. t.now) (λ r. r.now) format.entry) payload.now) }
 {
-    if let BehindBy::Peer = behind {
+    if let FormatBy::Peer = format {
         return open_peer(level, payload, out);
     }
-    let Some(table) = table_behind(behind) else {
+    let Some(table) = table_of_format(format) else {
         return Ok(None);
     };
-    let place = Place { table, is_in_peer };
-    Ok(Some((place, payload)))
+    let list_table = ListTable { table, is_in_peer };
+    Ok(Some((list_table, payload)))
 }
 
 /// Appends an attribute that has a name: its line, and the line of a peer's header below it.
@@ -115,53 +115,53 @@ fn push_named<'a>(
     level: usize,
     is_in_peer: bool,
     name: &[u8],
-    behind: Behind,
+    format: Format,
     payload: &'a [u8],
     out: &mut Vec<u8>,
-) -> Result<Option<(Place, &'a [u8])>, AllocError>
+) -> Result<Option<(ListTable, &'a [u8])>, AllocError>
     requires { level < 2 ^ 63 }
     ensures ok { OnOk result (out.new.items ≡ out.old.items ++ (name.now
-        ++ (inside_text (inside_of (λ b. b.now) (λ t. t.now) (λ r. r.now) behind.entry) payload.now
-        ++ 10 ∷ header_inside (level + 1) (inside_of (λ b. b.now) (λ t. t.now) (λ r. r.now) behind.entry) payload.now))) }
+        ++ (inside_text (inside_of (λ b. b.now) (λ t. t.now) (λ r. r.now) format.entry) payload.now
+        ++ 10 ∷ header_inside (level + 1) (inside_of (λ b. b.now) (λ t. t.now) (λ r. r.now) format.entry) payload.now))) }
     ensures list { IfOk result (λ found. option_map (λ f. (f.0, f.1.now)) found
-        ≡ inside_list is_in_peer (inside_of (λ b. b.now) (λ t. t.now) (λ r. r.now) behind.entry) payload.now) }
+        ≡ inside_list is_in_peer (inside_of (λ b. b.now) (λ t. t.now) (λ r. r.now) format.entry) payload.now) }
 {
     out.extend_from_slice(name)?;
-    push_behind(behind, payload, out)?;
+    push_after_name(format, payload, out)?;
     out.extend_from_slice(b"\n")?;
-    open_list(level + 1, is_in_peer, behind, payload, out)
+    open_list(level + 1, is_in_peer, format, payload, out)
 }
 
 /// Appends the line of an attribute, and that of a peer's header below it, but not those of its
 /// list. Returns that list, if the attribute holds one.
-#[tactic(auto, unfolding(crate::specs::Lists::own_lines, crate::specs::Lists::list_inside))]
+#[tactic(auto, unfolding(crate::specs::Lists::attribute_lines, crate::specs::Lists::list_inside))]
 fn push_attribute<'a>(
     level: usize,
-    place: Place,
+    list_table: ListTable,
     force: InForce<'_>,
     attribute: Attribute<'a>,
     out: &mut Vec<u8>,
-) -> Result<Option<(Place, &'a [u8])>, AllocError>
+) -> Result<Option<(ListTable, &'a [u8])>, AllocError>
     requires { level < 2 ^ 63 }
     ensures ok { OnOk result (out.new.items ≡ out.old.items
-        ++ own_lines level place (in_force force.entry)
+        ++ attribute_lines level list_table (in_force force.entry)
         (attribute_of attribute.entry.kind attribute.entry.payload)) }
     ensures list { IfOk result (λ found. option_map (λ f. (f.0, f.1.now)) found
-        ≡ list_inside place (in_force force.entry)
+        ≡ list_inside list_table (in_force force.entry)
         (attribute_of attribute.entry.kind attribute.entry.payload)) }
 {
     push_indent(level, out)?;
-    let Some((name, behind)) = title_of(place.table, attribute.kind % KIND_BOUND) else {
-        push_raw(place.table, attribute.kind, attribute.payload, out)?;
+    let Some((name, format)) = attribute_name_of(list_table.table, attribute.kind % KIND_BOUND) else {
+        push_raw(list_table.table, attribute.kind, attribute.payload, out)?;
         out.extend_from_slice(b"\n")?;
         return Ok(None);
     };
-    let behind = known_behind(place.is_in_peer, force, behind);
+    let format = known_format(list_table.is_in_peer, force, format);
     push_named(
         level,
-        place.is_in_peer,
+        list_table.is_in_peer,
         name,
-        behind,
+        format,
         attribute.payload,
         out,
     )
@@ -170,19 +170,19 @@ fn push_attribute<'a>(
 /// Appends the lines of a list of attributes of a table, indented for this level.
 pub(crate) fn push_list(
     level: usize,
-    place: Place,
+    list_table: ListTable,
     bytes: &[u8],
     out: &mut Vec<u8>,
 ) -> Result<(), AllocError>
     requires { level + length bytes.now < 2 ^ 63 }
-    ensures ok { OnOk result (out.new.items ≡ out.old.items ++ list_lines level place bytes.now) }
+    ensures ok { OnOk result (out.new.items ≡ out.old.items ++ list_lines level list_table bytes.now) }
 {
-    lists_go_by_steps();
+    lists_unfold_by_attributes();
     let mut rest = bytes;
     let mut force = NO_KINDS;
     while let Some((attribute, after)) = first_attribute(rest) {
-        let found = push_attribute(level, place, force, attribute, out)?;
-        force = force_after(place.table, force, attribute);
+        let found = push_attribute(level, list_table, force, attribute, out)?;
+        force = force_after(list_table.table, force, attribute);
         rest = after;
         if let Some((inside, list)) = found {
             push_list(level + 1, inside, list, out)?;

@@ -5,10 +5,10 @@ ghost use Rattle.netlink_packet_core_grammar.specs.Attributes.{nla_align};
 ghost use Rattle.netlink_packet_core.specs.Frames.{frame_length};
 ghost use Rattle.link_lines_values.specs.Names.{texts_of};
 ghost use Rattle.link_lines_texts.specs.Frames.{type_text, flag_names, numbers_text, header_line, request_line};
-ghost use Rattle.link_lines_texts.specs.Frames.{link_lines, bytes_line, behind_code, code_lines};
+ghost use Rattle.link_lines_texts.specs.Frames.{link_lines, bytes_line, after_code, code_lines};
 ghost use Rattle.link_lines_texts.specs.Frames.{body_lines, frame_lines};
 
-use crate::attributes::{Place, push_list};
+use crate::attributes::{ListTable, push_list};
 use crate::links::{push_labelled_decimal, push_labelled_flags, push_link_header};
 use link_capture_grammar::link_types::{RTM_DELLINK, RTM_GETLINK, RTM_NEWLINK, RTM_SETLINK};
 use link_lines_values::{
@@ -121,23 +121,23 @@ fn push_link(body: &[u8], out: &mut Vec<u8>) -> Result<(), AllocError>
         return push_bytes_line(b"body", body, out);
     }
     push_link_header(1, body, out)?;
-    let place = Place {
+    let list_table = ListTable {
         table: family_table(body[0]),
         is_in_peer: false,
     };
-    push_list(1, place, &body[LINK_HEADER_LEN..], out)
+    push_list(1, list_table, &body[LINK_HEADER_LEN..], out)
 }
 
 /// Appends the lines for what follows the code of an NLMSG_ERROR or NLMSG_DONE.
-#[tactic(auto, unfolding(crate::specs::Frames::behind_code))]
-fn push_behind_code(
+#[tactic(auto, unfolding(crate::specs::Frames::after_code))]
+fn push_after_code(
     numbers: bool,
     message_type: u16,
     rest: &[u8],
     out: &mut Vec<u8>,
 ) -> Result<(), AllocError>
     ensures ok { OnOk result (out.new.items
-        ≡ out.old.items ++ behind_code numbers message_type rest.now) }
+        ≡ out.old.items ++ after_code numbers message_type rest.now) }
 {
     if message_type == NLMSG_ERROR && rest.len() >= NETLINK_HEADER_LEN {
         push_request(numbers, rest, out)?;
@@ -163,7 +163,7 @@ fn push_code(
     out.extend_from_slice(b"  code")?;
     push_value(ShownBy::Signed, code, out)?;
     out.extend_from_slice(b"\n")?;
-    push_behind_code(numbers, message_type, rest, out)
+    push_after_code(numbers, message_type, rest, out)
 }
 
 /// Appends the lines of a message's body, by the message's type.

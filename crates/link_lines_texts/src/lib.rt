@@ -2,11 +2,11 @@
 #![tactic(auto)]
 
 mod attributes;
-mod data_titles;
+mod data_names;
 mod frames;
 pub mod laws;
 mod links;
-mod message_titles;
-mod titles;
+mod message_names;
+mod attribute_names;
 
 pub use frames::push_frame;

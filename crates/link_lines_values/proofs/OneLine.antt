@@ -11,14 +11,14 @@ use Rattle.netlink_packet_core_grammar.specs.Texts.{without_nul}
 use Rattle.link_lines_values.specs.declared.fields.FieldShown.{FieldShown}
 use Rattle.link_lines_values.specs.declared.fields.FieldShown.TheVariants as F
 use Rattle.link_lines_values.specs.declared.values.ShownBy.TheVariants as S
-use Rattle.link_lines_values.specs.Bytes.{address_text, bytes_text, colon_byte, colons, escaped, hardware_text, hex_text, is_zero, quoted, truth_text}
+use Rattle.link_lines_values.specs.Bytes.{address_text, bytes_text, colon_byte, colons, escaped, hardware_text, hex_text, is_zero, quoted, boolean_text}
 use Rattle.link_lines_values.specs.Digits.{hex_byte, hex_number, signed_text}
 use Rattle.link_lines_values.specs.Flags.{listed, named_flags, nameless, nameless_text, names_set, separated}
-use Rattle.link_lines_values.specs.Laws.{IsBehindASpace, IsLine, ValuesStandOnALine}
+use Rattle.link_lines_values.specs.Laws.{BeginsWithSpace, IsLine, ValuesAreOnALine}
 use Rattle.link_lines_values.specs.Names.{Text, bracketed, named_number, text_in}
 use Rattle.link_lines_values.specs.Records.{Field, field_text, field_value, fields_text, record_text, total_size}
 use Rattle.link_lines_values.specs.Values.{Shown, is_line, is_shown_on_a_line, value_text}
-use Rattle.link_lines_values.proofs.NumbersTold.{Digits, high, high_glyph}
+use Rattle.link_lines_values.proofs.NumbersDetermined.{Digits, high, high_glyph}
 
 -- ---- lines in general
 
@@ -46,11 +46,11 @@ lines_mapped f each [] = record {}
 lines_mapped f each (n ∷ p) = lines_joined (f n) (flat_map f p) (each n) (lines_mapped f each p)
 
 -- The test of a text that is written out.
-pub tested : (s : List ℕ) → is_line s ≡ true → IsLine s
-tested [] h = record {}
-tested (c ∷ s) h =
+pub is_line_checked : (s : List ℕ) → is_line s ≡ true → IsLine s
+is_line_checked [] h = record {}
+is_line_checked (c ∷ s) h =
     let parts = and_parts (nat_le 32 c) (is_line s) h in
-    (leb-true 32 c parts.0, tested s parts.1)
+    (leb-true 32 c parts.0, is_line_checked s parts.1)
 
 -- ---- digits
 
@@ -65,7 +65,7 @@ decimal_line : (n : ℕ) → IsLine (decimal n)
 decimal_line n = digits_line (decimal n) (high 10 n)
 
 hex_line : (n : ℕ) → IsLine (hex_number n)
-hex_line n = lines_joined (codes "0x") (digits 16 false n) (tested (codes "0x") refl) (digits_line (digits 16 false n) (high 16 n))
+hex_line n = lines_joined (codes "0x") (digits 16 false n) (is_line_checked (codes "0x") refl) (digits_line (digits 16 false n) (high 16 n))
 
 signed_line : (n : ℕ) → IsLine (signed_text n)
 signed_line n = search (joins, decimal_line)
@@ -114,13 +114,13 @@ escaped_line byte = escaped_by byte _ refl
 quoted_line : (p : List ℕ) → IsLine (quoted p)
 quoted_line p = let inner = lines_mapped escaped escaped_line (without_nul p) in search joins
 
-truth_line : (p : List ℕ) → IsLine (truth_text p)
-truth_line p = search (joins, tested)
+boolean_line : (p : List ℕ) → IsLine (boolean_text p)
+boolean_line p = search (joins, is_line_checked)
 
 -- ---- addresses
 
 dotted_line : (a b c d : ℕ) → IsLine (dotted_text a b c d)
-dotted_line a b c d = search (joins, decimal_line, tested) depth 12
+dotted_line a b c d = search (joins, decimal_line, is_line_checked) depth 12
 
 ipv4_line : (o : List ℕ) → IsLine (ipv4_text o)
 ipv4_line o = dotted_line (slice_index o 0) (slice_index o 1) (slice_index o 2) (slice_index o 3)
@@ -139,7 +139,7 @@ groups_line [] = record {}
 groups_line (n ∷ s) = let more = lines_mapped (λ t. codes ":" ++ hex t) colon_segment_line s in search (joins, segment_line)
 
 compressed_line : (s : List ℕ) (run : ℕ × ℕ) → IsLine (compressed_text s run)
-compressed_line s run = search (joins, groups_line, tested) depth 7
+compressed_line s run = search (joins, groups_line, is_line_checked) depth 7
 
 hex_groups_line : (s : List ℕ) → IsLine (hex_groups_text s)
 unfolding hex_groups_text
@@ -161,11 +161,11 @@ text_line : (rs : List Text) (n : ℕ) → are_lines rs ≡ true → IsLine (tex
 text_line [] n h = record {}
 text_line (r ∷ rs) n h =
     let parts = and_parts (is_line r.1) (are_lines rs) h in
-    either_line (n == r.0) r.1 (text_in rs n) (tested r.1 parts.0) (text_line rs n parts.1)
+    either_line (n == r.0) r.1 (text_in rs n) (is_line_checked r.1 parts.0) (text_line rs n parts.1)
 
 bracketed_line : (name : List ℕ) → IsLine name → IsLine (bracketed name)
 bracketed_line [] h = record {}
-bracketed_line (c ∷ name) h = let inner = lines_joined (c ∷ name) (codes ")") h (tested (codes ")") refl) in search joins
+bracketed_line (c ∷ name) h = let inner = lines_joined (c ∷ name) (codes ")") h (is_line_checked (codes ")") refl) in search joins
 
 named_line : (texts : List Text) (n : ℕ) → are_lines texts ≡ true → IsLine (named_number texts n)
 named_line texts n h = lines_joined (decimal n) (bracketed (text_in texts n)) (decimal_line n) (bracketed_line (text_in texts n) (text_line texts n h))
@@ -183,18 +183,18 @@ set_lines [] n h = record {}
 set_lines (r ∷ rs) n h =
     let parts = and_parts (is_line r.1) (are_lines rs) h in
     let rest = set_lines rs n parts.1 in
-    chosen_lines (bit_and n r.0 == 0) (names_set rs n) (r.1 ∷ names_set rs n) rest (tested r.1 parts.0, rest)
+    chosen_lines (bit_and n r.0 == 0) (names_set rs n) (r.1 ∷ names_set rs n) rest (is_line_checked r.1 parts.0, rest)
 
 separated_line : (names : List (List ℕ)) → AllLines names → IsLine (separated names)
 separated_line [] h = record {}
 separated_line (name ∷ names) h = let more = separated_line names h.1 in search joins depth 7
 
 nameless_line : (n : ℕ) → IsLine (nameless_text n)
-nameless_line n = search (joins, hex_line, tested) depth 7
+nameless_line n = search (joins, hex_line, is_line_checked) depth 7
 
 listed_line : (names : List (List ℕ)) (rest : ℕ) → AllLines names → IsLine (listed names rest)
 listed_line [] rest h = record {}
-listed_line (name ∷ names) rest h = let more = separated_line names h.1 in search (joins, nameless_line, tested) depth 9
+listed_line (name ∷ names) rest h = let more = separated_line names h.1 in search (joins, nameless_line, is_line_checked) depth 9
 
 flags_line : (names : List Text) (n : ℕ) → are_lines names ≡ true → IsLine (named_flags names n)
 flags_line names n h = lines_joined (hex_number n) _ (hex_line n) (listed_line (names_set names n) (nameless names n) (set_lines names n h))
@@ -202,11 +202,11 @@ flags_line names n h = lines_joined (hex_number n) _ (hex_line n) (listed_line (
 -- ---- records
 
 field_value_line : (v : FieldShown) (p : List ℕ) → IsLine (field_value v p)
-field_value_line F.Truth p = truth_line p
+field_value_line F.Boolean p = boolean_line p
 field_value_line v p = search (joins, decimal_line, signed_line, hex_text_line, colons_line)
 
 field_line : (f : Field) (p : List ℕ) → is_line f.0 ≡ true → IsLine (field_text f p)
-field_line f p h = search (joins, tested, field_value_line) depth 7
+field_line f p h = search (joins, is_line_checked, field_value_line) depth 7
 
 abbrev names_are_lines : List Field → Bool
 names_are_lines fs = list_all (λ f. is_line f.0) fs
@@ -233,7 +233,7 @@ optional_line [] = record {}
 optional_line (byte ∷ []) = (omega arith, decimal_line byte)
 optional_line (a ∷ b ∷ p) = bytes_line (a ∷ b ∷ p)
 
-ruleset lines = (joins, decimal_line, hex_line, signed_line, named_line, flags_line, bytes_line, hardware_line, address_line, record_line, truth_line, quoted_line)
+ruleset lines = (joins, decimal_line, hex_line, signed_line, named_line, flags_line, bytes_line, hardware_line, address_line, record_line, boolean_line, quoted_line)
 
 line : (shown : Shown) (p : List ℕ) → is_shown_on_a_line shown ≡ true → IsLine (value_text shown p)
 line S.Presence p h = record {}
@@ -242,28 +242,28 @@ line shown p h = search lines depth 12
 
 -- ---- a space at the start
 
-pub either_space : (test : Bool) (s t : List ℕ) → IsBehindASpace s → IsBehindASpace t → IsBehindASpace (cond test s t)
+pub either_space : (test : Bool) (s t : List ℕ) → BeginsWithSpace s → BeginsWithSpace t → BeginsWithSpace (cond test s t)
 either_space true s t h k = h
 either_space false s t h k = k
 
-spaces_joined : (s t : List ℕ) → IsBehindASpace s → IsBehindASpace t → IsBehindASpace (s ++ t)
+spaces_joined : (s t : List ℕ) → BeginsWithSpace s → BeginsWithSpace t → BeginsWithSpace (s ++ t)
 spaces_joined [] t h k = k
 spaces_joined (c ∷ s) t h k = h
 
-bytes_space : (p : List ℕ) → IsBehindASpace (bytes_text p)
+bytes_space : (p : List ℕ) → BeginsWithSpace (bytes_text p)
 bytes_space [] = record {}
 bytes_space (byte ∷ p) = refl
 
-hardware_space : (p : List ℕ) → IsBehindASpace (hardware_text p)
+hardware_space : (p : List ℕ) → BeginsWithSpace (hardware_text p)
 hardware_space [] = record {}
 hardware_space (byte ∷ p) = refl
 
-optional_space : (p : List ℕ) → IsBehindASpace (value_text S.OptionalByte p)
+optional_space : (p : List ℕ) → BeginsWithSpace (value_text S.OptionalByte p)
 optional_space [] = record {}
 optional_space (byte ∷ []) = refl
 optional_space (a ∷ b ∷ p) = refl
 
-fields_space : (sparse : Bool) (fs : List Field) (p : List ℕ) → IsBehindASpace (fields_text sparse fs p)
+fields_space : (sparse : Bool) (fs : List Field) (p : List ℕ) → BeginsWithSpace (fields_text sparse fs p)
 fields_space sparse [] p = record {}
 fields_space sparse (f ∷ fs) p =
     let first = field_text f (take f.1 p) in
@@ -271,7 +271,7 @@ fields_space sparse (f ∷ fs) p =
     spaces_joined (cond test [] first) (fields_text sparse fs (drop f.1 p))
     (either_space test [] first (record {}) refl) (fields_space sparse fs (drop f.1 p))
 
-record_space : (sparse : Bool) (fs : List Field) (p : List ℕ) → IsBehindASpace (record_text sparse fs p)
+record_space : (sparse : Bool) (fs : List Field) (p : List ℕ) → BeginsWithSpace (record_text sparse fs p)
 unfolding record_text
 record_space sparse fs p =
     let n = total_size fs in
@@ -280,9 +280,9 @@ record_space sparse fs p =
 
 ruleset spaces = (either_space, bytes_space, hardware_space, record_space)
 
-space : (shown : Shown) (p : List ℕ) → IsBehindASpace (value_text shown p)
+space : (shown : Shown) (p : List ℕ) → BeginsWithSpace (value_text shown p)
 space S.OptionalByte p = optional_space p
 space shown p = search spaces
 
-pub values_stand : ValuesStandOnALine
-values_stand = record { line = line; space = space }
+pub values_are_lines : ValuesAreOnALine
+values_are_lines = record { line = line; space = space }

@@ -1,10 +1,10 @@
 -- The lemmas that the laws use.
-use Rattle.link_lines_values.proofs.BytesTold.{bytes_told}
-use Rattle.link_lines_values.proofs.NumbersTold.{digits_are, numbers_told}
-use Rattle.link_lines_values.proofs.OneLine.{values_stand}
-use Rattle.link_lines_values.proofs.RecordsTold.{records_told}
-use Rattle.link_lines_values.proofs.SizedTold.{sized_told}
-use Rattle.link_lines_values.proofs.SizesTold.{sizes_told}
-use Rattle.link_lines_values.proofs.ValuesTold.{addresses_told, settings_told}
+use Rattle.link_lines_values.proofs.BytesDetermined.{bytes_determined}
+use Rattle.link_lines_values.proofs.NumbersDetermined.{digits_are, numbers_determined}
+use Rattle.link_lines_values.proofs.OneLine.{values_are_lines}
+use Rattle.link_lines_values.proofs.RecordsDetermined.{records_determined}
+use Rattle.link_lines_values.proofs.SizedDetermined.{sized_determined}
+use Rattle.link_lines_values.proofs.SizesDetermined.{sizes_determined}
+use Rattle.link_lines_values.proofs.ValuesDetermined.{addresses_determined, settings_determined}
 
-pub ruleset laws = (bytes_told, digits_are, numbers_told, addresses_told, settings_told, sizes_told, records_told, values_stand, sized_told)
+pub ruleset laws = (bytes_determined, digits_are, numbers_determined, addresses_determined, settings_determined, sizes_determined, records_determined, values_are_lines, sized_determined)

@@ -53,8 +53,8 @@ abbrev pub quoted : List ℕ → List ℕ
 quoted bytes = 34 ∷ (flat_map escaped (without_nul bytes) ++ 34 ∷ [])
 
 -- The word `on` if a byte isn't zero, else `off`.
-abbrev pub truth_text : List ℕ → List ℕ
-truth_text bytes = cond (is_zero bytes) (codes "off") (codes "on")
+abbrev pub boolean_text : List ℕ → List ℕ
+boolean_text bytes = cond (is_zero bytes) (codes "off") (codes "on")
 
 -- A space and an address of 4 bytes (IPv4) or 16 (IPv6); other sizes as bytes.
 abbrev pub address_text : List ℕ → List ℕ

@@ -7,11 +7,11 @@ use Rattle.netlink_packet_core_grammar.specs.Bytes.{AreBytes}
 use Rattle.netlink_packet_core_grammar.specs.Texts.{without_nul}
 use Rattle.link_lines_values.specs.declared.fields.FieldShown.{FieldShown}
 use Rattle.link_lines_values.specs.declared.fields.FieldShown.TheVariants as S
-use Rattle.link_lines_values.specs.Bytes.{address_text, bytes_text, hardware_text, is_zero, quoted, truth_text}
+use Rattle.link_lines_values.specs.Bytes.{address_text, bytes_text, hardware_text, is_zero, quoted, boolean_text}
 use Rattle.link_lines_values.specs.Digits.{hex_number, is_number}
 use Rattle.link_lines_values.specs.Names.{Text}
-use Rattle.link_lines_values.specs.Records.{Field, fields_tell, record_text, total_size}
-use Rattle.link_lines_values.specs.Values.{Shown, is_shown_on_a_line, tells_sized, value_text, number_value, big_endian_value, signed_value, flags_value, named_flags_value, big_endian_flags_value, flags_and_mask_value, optional_byte_value, port_range_value, sized_flags_value}
+use Rattle.link_lines_values.specs.Records.{Field, fields_determine, record_text, total_size}
+use Rattle.link_lines_values.specs.Values.{Shown, is_shown_on_a_line, determines_sized, value_text, number_value, big_endian_value, signed_value, flags_value, named_flags_value, big_endian_flags_value, flags_and_mask_value, optional_byte_value, port_range_value, sized_flags_value}
 
 -- A text is empty, or begins with a byte below the digits: a space, a bracket, a newline.
 abbrev pub Ends : List ℕ → Type 0
@@ -19,7 +19,7 @@ Ends [] = ⊤
 Ends (c ∷ s) = c < 48
 
 -- Digits that such bytes follow determine their number, in decimal or in hex.
-pub record DigitsAreTold : Type 0 where
+pub record DigitsAreDetermined : Type 0 where
   pub decimal_digits : (m n : ℕ) (s t : List ℕ) → m < 2 ^ 64 → n < 2 ^ 64 → Ends s → Ends t → decimal m ++ s ≡ decimal n ++ t → (m ≡ n) × (s ≡ t)
   pub hex_digits : (m n : ℕ) (s t : List ℕ) → m < 2 ^ 64 → n < 2 ^ 64 → Ends s → Ends t → hex_number m ++ s ≡ hex_number n ++ t → (m ≡ n) × (s ≡ t)
 
@@ -28,24 +28,24 @@ abbrev pub IsLine : List ℕ → Type 0
 IsLine s = AllByRecursion (λ c. 32 ≤ c) s
 
 -- A text is empty, or begins with a space.
-abbrev pub IsBehindASpace : List ℕ → Type 0
-IsBehindASpace [] = ⊤
-IsBehindASpace (c ∷ s) = c ≡ 32
+abbrev pub BeginsWithSpace : List ℕ → Type 0
+BeginsWithSpace [] = ⊤
+BeginsWithSpace (c ∷ s) = c ≡ 32
 
 -- A value's text is on one line if the names that it may show are, and is empty or begins with a space.
-pub record ValuesStandOnALine : Type 0 where
+pub record ValuesAreOnALine : Type 0 where
   pub line : (shown : Shown) (p : List ℕ) → is_shown_on_a_line shown ≡ true → IsLine (value_text shown p)
-  pub space : (shown : Shown) (p : List ℕ) → IsBehindASpace (value_text shown p)
+  pub space : (shown : Shown) (p : List ℕ) → BeginsWithSpace (value_text shown p)
 
 -- The text of bytes in hex, with or without colons, determines the bytes; that of bytes in quotes determines them up to
 -- a NUL at the end.
-pub record BytesAreTold : Type 0 where
+pub record BytesAreDetermined : Type 0 where
   pub bytes : (p q : List ℕ) → AreBytes p → AreBytes q → bytes_text p ≡ bytes_text q → p ≡ q
   pub hardware : (p q : List ℕ) → AreBytes p → AreBytes q → hardware_text p ≡ hardware_text q → p ≡ q
   pub text : (p q : List ℕ) → AreBytes p → AreBytes q → quoted p ≡ quoted q → without_nul p ≡ without_nul q
 
 -- The text of a number determines it among numbers of one size, whatever names follow it.
-pub record NumbersAreTold : Type 0 where
+pub record NumbersAreDetermined : Type 0 where
   pub little : (texts : List Text) (p q : List ℕ) → AreBytes p → AreBytes q → length p ≡ length q → is_number p ≡ true → number_value texts p ≡ number_value texts q → p ≡ q
   pub big : (texts : List Text) (p q : List ℕ) → AreBytes p → AreBytes q → length p ≡ length q → is_number p ≡ true → big_endian_value texts p ≡ big_endian_value texts q → p ≡ q
   pub signed : (p q : List ℕ) → AreBytes p → AreBytes q → length p ≡ 4 → length q ≡ 4 → signed_value p ≡ signed_value q → p ≡ q
@@ -53,27 +53,27 @@ pub record NumbersAreTold : Type 0 where
   pub named_flags : (names : List Text) (p q : List ℕ) → AreBytes p → AreBytes q → length p ≡ length q → is_number p ≡ true → named_flags_value names p ≡ named_flags_value names q → p ≡ q
 
 -- The text of an address determines it among addresses of one size.
-pub record AddressesAreTold : Type 0 where
+pub record AddressesAreDetermined : Type 0 where
   pub ipv4 : (p q : List ℕ) → AreBytes p → AreBytes q → length p ≡ 4 → length q ≡ 4 → address_text p ≡ address_text q → p ≡ q
   pub ipv6 : (p q : List ℕ) → AreBytes p → AreBytes q → length p ≡ 16 → length q ≡ 16 → address_text p ≡ address_text q → p ≡ q
 
 -- The texts of sets of flags, of an optional byte, of two port numbers, and of booleans that are 0 or 1 determine them.
-pub record SettingsAreTold : Type 0 where
+pub record SettingsAreDetermined : Type 0 where
   pub big : (p q : List ℕ) → AreBytes p → AreBytes q → length p ≡ length q → is_number p ≡ true → big_endian_flags_value p ≡ big_endian_flags_value q → p ≡ q
   pub sized_4 : (p q : List ℕ) → AreBytes p → AreBytes q → length p ≡ 4 → length q ≡ 4 → sized_flags_value p ≡ sized_flags_value q → p ≡ q
   pub sized_2 : (p q : List ℕ) → AreBytes p → AreBytes q → length p ≡ 2 → length q ≡ 2 → sized_flags_value p ≡ sized_flags_value q → p ≡ q
   pub masked : (p q : List ℕ) → AreBytes p → AreBytes q → length p ≡ 8 → length q ≡ 8 → flags_and_mask_value p ≡ flags_and_mask_value q → p ≡ q
   pub optional : (p q : List ℕ) → AreBytes p → AreBytes q → length p ≤ 1 → length q ≤ 1 → optional_byte_value p ≡ optional_byte_value q → p ≡ q
   pub ports : (p q : List ℕ) → AreBytes p → AreBytes q → length p ≡ 4 → length q ≡ 4 → port_range_value p ≡ port_range_value q → p ≡ q
-  pub truth : (p q : List ℕ) → AreBytes p → AreBytes q → length p ≡ length q → number p ≤ 1 → number q ≤ 1 → truth_text p ≡ truth_text q → p ≡ q
+  pub boolean : (p q : List ℕ) → AreBytes p → AreBytes q → length p ≡ length q → number p ≤ 1 → number q ≤ 1 → boolean_text p ≡ boolean_text q → p ≡ q
 
 -- No address of 4 bytes has the text of one of 16.
-abbrev pub AddressSizesAreTold : Type 0
-AddressSizesAreTold = (p q : List ℕ) → AreBytes p → AreBytes q → length p ≡ 4 → length q ≡ 16 → address_text p ≡ address_text q → ⊥
+abbrev pub AddressSizesAreDetermined : Type 0
+AddressSizesAreDetermined = (p q : List ℕ) → AreBytes p → AreBytes q → length p ≡ 4 → length q ≡ 16 → address_text p ≡ address_text q → ⊥
 
 -- A field that is shown as a boolean is 0 or 1.
 abbrev pub IsKnown : FieldShown → List ℕ → Type 0
-IsKnown S.Truth p = number p ≤ 1
+IsKnown S.Boolean p = number p ≤ 1
 IsKnown v p = ⊤
 
 -- Every field that is shown as a boolean is 0 or 1.
@@ -89,11 +89,11 @@ pub record HoldsFields (fs : List Field) (p : List ℕ) : Type 0 where
   pub known : AllKnown fs (take (total_size fs) p)
 
 -- The text of a record determines it among records of one size, whether fields that are zero are left out or not.
-abbrev pub RecordsAreTold : Type 0
-RecordsAreTold = (sparse : Bool) (fs : List Field) (p q : List ℕ) → fields_tell fs ≡ true → HoldsFields fs p → HoldsFields fs q → length p ≡ length q → record_text sparse fs p ≡ record_text sparse fs q → p ≡ q
+abbrev pub RecordsAreDetermined : Type 0
+RecordsAreDetermined = (sparse : Bool) (fs : List Field) (p q : List ℕ) → fields_determine fs ≡ true → HoldsFields fs p → HoldsFields fs q → length p ≡ length q → record_text sparse fs p ≡ record_text sparse fs q → p ≡ q
 
 -- The text of a payload of n bytes determines it if its format knows n; and no such text begins as that of bytes after
 -- the word `bytes` does.
-pub record SizedValuesAreTold : Type 0 where
-  pub told : (n : ℕ) (shown : Shown) (p q : List ℕ) → tells_sized n shown ≡ true → AreBytes p → AreBytes q → length p ≡ n → length q ≡ n → value_text shown p ≡ value_text shown q → p ≡ q
-  pub apart : (n : ℕ) (shown : Shown) (p s : List ℕ) → tells_sized n shown ≡ true → AreBytes p → length p ≡ n → value_text shown p ≡ codes " bytes" ++ s → ⊥
+pub record SizedValuesAreDetermined : Type 0 where
+  pub determined : (n : ℕ) (shown : Shown) (p q : List ℕ) → determines_sized n shown ≡ true → AreBytes p → AreBytes q → length p ≡ n → length q ≡ n → value_text shown p ≡ value_text shown q → p ≡ q
+  pub apart : (n : ℕ) (shown : Shown) (p s : List ℕ) → determines_sized n shown ≡ true → AreBytes p → length p ≡ n → value_text shown p ≡ codes " bytes" ++ s → ⊥

@@ -6,4 +6,4 @@ pub mod Records
 pub mod Values
 pub mod Laws
 pub mod Indents
-pub mod Placed
+pub mod DenseRows

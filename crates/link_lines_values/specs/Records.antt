@@ -6,7 +6,7 @@ use Rattle.link_lines_values.specs.declared.fields.FieldOf.{FieldOf}
 use Rattle.link_lines_values.specs.declared.fields.FieldShown.{FieldShown}
 use Rattle.link_lines_values.specs.declared.fields.FieldShown.TheVariants as S
 use Rattle.link_lines_values.specs.Digits.{big_endian, is_number, signed_text}
-use Rattle.link_lines_values.specs.Bytes.{bytes_text, hex_text, is_zero, padded_address, truth_text}
+use Rattle.link_lines_values.specs.Bytes.{bytes_text, hex_text, is_zero, padded_address, boolean_text}
 
 -- A field of a record: its name, its size in bytes, and how it is shown.
 abbrev pub Field : Type 0
@@ -37,7 +37,7 @@ field_value S.Number part = cond (is_number part) (decimal (number part)) (hex_t
 field_value S.Signed part = cond (length part == 4) (signed_text (number part)) (hex_text part)
 field_value S.BigEndian part = cond (is_number part) (decimal (big_endian part)) (hex_text part)
 field_value S.Address part = padded_address part
-field_value S.Truth part = truth_text part
+field_value S.Boolean part = boolean_text part
 
 -- A field as in ` vlan=7`.
 abbrev pub field_text : Field → List ℕ → List ℕ
@@ -66,7 +66,7 @@ has_size S.Number n = is_size n
 has_size S.Signed n = n == 4
 has_size S.BigEndian n = is_size n
 has_size S.Address n = true
-has_size S.Truth n = true
+has_size S.Boolean n = true
 
 -- Whether the sizes of all fields are ones that their formats know.
 abbrev pub sizes_known : List Field → Bool
@@ -89,5 +89,5 @@ names_apart [] = true
 names_apart (f ∷ fs) = no_equals f.0 && (lacks f.0 fs && names_apart fs)
 
 -- Whether the text of a record with these fields determines it.
-abbrev pub fields_tell : List Field → Bool
-fields_tell fs = sizes_known fs && names_apart fs
+abbrev pub fields_determine : List Field → Bool
+fields_determine fs = sizes_known fs && names_apart fs

@@ -7,7 +7,7 @@ use Rattle.link_lines_values.specs.declared.fields.FieldOf.{FieldOf}
 use Rattle.link_lines_values.specs.declared.values.ShownBy.{ShownBy}
 use Rattle.link_lines_values.specs.declared.values.ShownBy.TheVariants as S
 use Rattle.link_lines_values.specs.Digits.{big_endian, is_number, hex_number, signed_text}
-use Rattle.link_lines_values.specs.Bytes.{address_text, bytes_text, hardware_text, quoted, truth_text}
+use Rattle.link_lines_values.specs.Bytes.{address_text, bytes_text, hardware_text, quoted, boolean_text}
 use Rattle.link_lines_values.specs.Flags.{named_flags}
 use Rattle.link_lines_values.specs.Names.{Text, named_number, texts_of}
 use Rattle.link_lines_values.specs.Records.{Field, fields_of, is_size, record_text}
@@ -17,25 +17,25 @@ abbrev pub Shown : Type 0
 Shown = ShownBy (List Text) (List Field)
 
 -- The format that a value in code represents.
-abbrev pub seen : {N T R : Type 0} → (N → List ℕ) → (T → List (ℕ × N)) → (R → List (FieldOf N)) → ShownBy T R → Shown
-seen f g h (S.Number texts) = S.Number (texts_of f (g texts))
-seen f g h (S.BigEndian texts) = S.BigEndian (texts_of f (g texts))
-seen f g h S.Signed = S.Signed
-seen f g h S.Flags = S.Flags
-seen f g h (S.NamedFlags names) = S.NamedFlags (texts_of f (g names))
-seen f g h S.BigEndianFlags = S.BigEndianFlags
-seen f g h S.FlagsBySize = S.FlagsBySize
-seen f g h S.Truth = S.Truth
-seen f g h S.Presence = S.Presence
-seen f g h S.OptionalByte = S.OptionalByte
-seen f g h S.Text = S.Text
-seen f g h S.Bytes = S.Bytes
-seen f g h S.HardwareAddress = S.HardwareAddress
-seen f g h S.Address = S.Address
-seen f g h S.PortRange = S.PortRange
-seen f g h S.FlagsAndMask = S.FlagsAndMask
-seen f g h (S.Record fields) = S.Record (fields_of f (h fields))
-seen f g h (S.SparseRecord fields) = S.SparseRecord (fields_of f (h fields))
+abbrev pub format_of : {N T R : Type 0} → (N → List ℕ) → (T → List (ℕ × N)) → (R → List (FieldOf N)) → ShownBy T R → Shown
+format_of f g h (S.Number texts) = S.Number (texts_of f (g texts))
+format_of f g h (S.BigEndian texts) = S.BigEndian (texts_of f (g texts))
+format_of f g h S.Signed = S.Signed
+format_of f g h S.Flags = S.Flags
+format_of f g h (S.NamedFlags names) = S.NamedFlags (texts_of f (g names))
+format_of f g h S.BigEndianFlags = S.BigEndianFlags
+format_of f g h S.FlagsBySize = S.FlagsBySize
+format_of f g h S.Boolean = S.Boolean
+format_of f g h S.Presence = S.Presence
+format_of f g h S.OptionalByte = S.OptionalByte
+format_of f g h S.Text = S.Text
+format_of f g h S.Bytes = S.Bytes
+format_of f g h S.HardwareAddress = S.HardwareAddress
+format_of f g h S.Address = S.Address
+format_of f g h S.PortRange = S.PortRange
+format_of f g h S.FlagsAndMask = S.FlagsAndMask
+format_of f g h (S.Record fields) = S.Record (fields_of f (h fields))
+format_of f g h (S.SparseRecord fields) = S.SparseRecord (fields_of f (h fields))
 
 -- A little-endian number of 1, 2, 4 or 8 bytes with its name; other sizes as bytes.
 abbrev pub number_value : List Text → List ℕ → List ℕ
@@ -97,7 +97,7 @@ value_text S.Flags p = flags_value p
 value_text (S.NamedFlags names) p = named_flags_value names p
 value_text S.BigEndianFlags p = big_endian_flags_value p
 value_text S.FlagsBySize p = sized_flags_value p
-value_text S.Truth p = 32 ∷ truth_text p
+value_text S.Boolean p = 32 ∷ boolean_text p
 value_text S.Presence p = []
 value_text S.OptionalByte p = optional_byte_value p
 value_text S.Text p = 32 ∷ quoted p
@@ -127,12 +127,12 @@ is_shown_on_a_line shown = true
 -- ---- whether a value determines payloads of one size
 
 -- Whether a format determines the payloads of n bytes.
-abbrev pub tells_sized : ℕ → Shown → Bool
-tells_sized n (S.Number texts) = is_size n
-tells_sized n (S.BigEndian texts) = is_size n
-tells_sized n S.Signed = n == 4
-tells_sized n S.Flags = is_size n
-tells_sized n S.Presence = n == 0
-tells_sized n S.HardwareAddress = true
-tells_sized n S.FlagsAndMask = n == 8
-tells_sized n shown = false
+abbrev pub determines_sized : ℕ → Shown → Bool
+determines_sized n (S.Number texts) = is_size n
+determines_sized n (S.BigEndian texts) = is_size n
+determines_sized n S.Signed = n == 4
+determines_sized n S.Flags = is_size n
+determines_sized n S.Presence = n == 0
+determines_sized n S.HardwareAddress = true
+determines_sized n S.FlagsAndMask = n == 8
+determines_sized n shown = false

@@ -2,7 +2,7 @@
 
 ghost use Rattle.std.specs.Prelude.{◌≡◌, ◌++◌, ◌∷◌, [], flat_map, OnOk};
 ghost use Rattle.link_lines_values.specs.Bytes.{hex_text, bytes_text, colon_byte, colons, hardware_text, is_zero};
-ghost use Rattle.link_lines_values.specs.Bytes.{count_without_zeros, padded_address, escaped, quoted, truth_text};
+ghost use Rattle.link_lines_values.specs.Bytes.{count_without_zeros, padded_address, escaped, quoted, boolean_text};
 
 use crate::digits::hex_byte;
 use netlink_packet_core_numbers::without_nul;
@@ -134,8 +134,8 @@ pub(crate) fn push_text(bytes: &[u8], out: &mut Vec<u8>) -> Result<(), AllocErro
 }
 
 /// Appends `on` if a byte isn't zero, or else `off`.
-pub(crate) fn push_truth(bytes: &[u8], out: &mut Vec<u8>) -> Result<(), AllocError>
-    ensures ok { OnOk result (out.new.items ≡ out.old.items ++ truth_text bytes.now) }
+pub(crate) fn push_boolean(bytes: &[u8], out: &mut Vec<u8>) -> Result<(), AllocError>
+    ensures ok { OnOk result (out.new.items ≡ out.old.items ++ boolean_text bytes.now) }
 {
     if is_zero(bytes) {
         out.extend_from_slice(b"off")

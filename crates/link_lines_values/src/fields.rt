@@ -1,6 +1,6 @@
 //! The fields of records, in the order of their bytes.
 
-use FieldShown::{Address, BigEndian, Number, Signed, Truth};
+use FieldShown::{Address, BigEndian, Number, Signed, Boolean};
 
 /// How a field of a record is shown.
 #[derive(Clone, Copy)]
@@ -14,7 +14,7 @@ pub enum FieldShown {
     /// A hardware address, padded with zeros.
     Address,
     /// A boolean: a number that is zero or not.
-    Truth,
+    Boolean,
 }
 
 /// A field of a record: its name, its size in bytes, and how it is shown, with names of type `N`.
@@ -288,7 +288,7 @@ pub const VF_RATE: Fields = &[
 
 /// A setting of a virtual function that is on or off (if_link.h: struct ifla_vf_spoofchk and others
 /// of its layout).
-pub const VF_SETTING: Fields = &[FieldOf(b"vf", 4, Number), FieldOf(b"setting", 4, Truth)];
+pub const VF_SETTING: Fields = &[FieldOf(b"vf", 4, Number), FieldOf(b"setting", 4, Boolean)];
 
 /// A virtual function's link state (if_link.h: struct ifla_vf_link_state).
 pub const VF_LINK_STATE: Fields = &[FieldOf(b"vf", 4, Number), FieldOf(b"link_state", 4, Number)];

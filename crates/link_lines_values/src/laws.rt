@@ -1,56 +1,56 @@
 //! Laws of the definitions: each function has an empty body, and its contract holds for all values.
 #![tactic(auto, using(crate::proofs::Together::laws))]
 
-ghost use Rattle.link_lines_values.specs.Laws.{AddressesAreTold, AddressSizesAreTold, BytesAreTold, DigitsAreTold};
-ghost use Rattle.link_lines_values.specs.Laws.{NumbersAreTold, RecordsAreTold, SettingsAreTold, SizedValuesAreTold};
-ghost use Rattle.link_lines_values.specs.Laws.{ValuesStandOnALine};
+ghost use Rattle.link_lines_values.specs.Laws.{AddressesAreDetermined, AddressSizesAreDetermined, BytesAreDetermined, DigitsAreDetermined};
+ghost use Rattle.link_lines_values.specs.Laws.{NumbersAreDetermined, RecordsAreDetermined, SettingsAreDetermined, SizedValuesAreDetermined};
+ghost use Rattle.link_lines_values.specs.Laws.{ValuesAreOnALine};
 
 /// The text of bytes in hex, with or without colons, determines the bytes; that of bytes in quotes
 /// determines them up to a NUL at the end.
-pub fn bytes_are_told()
-    ensures { BytesAreTold }
+pub fn bytes_are_determined()
+    ensures { BytesAreDetermined }
 {}
 
 /// Digits, in decimal or in hex, determine their number and what follows them, if that is empty or
 /// begins with a byte below the digits.
-pub fn digits_are_told()
-    ensures { DigitsAreTold }
+pub fn digits_are_determined()
+    ensures { DigitsAreDetermined }
 {}
 
 /// The text of a number determines it among numbers of one size, whatever names follow it.
-pub fn numbers_are_told()
-    ensures { NumbersAreTold }
+pub fn numbers_are_determined()
+    ensures { NumbersAreDetermined }
 {}
 
 /// The text of an address determines it among addresses of one size.
-pub fn addresses_are_told()
-    ensures { AddressesAreTold }
+pub fn addresses_are_determined()
+    ensures { AddressesAreDetermined }
 {}
 
 /// The texts of sets of flags, of an optional byte, of two port numbers, and of booleans that are 0
 /// or 1 determine them.
-pub fn settings_are_told()
-    ensures { SettingsAreTold }
+pub fn settings_are_determined()
+    ensures { SettingsAreDetermined }
 {}
 
 /// No address of 4 bytes has the text of one of 16.
-pub fn address_sizes_are_told()
-    ensures { AddressSizesAreTold }
+pub fn address_sizes_are_determined()
+    ensures { AddressSizesAreDetermined }
 {}
 
 /// The text of a record determines it among records of one size, whether fields that are zero are
 /// left out or not.
-pub fn records_are_told()
-    ensures { RecordsAreTold }
+pub fn records_are_determined()
+    ensures { RecordsAreDetermined }
 {}
 
 /// A value's text is on one line, and is empty or begins with a space.
-pub fn values_stand_on_a_line()
-    ensures { ValuesStandOnALine }
+pub fn values_are_on_a_line()
+    ensures { ValuesAreOnALine }
 {}
 
 /// The text of a payload determines it among payloads of one size, if its format knows the size;
 /// and no such text begins as that of bytes after the word `bytes` does.
-pub fn sized_values_are_told()
-    ensures { SizedValuesAreTold }
+pub fn sized_values_are_determined()
+    ensures { SizedValuesAreDetermined }
 {}

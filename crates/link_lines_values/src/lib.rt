@@ -10,7 +10,7 @@ mod indents;
 pub mod laws;
 mod number_texts;
 mod numbers;
-mod placed;
+mod dense_rows;
 mod records;
 mod values;
 
@@ -33,5 +33,5 @@ pub use number_texts::{
     PLAIN, STATE, TUNNEL_ENCAP_TYPE, VXLAN_DF,
 };
 pub use numbers::{push_name, push_number};
-pub use placed::look_up;
+pub use dense_rows::look_up;
 pub use values::{Shown, ShownBy, push_value};

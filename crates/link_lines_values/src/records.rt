@@ -5,7 +5,7 @@ ghost use Rattle.link_lines_values.specs.Bytes.{is_zero};
 ghost use Rattle.link_lines_values.specs.Records.{field_of, field_text, field_value, fields_of, fields_text};
 ghost use Rattle.link_lines_values.specs.Records.{number_or_hex, record_text, total_size};
 
-use crate::bytes::{is_zero, push_bytes, push_hex_text, push_padded_address, push_truth};
+use crate::bytes::{is_zero, push_bytes, push_hex_text, push_padded_address, push_boolean};
 use crate::digits::{big_endian, little_endian, push_decimal, push_signed};
 use crate::fields::{Field, FieldShown};
 use std::alloc::AllocError;
@@ -13,7 +13,7 @@ use std::alloc::AllocError;
 // Returns the bytes after the fields of a record; None if there are fewer bytes than the fields
 // have.
 #[tactic(auto, using(crate::proofs::Listing::further_on))]
-fn behind_fields<'a>(rows: &[Field], bytes: &'a [u8]) -> Option<&'a [u8]>
+fn after_fields<'a>(rows: &[Field], bytes: &'a [u8]) -> Option<&'a [u8]>
     ensures some { IfSome result (λ rest. rest.now ≡ drop (total_size (fields_of (λ b. b.now) rows.now)) bytes.now) }
     ensures whole { IfSome result
         (λ rest. length rest.now + total_size (fields_of (λ b. b.now) rows.now) ≡ length bytes.now) }
@@ -59,7 +59,7 @@ fn push_field_value(shown: FieldShown, part: &[u8], out: &mut Vec<u8>) -> Result
         FieldShown::Signed => push_field_signed(part, out),
         FieldShown::BigEndian => push_field_number(big_endian(part), part, out),
         FieldShown::Address => push_padded_address(part, out),
-        FieldShown::Truth => push_truth(part, out),
+        FieldShown::Boolean => push_boolean(part, out),
     }
 }
 
@@ -119,7 +119,7 @@ pub(crate) fn push_record(
     ensures ok { OnOk result (out.new.items
         ≡ out.old.items ++ record_text is_sparse (fields_of (λ b. b.now) rows.now) bytes.now) }
 {
-    match behind_fields(rows, bytes) {
+    match after_fields(rows, bytes) {
         Some(rest) if is_zero(rest) => {
             push_fields(is_sparse, rows, &bytes[..bytes.len() - rest.len()], out)
         }

@@ -1,15 +1,15 @@
 //! Payloads of attributes as text.
 
 ghost use Rattle.std.specs.Prelude.{◌≡◌, ◌++◌, ◌∷◌, codes, OnOk};
-ghost use Rattle.link_lines_values.specs.Bytes.{truth_text};
+ghost use Rattle.link_lines_values.specs.Bytes.{boolean_text};
 ghost use Rattle.link_lines_values.specs.Digits.{hex_number};
 ghost use Rattle.link_lines_values.specs.Values.{big_endian_flags_value, big_endian_value, flags_and_mask_value};
 ghost use Rattle.link_lines_values.specs.Values.{flags_value, hex_or_bytes, named_flags_value, number_value, optional_byte_value};
 ghost use Rattle.link_lines_values.specs.Names.{texts_of};
-ghost use Rattle.link_lines_values.specs.Values.{port_range_value, seen, signed_value, sized_flags_value, value_text};
+ghost use Rattle.link_lines_values.specs.Values.{port_range_value, format_of, signed_value, sized_flags_value, value_text};
 
 use crate::addresses::push_address;
-use crate::bytes::{push_bytes, push_hardware_address, push_text, push_truth};
+use crate::bytes::{push_bytes, push_hardware_address, push_text, push_boolean};
 use crate::digits::{big_endian, little_endian, push_decimal, push_hex, push_signed};
 use crate::fields::Fields;
 use crate::flags::{FlagName, push_flags};
@@ -38,7 +38,7 @@ pub enum ShownBy<N, R> {
     /// IFLA_IPTUN_FLAGS).
     FlagsBySize,
     /// A boolean: `on` if a byte isn't zero, or else `off`.
-    Truth,
+    Boolean,
     /// Nothing: the attribute only has to be present.
     Presence,
     /// A byte in decimal, or nothing.
@@ -206,11 +206,11 @@ fn push_flags_and_mask(payload: &[u8], out: &mut Vec<u8>) -> Result<(), AllocErr
 }
 
 /// Appends a space and `on` or `off`.
-fn push_truth_value(payload: &[u8], out: &mut Vec<u8>) -> Result<(), AllocError>
-    ensures ok { OnOk result (out.new.items ≡ out.old.items ++ 32 ∷ truth_text payload.now) }
+fn push_boolean_value(payload: &[u8], out: &mut Vec<u8>) -> Result<(), AllocError>
+    ensures ok { OnOk result (out.new.items ≡ out.old.items ++ 32 ∷ boolean_text payload.now) }
 {
     out.extend_from_slice(b" ")?;
-    push_truth(payload, out)
+    push_boolean(payload, out)
 }
 
 /// Appends a payload as text, with a space before it if there is anything to show.
@@ -220,7 +220,7 @@ fn push_truth_value(payload: &[u8], out: &mut Vec<u8>) -> Result<(), AllocError>
 /// `AllocError` if `out` can't grow; it may then have a part of the text.
 pub fn push_value(shown: Shown, payload: &[u8], out: &mut Vec<u8>) -> Result<(), AllocError>
     ensures ok { OnOk result (out.new.items
-        ≡ out.old.items ++ value_text (seen (λ b. b.now) (λ t. t.now) (λ r. r.now) shown.entry) payload.now) }
+        ≡ out.old.items ++ value_text (format_of (λ b. b.now) (λ t. t.now) (λ r. r.now) shown.entry) payload.now) }
 {
     match shown {
         ShownBy::Number(texts) => push_number_value(texts, payload, out),
@@ -230,7 +230,7 @@ pub fn push_value(shown: Shown, payload: &[u8], out: &mut Vec<u8>) -> Result<(),
         ShownBy::NamedFlags(names) => push_named_flags(names, payload, out),
         ShownBy::BigEndianFlags => push_flags_or_bytes(big_endian(payload), payload, out),
         ShownBy::FlagsBySize => push_sized_flags(payload, out),
-        ShownBy::Truth => push_truth_value(payload, out),
+        ShownBy::Boolean => push_boolean_value(payload, out),
         ShownBy::Presence => Ok(()),
         ShownBy::OptionalByte => push_optional_byte(payload, out),
         ShownBy::Text => push_text(payload, out),

@@ -6,7 +6,7 @@ use Rattle.link_info_grammar.specs.Families.{amt}
 use Rattle.link_info_tunnels.specs.declared.amt.InfoAmt.{InfoAmt}
 use Rattle.link_info_tunnels.specs.declared.amt.InfoAmt.TheVariants.{Mode, RelayPort, GatewayPort, Link, LocalIp, RemoteIp, DiscoveryIp, MaxTunnels, Other}
 use Rattle.link_info_types.specs.AmtTypes.{amt_mode_of}
-use Rattle.link_info_tunnels.specs.Amt.{amt_entry, amt_names_row}
+use Rattle.link_info_tunnels.specs.Amt.{amt_entry, amt_is_row_variant}
 use Rattle.link_info_tunnels.specs.contracts.amt.InfoAmtPartialEq.TheImpl as equality
 use Rattle.link_info_tunnels.specs.contracts.amt.InfoAmtEq.TheImpl.Laws.{laws-law}
 use Rattle.link_message.specs.Injective.{IsInjective}
@@ -31,7 +31,7 @@ variant (Other a) = 0
 abbrev row_number : Attribute → ℕ
 row_number a = numbered (line_at amt (proper_kind a.kind)) (proper_kind a.kind)
 
-variant_number : (v : InfoAmt) → amt_names_row v → variant v ≡ row_number (amt_entry v)
+variant_number : (v : InfoAmt) → amt_is_row_variant v → variant v ≡ row_number (amt_entry v)
 variant_number (Other a) h = rw h refl
 variant_number v h = refl
 
@@ -41,7 +41,7 @@ payload_equal v w e = ap (λ (a : Attribute). a.payload) e
 same : (v w : InfoAmt) → v ≡ w → equal v w ≡ true
 same v w e = ap (equal v) (sym e) ∙ laws-law.refl v
 
-by_variant : (v w : InfoAmt) → variant v ≡ variant w → amt_names_row v → amt_names_row w → amt_entry v ≡ amt_entry w → equal v w ≡ true
+by_variant : (v w : InfoAmt) → variant v ≡ variant w → amt_is_row_variant v → amt_is_row_variant w → amt_entry v ≡ amt_entry w → equal v w ≡ true
 by_variant (Mode x) (Mode y) i p q e = same (Mode x) (Mode y) (ap Mode (p ∙ ap amt_mode_of (le4_injective _ _ (payload_equal (Mode x) (Mode y) e)) ∙ sym q))
 by_variant (RelayPort x) (RelayPort y) i p q e = same (RelayPort x) (RelayPort y) (ap RelayPort (be2_injective x y (payload_equal (RelayPort x) (RelayPort y) e)))
 by_variant (GatewayPort x) (GatewayPort y) i p q e = same (GatewayPort x) (GatewayPort y) (ap GatewayPort (be2_injective x y (payload_equal (GatewayPort x) (GatewayPort y) e)))
@@ -53,5 +53,5 @@ by_variant (MaxTunnels x) (MaxTunnels y) i p q e = same (MaxTunnels x) (MaxTunne
 by_variant (Other x) (Other y) i p q e = same (Other x) (Other y) (ap Other e)
 by_variant v w i p q e = absurd (omega (arith, i))
 
-pub amt_injective : IsInjective equal amt_entry amt_names_row
+pub amt_injective : IsInjective equal amt_entry amt_is_row_variant
 amt_injective v w p q e = by_variant v w (variant_number v p ∙ ap row_number e ∙ sym (variant_number w q)) p q e

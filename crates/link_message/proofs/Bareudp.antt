@@ -6,7 +6,7 @@ use Rattle.link_info_grammar.specs.Families.{bareudp}
 use Rattle.link_info_tunnels.specs.declared.bareudp.InfoBareUdp.TheVariants.{Port, Ethertype, SrcPortMin, MultiprotoMode, Other}
 use Rattle.link_info_tunnels.specs.declared.bareudp.InfoBareUdp.{InfoBareUdp}
 use Rattle.netlink_packet_core.specs.Ethernet.{ethernet_protocol_number, ethernet_protocol_of}
-use Rattle.link_info_tunnels.specs.Bareudp.{bareudp_entry, bareudp_names_row}
+use Rattle.link_info_tunnels.specs.Bareudp.{bareudp_entry, bareudp_is_row_variant}
 use Rattle.link_info_tunnels.specs.contracts.bareudp.InfoBareUdpPartialEq.TheImpl as equality
 use Rattle.link_info_tunnels.specs.contracts.bareudp.InfoBareUdpEq.TheImpl.Laws.{laws-law}
 use Rattle.link_message.specs.Injective.{IsInjective}
@@ -27,7 +27,7 @@ variant (Other a) = 0
 abbrev row_number : Attribute → ℕ
 row_number a = numbered (line_at bareudp (proper_kind a.kind)) (proper_kind a.kind)
 
-variant_number : (v : InfoBareUdp) → bareudp_names_row v → variant v ≡ row_number (bareudp_entry v)
+variant_number : (v : InfoBareUdp) → bareudp_is_row_variant v → variant v ≡ row_number (bareudp_entry v)
 variant_number (Other a) h = rw h refl
 variant_number v h = refl
 
@@ -37,7 +37,7 @@ payload_equal v w e = ap (λ (a : Attribute). a.payload) e
 same : (v w : InfoBareUdp) → v ≡ w → equal v w ≡ true
 same v w e = ap (equal v) (sym e) ∙ laws-law.refl v
 
-by_variant : (v w : InfoBareUdp) → variant v ≡ variant w → bareudp_names_row v → bareudp_names_row w → bareudp_entry v ≡ bareudp_entry w → equal v w ≡ true
+by_variant : (v w : InfoBareUdp) → variant v ≡ variant w → bareudp_is_row_variant v → bareudp_is_row_variant w → bareudp_entry v ≡ bareudp_entry w → equal v w ≡ true
 by_variant (Port x) (Port y) i p q e = same (Port x) (Port y) (ap Port (be2_injective x y (payload_equal (Port x) (Port y) e)))
 by_variant (Ethertype x) (Ethertype y) i p q e = same (Ethertype x) (Ethertype y) (ap Ethertype (p ∙ ap ethernet_protocol_of (be2_injective _ _ (payload_equal (Ethertype x) (Ethertype y) e)) ∙ sym q))
 by_variant (SrcPortMin x) (SrcPortMin y) i p q e = same (SrcPortMin x) (SrcPortMin y) (ap SrcPortMin (le2_injective x y (payload_equal (SrcPortMin x) (SrcPortMin y) e)))
@@ -45,5 +45,5 @@ by_variant MultiprotoMode MultiprotoMode i p q e = same MultiprotoMode Multiprot
 by_variant (Other x) (Other y) i p q e = same (Other x) (Other y) (ap Other e)
 by_variant v w i p q e = absurd (omega (arith, i))
 
-pub bareudp_injective : IsInjective equal bareudp_entry bareudp_names_row
+pub bareudp_injective : IsInjective equal bareudp_entry bareudp_is_row_variant
 bareudp_injective v w p q e = by_variant v w (variant_number v p ∙ ap row_number e ∙ sym (variant_number w q)) p q e

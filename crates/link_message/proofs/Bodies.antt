@@ -9,7 +9,7 @@ use Rattle.attribute_tables_grammar.specs.Lists.{any, without_context}
 use Rattle.attribute_tables_grammar.specs.Readings.{reading_as}
 use Rattle.attribute_tables.specs.Written.{written_as}
 use Rattle.link_message_grammar.specs.Body.{attribute_bytes, attribute_row, attributes_rule, family, header_text, is_emptied, link_body, link_peer}
-use Rattle.link_message_grammar.specs.Laws.{BodiesAreHeadersAndAttributes, EmptyPortsAreTold}
+use Rattle.link_message_grammar.specs.Laws.{BodiesAreHeadersAndAttributes, EmptyPortsAreDetermined}
 use Rattle.link_message_grammar.specs.LinkMessage.{Family, family_of}
 use Rattle.link_message_types.specs.AddressFamilies.{address_family_of, table_family}
 use Rattle.link_message_types.specs.declared.address_family.AddressFamily.{AddressFamily}
@@ -37,19 +37,19 @@ read_empty : (vs : List LinkAttribute) → list_any (λ w. is_emptied w.entry) (
 read_empty [] = refl
 read_empty (v ∷ vs) = ap (λ t. is_emptied (link_attribute_entry v) || t) (read_empty vs)
 
-pub body-empty_ports : BodiesAreHeadersAndAttributes link_peer → EmptyPortsAreTold link_peer → (b : List ℕ) (f : Family) → f ≡ family b → (vs : List LinkAttribute) → reading_as any (without_context (attribute_row f)) (attribute_bytes b) ≡ Some (map (written_as link_attribute_entry link_attribute_fits) vs) → list_any (λ v. is_emptied (link_attribute_entry v)) vs ≡ link_body.empty_ports b
+pub body-empty_ports : BodiesAreHeadersAndAttributes link_peer → EmptyPortsAreDetermined link_peer → (b : List ℕ) (f : Family) → f ≡ family b → (vs : List LinkAttribute) → reading_as any (without_context (attribute_row f)) (attribute_bytes b) ≡ Some (map (written_as link_attribute_entry link_attribute_fits) vs) → list_any (λ v. is_emptied (link_attribute_entry v)) vs ≡ link_body.empty_ports b
 body-empty_ports parts law b f h vs r =
     sym (read_empty vs) ∙ sym (law f (attribute_bytes b) _ r) ∙ ap (λ g. (attributes_rule g).empty_ports (attribute_bytes b)) h ∙ sym (parts b).empty_ports
 
 -- A size that `buffer_len` and similar functions return is 0 if they return 0.
-pub size_told : (n : ℕ) → (as_usize n == 0) ≡ (n == 0)
-size_told n =
+pub emitted_size_determined : (n : ℕ) → (as_usize n == 0) ≡ (n == 0)
+emitted_size_determined n =
     elim (cases_lt 18446744073709551615 n) [
       | inl k ↦ ap (λ x. x == 0) (min-eq_right (omega (arith, k))) ∙ sym (ne_eqb n 0 (λ h. absurd (omega (arith, h, k))))
       | inr k ↦ ap (λ x. x == 0) (min-eq_left k)
     ]
 
-pub ruleset sizes = (size_told)
+pub ruleset sizes = (emitted_size_determined)
 
 -- ---- the table of the family in a header
 

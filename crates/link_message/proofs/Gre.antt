@@ -8,11 +8,11 @@ use Rattle.link_info_tunnels.specs.declared.gre.InfoGre.TheVariants.{Link, IFlag
 use Rattle.link_info_types.specs.GreTypes.{er_span_dir_of, gre_encap_type_of}
 use Rattle.link_info_types.specs.declared.gre.GreEncapFlags.{GreEncapFlags}
 use Rattle.link_info_types.specs.declared.gre.GreIOFlags.{GreIOFlags}
-use Rattle.link_info_tunnels.specs.Gre.{gre_entry, gre_names_row}
+use Rattle.link_info_tunnels.specs.Gre.{gre_entry, gre_is_row_variant}
 use Rattle.link_info_tunnels.specs.contracts.gre.InfoGrePartialEq.TheImpl as equality
 use Rattle.link_info_tunnels.specs.contracts.gre.InfoGreEq.TheImpl.Laws.{laws-law}
 use Rattle.link_message.specs.Injective.{IsInjective}
-use Rattle.link_message.proofs.Numbers.{be2_injective, be4_injective, byte_equal, ipv4_injective, le2_injective, le4_injective, truth_injective}
+use Rattle.link_message.proofs.Numbers.{be2_injective, be4_injective, byte_equal, ipv4_injective, le2_injective, le4_injective, boolean_injective}
 use Rattle.link_message.proofs.Lists.{numbered}
 
 abbrev equal : InfoGre → InfoGre → Bool
@@ -51,7 +51,7 @@ variant (Other a) = 0
 abbrev row_number : Attribute → ℕ
 row_number a = numbered (line_at gre (proper_kind a.kind)) (proper_kind a.kind)
 
-variant_number : (v : InfoGre) → gre_names_row v → variant v ≡ row_number (gre_entry v)
+variant_number : (v : InfoGre) → gre_is_row_variant v → variant v ≡ row_number (gre_entry v)
 variant_number (Other a) h = rw h refl
 variant_number v h = refl
 
@@ -61,7 +61,7 @@ payload_equal v w e = ap (λ (a : Attribute). a.payload) e
 same : (v w : InfoGre) → v ≡ w → equal v w ≡ true
 same v w e = ap (equal v) (sym e) ∙ laws-law.refl v
 
-by_variant : (v w : InfoGre) → variant v ≡ variant w → gre_names_row v → gre_names_row w → gre_entry v ≡ gre_entry w → equal v w ≡ true
+by_variant : (v w : InfoGre) → variant v ≡ variant w → gre_is_row_variant v → gre_is_row_variant w → gre_entry v ≡ gre_entry w → equal v w ≡ true
 by_variant (Link x) (Link y) i p q e = same (Link x) (Link y) (ap Link (le4_injective x y (payload_equal (Link x) (Link y) e)))
 by_variant (IFlags x) (IFlags y) i p q e = same (IFlags x) (IFlags y) (ap IFlags (gre_io_flags_bits_equal x y (be2_injective _ _ (payload_equal (IFlags x) (IFlags y) e))))
 by_variant (OFlags x) (OFlags y) i p q e = same (OFlags x) (OFlags y) (ap OFlags (gre_io_flags_bits_equal x y (be2_injective _ _ (payload_equal (OFlags x) (OFlags y) e))))
@@ -71,7 +71,7 @@ by_variant (Local x) (Local y) i p q e = same (Local x) (Local y) (ap Local (ipv
 by_variant (Remote x) (Remote y) i p q e = same (Remote x) (Remote y) (ap Remote (ipv4_injective x y (payload_equal (Remote x) (Remote y) e)))
 by_variant (Ttl x) (Ttl y) i p q e = same (Ttl x) (Ttl y) (ap Ttl (byte_equal x y (payload_equal (Ttl x) (Ttl y) e)))
 by_variant (Tos x) (Tos y) i p q e = same (Tos x) (Tos y) (ap Tos (byte_equal x y (payload_equal (Tos x) (Tos y) e)))
-by_variant (PathMTUDiscovery x) (PathMTUDiscovery y) i p q e = same (PathMTUDiscovery x) (PathMTUDiscovery y) (ap PathMTUDiscovery (truth_injective x y (payload_equal (PathMTUDiscovery x) (PathMTUDiscovery y) e)))
+by_variant (PathMTUDiscovery x) (PathMTUDiscovery y) i p q e = same (PathMTUDiscovery x) (PathMTUDiscovery y) (ap PathMTUDiscovery (boolean_injective x y (payload_equal (PathMTUDiscovery x) (PathMTUDiscovery y) e)))
 by_variant (EncapType x) (EncapType y) i p q e = same (EncapType x) (EncapType y) (ap EncapType (p ∙ ap gre_encap_type_of (le2_injective _ _ (payload_equal (EncapType x) (EncapType y) e)) ∙ sym q))
 by_variant (EncapFlags x) (EncapFlags y) i p q e = same (EncapFlags x) (EncapFlags y) (ap EncapFlags (gre_encap_flags_bits_equal x y (le2_injective _ _ (payload_equal (EncapFlags x) (EncapFlags y) e))))
 by_variant (SourcePort x) (SourcePort y) i p q e = same (SourcePort x) (SourcePort y) (ap SourcePort (be2_injective x y (payload_equal (SourcePort x) (SourcePort y) e)))
@@ -85,5 +85,5 @@ by_variant (ErSpanHwId x) (ErSpanHwId y) i p q e = same (ErSpanHwId x) (ErSpanHw
 by_variant (Other x) (Other y) i p q e = same (Other x) (Other y) (ap Other e)
 by_variant v w i p q e = absurd (omega (arith, i))
 
-pub gre_injective : IsInjective equal gre_entry gre_names_row
+pub gre_injective : IsInjective equal gre_entry gre_is_row_variant
 gre_injective v w p q e = by_variant v w (variant_number v p ∙ ap row_number e ∙ sym (variant_number w q)) p q e

@@ -8,7 +8,7 @@ use Rattle.link_info_tunnels.specs.declared.gre6.InfoGre6.TheVariants.{Link, IFl
 use Rattle.link_info_types.specs.GreTypes.{er_span_dir_of, gre_encap_type_of}
 use Rattle.link_info_types.specs.declared.gre.GreEncapFlags.{GreEncapFlags}
 use Rattle.link_info_types.specs.declared.gre.GreIOFlags.{GreIOFlags}
-use Rattle.link_info_tunnels.specs.Gre6.{gre6_entry, gre6_names_row}
+use Rattle.link_info_tunnels.specs.Gre6.{gre6_entry, gre6_is_row_variant}
 use Rattle.link_info_tunnels.specs.contracts.gre6.InfoGre6PartialEq.TheImpl as equality
 use Rattle.link_info_tunnels.specs.contracts.gre6.InfoGre6Eq.TheImpl.Laws.{laws-law}
 use Rattle.link_message.specs.Injective.{IsInjective}
@@ -52,7 +52,7 @@ variant (Other a) = 0
 abbrev row_number : Attribute → ℕ
 row_number a = numbered (line_at gre6 (proper_kind a.kind)) (proper_kind a.kind)
 
-variant_number : (v : InfoGre6) → gre6_names_row v → variant v ≡ row_number (gre6_entry v)
+variant_number : (v : InfoGre6) → gre6_is_row_variant v → variant v ≡ row_number (gre6_entry v)
 variant_number (Other a) h = rw h refl
 variant_number v h = refl
 
@@ -62,7 +62,7 @@ payload_equal v w e = ap (λ (a : Attribute). a.payload) e
 same : (v w : InfoGre6) → v ≡ w → equal v w ≡ true
 same v w e = ap (equal v) (sym e) ∙ laws-law.refl v
 
-by_variant : (v w : InfoGre6) → variant v ≡ variant w → gre6_names_row v → gre6_names_row w → gre6_entry v ≡ gre6_entry w → equal v w ≡ true
+by_variant : (v w : InfoGre6) → variant v ≡ variant w → gre6_is_row_variant v → gre6_is_row_variant w → gre6_entry v ≡ gre6_entry w → equal v w ≡ true
 by_variant (Link x) (Link y) i p q e = same (Link x) (Link y) (ap Link (le4_injective x y (payload_equal (Link x) (Link y) e)))
 by_variant (IFlags x) (IFlags y) i p q e = same (IFlags x) (IFlags y) (ap IFlags (gre_io_flags_bits_equal x y (be2_injective _ _ (payload_equal (IFlags x) (IFlags y) e))))
 by_variant (OFlags x) (OFlags y) i p q e = same (OFlags x) (OFlags y) (ap OFlags (gre_io_flags_bits_equal x y (be2_injective _ _ (payload_equal (OFlags x) (OFlags y) e))))
@@ -87,5 +87,5 @@ by_variant (ErSpanHwId x) (ErSpanHwId y) i p q e = same (ErSpanHwId x) (ErSpanHw
 by_variant (Other x) (Other y) i p q e = same (Other x) (Other y) (ap Other e)
 by_variant v w i p q e = absurd (omega (arith, i))
 
-pub gre6_injective : IsInjective equal gre6_entry gre6_names_row
+pub gre6_injective : IsInjective equal gre6_entry gre6_is_row_variant
 gre6_injective v w p q e = by_variant v w (variant_number v p ∙ ap row_number e ∙ sym (variant_number w q)) p q e

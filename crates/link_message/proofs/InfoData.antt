@@ -5,27 +5,27 @@ use Rattle.netlink_packet_core.specs.Attributes.{Attribute, attribute_text, list
 use Rattle.link_info_kinds.specs.Kinds.{listed_kind}
 use Rattle.link_info_kinds.specs.declared.info_kind.InfoKind.{InfoKind}
 use Rattle.link_info_kinds.specs.declared.info_kind.InfoKind.TheVariants as Kind
-use Rattle.link_info_devices.specs.Batadv.{batadv_entry, batadv_names_row}
-use Rattle.link_info_devices.specs.Ipoib.{ipoib_entry, ipoib_names_row}
-use Rattle.link_info_devices.specs.Ipvlan.{ipvlan_entry, ipvlan_names_row}
-use Rattle.link_info_devices.specs.Rmnet.{rmnet_entry, rmnet_names_row}
-use Rattle.link_info_devices.specs.Vrf.{vrf_entry, vrf_names_row}
-use Rattle.link_info_devices.specs.Wwan.{wwan_entry, wwan_names_row}
-use Rattle.link_info_tunnels.specs.Amt.{amt_entry, amt_names_row}
-use Rattle.link_info_tunnels.specs.Geneve.{geneve_entry, geneve_names_row}
-use Rattle.link_info_tunnels.specs.Gtp.{gtp_entry, gtp_names_row}
-use Rattle.link_info_tunnels.specs.Vxlan.{vxlan_entry, vxlan_names_row}
+use Rattle.link_info_devices.specs.Batadv.{batadv_entry, batadv_is_row_variant}
+use Rattle.link_info_devices.specs.Ipoib.{ipoib_entry, ipoib_is_row_variant}
+use Rattle.link_info_devices.specs.Ipvlan.{ipvlan_entry, ipvlan_is_row_variant}
+use Rattle.link_info_devices.specs.Rmnet.{rmnet_entry, rmnet_is_row_variant}
+use Rattle.link_info_devices.specs.Vrf.{vrf_entry, vrf_is_row_variant}
+use Rattle.link_info_devices.specs.Wwan.{wwan_entry, wwan_is_row_variant}
+use Rattle.link_info_tunnels.specs.Amt.{amt_entry, amt_is_row_variant}
+use Rattle.link_info_tunnels.specs.Geneve.{geneve_entry, geneve_is_row_variant}
+use Rattle.link_info_tunnels.specs.Gtp.{gtp_entry, gtp_is_row_variant}
+use Rattle.link_info_tunnels.specs.Vxlan.{vxlan_entry, vxlan_is_row_variant}
 use Rattle.link_info_devices.specs.RawData.{raw_entry}
-use Rattle.link_info_devices.specs.Netkit.{netkit_entry, netkit_names_row}
-use Rattle.link_info_devices.specs.MacVlan.{mac_vlan_entry, mac_vlan_names_row}
-use Rattle.link_info_devices.specs.Macsec.{macsec_entry, macsec_names_row}
-use Rattle.link_info_tunnels.specs.Bareudp.{bareudp_entry, bareudp_names_row}
-use Rattle.link_info_tunnels.specs.Gre.{gre_entry, gre_names_row}
-use Rattle.link_info_tunnels.specs.Gre6.{gre6_entry, gre6_names_row}
-use Rattle.link_info_tunnels.specs.IpTunnel.{ip_tunnel_entry, ip_tunnel_names_row}
-use Rattle.link_info_tunnels.specs.Vti.{vti_entry, vti_names_row}
-use Rattle.link_info_tunnels.specs.Xfrm.{xfrm_entry, xfrm_names_row}
-use Rattle.link_info_data.specs.Data.{info_data_payload, info_data_names_row, keeps_bytes}
+use Rattle.link_info_devices.specs.Netkit.{netkit_entry, netkit_is_row_variant}
+use Rattle.link_info_devices.specs.MacVlan.{mac_vlan_entry, mac_vlan_is_row_variant}
+use Rattle.link_info_devices.specs.Macsec.{macsec_entry, macsec_is_row_variant}
+use Rattle.link_info_tunnels.specs.Bareudp.{bareudp_entry, bareudp_is_row_variant}
+use Rattle.link_info_tunnels.specs.Gre.{gre_entry, gre_is_row_variant}
+use Rattle.link_info_tunnels.specs.Gre6.{gre6_entry, gre6_is_row_variant}
+use Rattle.link_info_tunnels.specs.IpTunnel.{ip_tunnel_entry, ip_tunnel_is_row_variant}
+use Rattle.link_info_tunnels.specs.Vti.{vti_entry, vti_is_row_variant}
+use Rattle.link_info_tunnels.specs.Xfrm.{xfrm_entry, xfrm_is_row_variant}
+use Rattle.link_info_data.specs.Data.{info_data_payload, info_data_is_row_variant, keeps_bytes}
 use Rattle.link_info_data.specs.declared.info_data.InfoData.{InfoData}
 use Rattle.link_info_data.specs.declared.info_data.InfoData.TheVariants as Data
 use Rattle.link_info_data.specs.contracts.info_data.InfoDataPartialEq.TheImpl as equality
@@ -181,7 +181,7 @@ unlisted_number Kind.Ip6ErSpan h = absurd cc
 unlisted_number Kind.Wireguard h = absurd cc
 unlisted_number k h = refl
 
-data_number : (k : InfoKind) (d : InfoData) → info_data_names_row k d → variant d ≡ variant_of_kind (listed_kind k)
+data_number : (k : InfoKind) (d : InfoData) → info_data_is_row_variant k d → variant d ≡ variant_of_kind (listed_kind k)
 data_number k (Data.Bridge a) p = of_kind k Kind.Bridge p
 data_number k (Data.Can a) p = of_kind k Kind.Can p
 data_number k (Data.Tun a) p = of_kind k Kind.Tun p
@@ -233,46 +233,46 @@ tunnels_equal k m l p =
     let t = listed_tunnel k p in
     listed_is k t.0 t.1 ∙ sym (listed_is m t.0 (sym l ∙ t.1))
 
-by_variant : (k m : InfoKind) (d e : InfoData) → listed_kind k ≡ listed_kind m → variant d ≡ variant e → info_data_names_row k d → info_data_names_row m e → info_data_payload d ≡ info_data_payload e → equal d e ≡ true
+by_variant : (k m : InfoKind) (d e : InfoData) → listed_kind k ≡ listed_kind m → variant d ≡ variant e → info_data_is_row_variant k d → info_data_is_row_variant m e → info_data_payload d ≡ info_data_payload e → equal d e ≡ true
 by_variant k m (Data.Bridge x) (Data.Bridge y) l i p q e = lists_injective _ raw_entry (λ _. Unit {0}) (raw_data_injective _ (record { fits = omega arith })) x.items y.items (λ _ _ _. tt) (λ _ _ _. tt) e
 by_variant k m (Data.Can x) (Data.Can y) l i p q e = lists_injective _ raw_entry (λ _. Unit {0}) (raw_data_injective _ (record { fits = omega arith })) x.items y.items (λ _ _ _. tt) (λ _ _ _. tt) e
 by_variant k m (Data.Tun x) (Data.Tun y) l i p q e = lists_injective _ raw_entry (λ _. Unit {0}) (raw_data_injective _ (record { fits = omega arith })) x.items y.items (λ _ _ _. tt) (λ _ _ _. tt) e
 by_variant k m (Data.Vlan x) (Data.Vlan y) l i p q e = lists_injective _ raw_entry (λ _. Unit {0}) (raw_data_injective _ (record { fits = omega arith })) x.items y.items (λ _ _ _. tt) (λ _ _ _. tt) e
 by_variant k m (Data.Veth x) (Data.Veth y) l i p q e = pair_injective _ (record { fits = omega arith }) x y p.1 q.1 (one_attribute _ _ e)
-by_variant k m (Data.Vxlan x) (Data.Vxlan y) l i p q e = lists_injective _ vxlan_entry vxlan_names_row vxlan_injective x.items y.items p.1 q.1 e
+by_variant k m (Data.Vxlan x) (Data.Vxlan y) l i p q e = lists_injective _ vxlan_entry vxlan_is_row_variant vxlan_injective x.items y.items p.1 q.1 e
 by_variant k m (Data.Bond x) (Data.Bond y) l i p q e = lists_injective _ raw_entry (λ _. Unit {0}) (raw_data_injective _ (record { fits = omega arith })) x.items y.items (λ _ _ _. tt) (λ _ _ _. tt) e
-by_variant k m (Data.IpVlan x) (Data.IpVlan y) l i p q e = lists_injective _ ipvlan_entry ipvlan_names_row (ipvlan_injective _ (record { fits = omega arith })) x.items y.items p.1 q.1 e
-by_variant k m (Data.IpVtap x) (Data.IpVtap y) l i p q e = lists_injective _ ipvlan_entry ipvlan_names_row (ipvlan_injective _ (record { fits = omega arith })) x.items y.items p.1 q.1 e
-by_variant k m (Data.MacVlan x) (Data.MacVlan y) l i p q e = lists_injective _ mac_vlan_entry mac_vlan_names_row mac_vlan_injective x.items y.items p.1 q.1 e
-by_variant k m (Data.MacVtap x) (Data.MacVtap y) l i p q e = lists_injective _ mac_vlan_entry mac_vlan_names_row mac_vlan_injective x.items y.items p.1 q.1 e
-by_variant k m (Data.GreTap x) (Data.GreTap y) l i p q e = lists_injective _ gre_entry gre_names_row gre_injective x.items y.items p.1 q.1 e
-by_variant k m (Data.GreTap6 x) (Data.GreTap6 y) l i p q e = lists_injective _ gre6_entry gre6_names_row gre6_injective x.items y.items p.1 q.1 e
-by_variant k m (Data.GreTun x) (Data.GreTun y) l i p q e = lists_injective _ gre_entry gre_names_row gre_injective x.items y.items p.1 q.1 e
-by_variant k m (Data.GreTun6 x) (Data.GreTun6 y) l i p q e = lists_injective _ gre6_entry gre6_names_row gre6_injective x.items y.items p.1 q.1 e
-by_variant k m (Data.Vti x) (Data.Vti y) l i p q e = lists_injective _ vti_entry vti_names_row vti_injective x.items y.items p.1 q.1 e
-by_variant k m (Data.Vrf x) (Data.Vrf y) l i p q e = lists_injective _ vrf_entry vrf_names_row vrf_injective x.items y.items p.1 q.1 e
-by_variant k m (Data.Gtp x) (Data.Gtp y) l i p q e = lists_injective _ gtp_entry gtp_names_row gtp_injective x.items y.items p.1 q.1 e
-by_variant k m (Data.Ipoib x) (Data.Ipoib y) l i p q e = lists_injective _ ipoib_entry ipoib_names_row ipoib_injective x.items y.items p.1 q.1 e
-by_variant k m (Data.Xfrm x) (Data.Xfrm y) l i p q e = lists_injective _ xfrm_entry xfrm_names_row xfrm_injective x.items y.items p.1 q.1 e
-by_variant k m (Data.MacSec x) (Data.MacSec y) l i p q e = lists_injective _ macsec_entry macsec_names_row macsec_injective x.items y.items p.1 q.1 e
+by_variant k m (Data.IpVlan x) (Data.IpVlan y) l i p q e = lists_injective _ ipvlan_entry ipvlan_is_row_variant (ipvlan_injective _ (record { fits = omega arith })) x.items y.items p.1 q.1 e
+by_variant k m (Data.IpVtap x) (Data.IpVtap y) l i p q e = lists_injective _ ipvlan_entry ipvlan_is_row_variant (ipvlan_injective _ (record { fits = omega arith })) x.items y.items p.1 q.1 e
+by_variant k m (Data.MacVlan x) (Data.MacVlan y) l i p q e = lists_injective _ mac_vlan_entry mac_vlan_is_row_variant mac_vlan_injective x.items y.items p.1 q.1 e
+by_variant k m (Data.MacVtap x) (Data.MacVtap y) l i p q e = lists_injective _ mac_vlan_entry mac_vlan_is_row_variant mac_vlan_injective x.items y.items p.1 q.1 e
+by_variant k m (Data.GreTap x) (Data.GreTap y) l i p q e = lists_injective _ gre_entry gre_is_row_variant gre_injective x.items y.items p.1 q.1 e
+by_variant k m (Data.GreTap6 x) (Data.GreTap6 y) l i p q e = lists_injective _ gre6_entry gre6_is_row_variant gre6_injective x.items y.items p.1 q.1 e
+by_variant k m (Data.GreTun x) (Data.GreTun y) l i p q e = lists_injective _ gre_entry gre_is_row_variant gre_injective x.items y.items p.1 q.1 e
+by_variant k m (Data.GreTun6 x) (Data.GreTun6 y) l i p q e = lists_injective _ gre6_entry gre6_is_row_variant gre6_injective x.items y.items p.1 q.1 e
+by_variant k m (Data.Vti x) (Data.Vti y) l i p q e = lists_injective _ vti_entry vti_is_row_variant vti_injective x.items y.items p.1 q.1 e
+by_variant k m (Data.Vrf x) (Data.Vrf y) l i p q e = lists_injective _ vrf_entry vrf_is_row_variant vrf_injective x.items y.items p.1 q.1 e
+by_variant k m (Data.Gtp x) (Data.Gtp y) l i p q e = lists_injective _ gtp_entry gtp_is_row_variant gtp_injective x.items y.items p.1 q.1 e
+by_variant k m (Data.Ipoib x) (Data.Ipoib y) l i p q e = lists_injective _ ipoib_entry ipoib_is_row_variant ipoib_injective x.items y.items p.1 q.1 e
+by_variant k m (Data.Xfrm x) (Data.Xfrm y) l i p q e = lists_injective _ xfrm_entry xfrm_is_row_variant xfrm_injective x.items y.items p.1 q.1 e
+by_variant k m (Data.MacSec x) (Data.MacSec y) l i p q e = lists_injective _ macsec_entry macsec_is_row_variant macsec_injective x.items y.items p.1 q.1 e
 by_variant k m (Data.Hsr x) (Data.Hsr y) l i p q e = lists_injective _ raw_entry (λ _. Unit {0}) (raw_data_injective _ (record { fits = omega arith })) x.items y.items (λ _ _ _. tt) (λ _ _ _. tt) e
-by_variant k m (Data.Geneve x) (Data.Geneve y) l i p q e = lists_injective _ geneve_entry geneve_names_row geneve_injective x.items y.items p.1 q.1 e
+by_variant k m (Data.Geneve x) (Data.Geneve y) l i p q e = lists_injective _ geneve_entry geneve_is_row_variant geneve_injective x.items y.items p.1 q.1 e
 by_variant k m (Data.IpTunnel x) (Data.IpTunnel y) l i p q e =
     let same_kind : k ≡ m = tunnels_equal k m l p.0 in
-    lists_injective _ ip_tunnel_entry (ip_tunnel_names_row k) (ip_tunnel_injective k) x.items y.items p.1 (subst (λ h. All (ip_tunnel_names_row h) y.items) (sym same_kind) q.1) e
-by_variant k m (Data.Netkit x) (Data.Netkit y) l i p q e = lists_injective _ netkit_entry netkit_names_row netkit_injective x.items y.items p.1 q.1 e
+    lists_injective _ ip_tunnel_entry (ip_tunnel_is_row_variant k) (ip_tunnel_injective k) x.items y.items p.1 (subst (λ h. All (ip_tunnel_is_row_variant h) y.items) (sym same_kind) q.1) e
+by_variant k m (Data.Netkit x) (Data.Netkit y) l i p q e = lists_injective _ netkit_entry netkit_is_row_variant netkit_injective x.items y.items p.1 q.1 e
 by_variant k m (Data.Vxcan x) (Data.Vxcan y) l i p q e = pair_injective _ (record { fits = omega arith }) x y p.1 q.1 (one_attribute _ _ e)
-by_variant k m (Data.Amt x) (Data.Amt y) l i p q e = lists_injective _ amt_entry amt_names_row amt_injective x.items y.items p.1 q.1 e
-by_variant k m (Data.BatAdv x) (Data.BatAdv y) l i p q e = lists_injective _ batadv_entry batadv_names_row batadv_injective x.items y.items p.1 q.1 e
-by_variant k m (Data.BareUdp x) (Data.BareUdp y) l i p q e = lists_injective _ bareudp_entry bareudp_names_row bareudp_injective x.items y.items p.1 q.1 e
+by_variant k m (Data.Amt x) (Data.Amt y) l i p q e = lists_injective _ amt_entry amt_is_row_variant amt_injective x.items y.items p.1 q.1 e
+by_variant k m (Data.BatAdv x) (Data.BatAdv y) l i p q e = lists_injective _ batadv_entry batadv_is_row_variant batadv_injective x.items y.items p.1 q.1 e
+by_variant k m (Data.BareUdp x) (Data.BareUdp y) l i p q e = lists_injective _ bareudp_entry bareudp_is_row_variant bareudp_injective x.items y.items p.1 q.1 e
 by_variant k m (Data.Dsa x) (Data.Dsa y) l i p q e = lists_injective _ raw_entry (λ _. Unit {0}) (raw_data_injective _ (record { fits = omega arith })) x.items y.items (λ _ _ _. tt) (λ _ _ _. tt) e
-by_variant k m (Data.Wwan x) (Data.Wwan y) l i p q e = lists_injective _ wwan_entry wwan_names_row wwan_injective x.items y.items p.1 q.1 e
-by_variant k m (Data.RmNet x) (Data.RmNet y) l i p q e = lists_injective _ rmnet_entry rmnet_names_row rmnet_injective x.items y.items p.1 q.1 e
-by_variant k m (Data.ErSpan x) (Data.ErSpan y) l i p q e = lists_injective _ gre_entry gre_names_row gre_injective x.items y.items p.1 q.1 e
-by_variant k m (Data.Ip6ErSpan x) (Data.Ip6ErSpan y) l i p q e = lists_injective _ gre6_entry gre6_names_row gre6_injective x.items y.items p.1 q.1 e
+by_variant k m (Data.Wwan x) (Data.Wwan y) l i p q e = lists_injective _ wwan_entry wwan_is_row_variant wwan_injective x.items y.items p.1 q.1 e
+by_variant k m (Data.RmNet x) (Data.RmNet y) l i p q e = lists_injective _ rmnet_entry rmnet_is_row_variant rmnet_injective x.items y.items p.1 q.1 e
+by_variant k m (Data.ErSpan x) (Data.ErSpan y) l i p q e = lists_injective _ gre_entry gre_is_row_variant gre_injective x.items y.items p.1 q.1 e
+by_variant k m (Data.Ip6ErSpan x) (Data.Ip6ErSpan y) l i p q e = lists_injective _ gre6_entry gre6_is_row_variant gre6_injective x.items y.items p.1 q.1 e
 by_variant k m (Data.Wireguard x) (Data.Wireguard y) l i p q e = lists_injective _ raw_entry (λ _. Unit {0}) (raw_data_injective _ (record { fits = omega arith })) x.items y.items (λ _ _ _. tt) (λ _ _ _. tt) e
 by_variant k m (Data.Other x) (Data.Other y) l i p q e = (bytes_decides x.items y.items).1 e
 by_variant k m d e l i p q h = absurd (omega (arith, i))
 
-pub data_injective : (k m : InfoKind) (d e : InfoData) → listed_kind k ≡ listed_kind m → info_data_names_row k d → info_data_names_row m e → info_data_payload d ≡ info_data_payload e → equal d e ≡ true
+pub data_injective : (k m : InfoKind) (d e : InfoData) → listed_kind k ≡ listed_kind m → info_data_is_row_variant k d → info_data_is_row_variant m e → info_data_payload d ≡ info_data_payload e → equal d e ≡ true
 data_injective k m d e l p q h = by_variant k m d e l (data_number k d p ∙ ap variant_of_kind l ∙ sym (data_number m e q)) p q h

@@ -3,7 +3,7 @@ use Rattle.std.proofs.Common.{◌≡◌, ℕ, Bool, true, List, Option, Some, No
 use Rattle.std.specs.Prelude.{string_eq}
 use lib.Pointwise.{bytes_decides}
 use Rattle.link_info_kinds.specs.Kinds.{info_kind_text, info_kind_is_named, listed_kind}
-use Rattle.link_info_kinds.proofs.Named.{names_tell_kinds, names_tell_port_kinds}
+use Rattle.link_info_kinds.proofs.Named.{names_determine_kinds, names_determine_port_kinds}
 use Rattle.link_info_kinds.specs.PortKinds.{info_port_kind_text, info_port_kind_is_named, listed_port_kind}
 use Rattle.link_info_kinds.specs.declared.info_kind.InfoKind.{InfoKind}
 use Rattle.link_info_kinds.specs.declared.info_kind.InfoKind.TheVariants as Kind
@@ -43,7 +43,7 @@ by_listing k m None h i e = unlisted_equal k m h i e
 by_listing k m (Some n) h i e = ap (equal k) (listed_is m n i ∙ sym (listed_is k n h)) ∙ laws.laws-law.refl k
 
 pub kinds_equal : (k m : InfoKind) → info_kind_is_named k ≡ true → info_kind_is_named m ≡ true → info_kind_text k ≡ info_kind_text m → equal k m ≡ true
-kinds_equal k m p q e = by_listing k m (listed_kind k) refl (sym (names_tell_kinds k m p q e)) e
+kinds_equal k m p q e = by_listing k m (listed_kind k) refl (sym (names_determine_kinds k m p q e)) e
 
 -- ---- kinds of ports
 
@@ -61,4 +61,4 @@ by_port_listing k m None h i e = unlisted_ports_equal k m h i e
 by_port_listing k m (Some n) h i e = ap (equal_ports k) (listed_port_is m n i ∙ sym (listed_port_is k n h)) ∙ port_laws.laws-law.refl k
 
 pub port_kinds_equal : (k m : InfoPortKind) → info_port_kind_is_named k ≡ true → info_port_kind_is_named m ≡ true → info_port_kind_text k ≡ info_port_kind_text m → equal_ports k m ≡ true
-port_kinds_equal k m p q e = by_port_listing k m (listed_port_kind k) refl (sym (names_tell_port_kinds k m p q e)) e
+port_kinds_equal k m p q e = by_port_listing k m (listed_port_kind k) refl (sym (names_determine_port_kinds k m p q e)) e

@@ -10,11 +10,11 @@ use Rattle.link_info_types.specs.IpProtocols.{ip_protocol_of}
 use Rattle.link_info_types.specs.IpTunnelTypes.{tunnel_encap_type_of}
 use Rattle.link_info_types.specs.declared.iptunnel.Ip6TunnelFlags.{Ip6TunnelFlags}
 use Rattle.link_info_types.specs.declared.iptunnel.TunnelEncapFlags.{TunnelEncapFlags}
-use Rattle.link_info_tunnels.specs.IpTunnel.{ip_tunnel_entry, ip_tunnel_names_row, ip_tunnel_of}
+use Rattle.link_info_tunnels.specs.IpTunnel.{ip_tunnel_entry, ip_tunnel_is_row_variant, ip_tunnel_of}
 use Rattle.link_info_tunnels.specs.contracts.iptunnel.InfoIpTunnelPartialEq.TheImpl as equality
 use Rattle.link_info_tunnels.specs.contracts.iptunnel.InfoIpTunnelEq.TheImpl.Laws.{laws-law}
 use Rattle.link_message.specs.Injective.{IsInjective}
-use Rattle.link_message.proofs.Numbers.{be2_injective, be4_injective, byte_equal, ip_injective, ipv4_injective, ipv6_injective, le2_injective, le4_injective, truth_injective}
+use Rattle.link_message.proofs.Numbers.{be2_injective, be4_injective, byte_equal, ip_injective, ipv4_injective, ipv6_injective, le2_injective, le4_injective, boolean_injective}
 use Rattle.link_message.proofs.Lists.{numbered}
 
 abbrev equal : InfoIpTunnel → InfoIpTunnel → Bool
@@ -55,7 +55,7 @@ variant (Other a) = 0
 abbrev row_number : InfoKind → Attribute → ℕ
 row_number k a = numbered (line_at (ip_tunnel_of k) (proper_kind a.kind)) (proper_kind a.kind)
 
-variant_number : (k : InfoKind) (v : InfoIpTunnel) → ip_tunnel_names_row k v → variant v ≡ row_number k (ip_tunnel_entry v)
+variant_number : (k : InfoKind) (v : InfoIpTunnel) → ip_tunnel_is_row_variant k v → variant v ≡ row_number k (ip_tunnel_entry v)
 unfolding ip_tunnel_of
 variant_number k (Other a) h = rw h refl
 variant_number k v h = refl
@@ -66,7 +66,7 @@ payload_equal v w e = ap (λ (a : Attribute). a.payload) e
 same : (v w : InfoIpTunnel) → v ≡ w → equal v w ≡ true
 same v w e = ap (equal v) (sym e) ∙ laws-law.refl v
 
-by_variant : (k : InfoKind) (v w : InfoIpTunnel) → variant v ≡ variant w → ip_tunnel_names_row k v → ip_tunnel_names_row k w → ip_tunnel_entry v ≡ ip_tunnel_entry w → equal v w ≡ true
+by_variant : (k : InfoKind) (v w : InfoIpTunnel) → variant v ≡ variant w → ip_tunnel_is_row_variant k v → ip_tunnel_is_row_variant k w → ip_tunnel_entry v ≡ ip_tunnel_entry w → equal v w ≡ true
 by_variant k (Link x) (Link y) i p q e = same (Link x) (Link y) (ap Link (le4_injective x y (payload_equal (Link x) (Link y) e)))
 by_variant k (Local x) (Local y) i p q e = same (Local x) (Local y) (ap Local (ip_injective x y p q (payload_equal (Local x) (Local y) e)))
 by_variant k (Remote x) (Remote y) i p q e = same (Remote x) (Remote y) (ap Remote (ip_injective x y p q (payload_equal (Remote x) (Remote y) e)))
@@ -78,7 +78,7 @@ by_variant k (Ipv4Flags x) (Ipv4Flags y) i p q e = same (Ipv4Flags x) (Ipv4Flags
 by_variant k (Ipv6SitFlags x) (Ipv6SitFlags y) i p q e = same (Ipv6SitFlags x) (Ipv6SitFlags y) (ap Ipv6SitFlags (be2_injective x y (payload_equal (Ipv6SitFlags x) (Ipv6SitFlags y) e)))
 by_variant k (Ipv6Flags x) (Ipv6Flags y) i p q e = same (Ipv6Flags x) (Ipv6Flags y) (ap Ipv6Flags (ip6_tunnel_flags_bits_equal x y (le4_injective _ _ (payload_equal (Ipv6Flags x) (Ipv6Flags y) e))))
 by_variant k (Protocol x) (Protocol y) i p q e = same (Protocol x) (Protocol y) (ap Protocol (p ∙ ap ip_protocol_of (byte_equal _ _ (payload_equal (Protocol x) (Protocol y) e)) ∙ sym q))
-by_variant k (PMtuDisc x) (PMtuDisc y) i p q e = same (PMtuDisc x) (PMtuDisc y) (ap PMtuDisc (truth_injective x y (payload_equal (PMtuDisc x) (PMtuDisc y) e)))
+by_variant k (PMtuDisc x) (PMtuDisc y) i p q e = same (PMtuDisc x) (PMtuDisc y) (ap PMtuDisc (boolean_injective x y (payload_equal (PMtuDisc x) (PMtuDisc y) e)))
 by_variant k (Ipv6RdPrefix x) (Ipv6RdPrefix y) i p q e = same (Ipv6RdPrefix x) (Ipv6RdPrefix y) (ap Ipv6RdPrefix (ipv6_injective x y (payload_equal (Ipv6RdPrefix x) (Ipv6RdPrefix y) e)))
 by_variant k (Ipv6RdRelayPrefix x) (Ipv6RdRelayPrefix y) i p q e = same (Ipv6RdRelayPrefix x) (Ipv6RdRelayPrefix y) (ap Ipv6RdRelayPrefix (ipv4_injective x y (payload_equal (Ipv6RdRelayPrefix x) (Ipv6RdRelayPrefix y) e)))
 by_variant k (Ipv6RdPrefixLen x) (Ipv6RdPrefixLen y) i p q e = same (Ipv6RdPrefixLen x) (Ipv6RdPrefixLen y) (ap Ipv6RdPrefixLen (le2_injective x y (payload_equal (Ipv6RdPrefixLen x) (Ipv6RdPrefixLen y) e)))
@@ -98,5 +98,5 @@ by_variant k (Ipv6Flags x) (Ipv4Flags y) i p q e = let d : Kind.Ip6Tnl ≡ Kind.
 by_variant k (Ipv6Flags x) (Ipv6SitFlags y) i p q e = let d : Kind.Ip6Tnl ≡ Kind.SitTun = sym p ∙ q in absurd cc
 by_variant k v w i p q e = absurd (omega (arith, i))
 
-pub ip_tunnel_injective : (k : InfoKind) → IsInjective equal ip_tunnel_entry (ip_tunnel_names_row k)
+pub ip_tunnel_injective : (k : InfoKind) → IsInjective equal ip_tunnel_entry (ip_tunnel_is_row_variant k)
 ip_tunnel_injective k v w p q e = by_variant k v w (variant_number k v p ∙ ap (row_number k) e ∙ sym (variant_number k w q)) p q e

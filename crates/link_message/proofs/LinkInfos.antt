@@ -11,7 +11,7 @@ use Rattle.attribute_tables_grammar.specs.Tables.{row_in_force}
 use Rattle.link_info_grammar.specs.LinkInfo.{info_grammar_under, link_info_row}
 use Rattle.link_info_kinds.specs.Kinds.{IsNamedBy}
 use Rattle.link_info_kinds.specs.PortKinds.{IsPortNamedBy}
-use Rattle.link_info_kinds.proofs.Named.{names_tell_kinds, names_tell_port_kinds}
+use Rattle.link_info_kinds.proofs.Named.{names_determine_kinds, names_determine_port_kinds}
 use Rattle.link_info_data.specs.Data.{info_data_payload}
 use Rattle.link_info_data.specs.PortData.{info_port_data_payload}
 use Rattle.link_info_data.specs.declared.info_data.InfoData.{InfoData}
@@ -19,7 +19,7 @@ use Rattle.link_info_data.specs.declared.info_port.InfoPortData.{InfoPortData}
 use Rattle.link_info_data.specs.declared.xstats.LinkXstats.TheVariants as Statistics
 use Rattle.link_info_data.specs.contracts.info_data.InfoDataPartialEq.TheImpl as data_equality
 use Rattle.link_info_data.specs.contracts.info_port.InfoPortDataPartialEq.TheImpl as port_data_equality
-use Rattle.link_info.specs.LinkInfo.{link_info_entry, link_info_names_row, data_names_row, port_data_names_row}
+use Rattle.link_info.specs.LinkInfo.{link_info_entry, link_info_is_row_variant, data_is_row_variant, port_data_is_row_variant}
 use Rattle.link_info.specs.declared.infos.LinkInfo.{LinkInfo}
 use Rattle.link_info.specs.declared.infos.LinkInfo.TheVariants as Info
 use Rattle.link_info.specs.contracts.infos.LinkInfoPartialEq.TheImpl as equality
@@ -68,24 +68,24 @@ without_row c (suc (suc (suc (suc zero)))) h = absurd cc
 without_row c (suc (suc (suc (suc (suc zero))))) h = absurd (always_typed c.port_kind _ h)
 without_row c (suc (suc (suc (suc (suc (suc k)))))) h = refl
 
-variant_number : (c : Context) (v : LinkInfo) → link_info_names_row c v → variant v ≡ row_number (proper_kind (link_info_entry v).kind)
+variant_number : (c : Context) (v : LinkInfo) → link_info_is_row_variant c v → variant v ≡ row_number (proper_kind (link_info_entry v).kind)
 variant_number c (Info.Other a) h = without_row c (proper_kind a.kind) h
 variant_number c v h = refl
 
 -- ---- data under the names in force
 
-data_equal : (o : Option (List ℕ)) (d e : InfoData) → data_names_row o d → data_names_row o e → info_data_payload d ≡ info_data_payload e → (data_equality.ghosts).eq d e ≡ true
+data_equal : (o : Option (List ℕ)) (d e : InfoData) → data_is_row_variant o d → data_is_row_variant o e → info_data_payload d ≡ info_data_payload e → (data_equality.ghosts).eq d e ≡ true
 data_equal None d e p q h = absurd p
-data_equal (Some n) d e (k, a, p) (m, b, q) h = data_injective k m d e (names_tell_kinds k m a.1 b.1 (a.0 ∙ sym b.0)) p q h
+data_equal (Some n) d e (k, a, p) (m, b, q) h = data_injective k m d e (names_determine_kinds k m a.1 b.1 (a.0 ∙ sym b.0)) p q h
 
-port_data_equal : (o : Option (List ℕ)) (d e : InfoPortData) → port_data_names_row o d → port_data_names_row o e → info_port_data_payload d ≡ info_port_data_payload e → (port_data_equality.ghosts).eq d e ≡ true
+port_data_equal : (o : Option (List ℕ)) (d e : InfoPortData) → port_data_is_row_variant o d → port_data_is_row_variant o e → info_port_data_payload d ≡ info_port_data_payload e → (port_data_equality.ghosts).eq d e ≡ true
 port_data_equal None d e p q h = absurd p
-port_data_equal (Some n) d e (k, a, p) (m, b, q) h = port_data_injective k m d e (names_tell_port_kinds k m a.1 b.1 (a.0 ∙ sym b.0)) p q h
+port_data_equal (Some n) d e (k, a, p) (m, b, q) h = port_data_injective k m d e (names_determine_port_kinds k m a.1 b.1 (a.0 ∙ sym b.0)) p q h
 
 payload_equal : (v w : LinkInfo) → link_info_entry v ≡ link_info_entry w → (link_info_entry v).payload ≡ (link_info_entry w).payload
 payload_equal v w e = ap (λ (a : Attribute). a.payload) e
 
-by_variant : (c : Context) (v w : LinkInfo) → variant v ≡ variant w → link_info_names_row c v → link_info_names_row c w → link_info_entry v ≡ link_info_entry w → equal v w ≡ true
+by_variant : (c : Context) (v w : LinkInfo) → variant v ≡ variant w → link_info_is_row_variant c v → link_info_is_row_variant c w → link_info_entry v ≡ link_info_entry w → equal v w ≡ true
 by_variant c (Info.Xstats (Statistics.Other x)) (Info.Xstats (Statistics.Other y)) i p q e =
     (bytes_decides x.items y.items).1 (payload_equal (Info.Xstats (Statistics.Other x)) (Info.Xstats (Statistics.Other y)) e)
 by_variant c (Info.Kind k) (Info.Kind m) i p q e = kinds_equal k m p q (without_last _ _ (payload_equal (Info.Kind k) (Info.Kind m) e))
@@ -95,19 +95,19 @@ by_variant c (Info.PortData d) (Info.PortData f) i p q e = port_data_equal c.por
 by_variant c (Info.Other a) (Info.Other b) i p q e = ap (λ x. equal (Info.Other a) (Info.Other x)) (sym e) ∙ laws-law.refl (Info.Other a)
 by_variant c v w i p q e = absurd (omega (arith, i))
 
-info_injective : (c : Context) → IsInjective equal link_info_entry (link_info_names_row c)
+info_injective : (c : Context) → IsInjective equal link_info_entry (link_info_is_row_variant c)
 info_injective c v w p q e = by_variant c v w (variant_number c v p ∙ ap (λ (a : Attribute). row_number (proper_kind a.kind)) e ∙ sym (variant_number c w q)) p q e
 
 -- Each value is in the context after those before it, whatever the grammar.
-entries_equal : (g : Grammar) (c : Context) (vs ws : List LinkInfo) → all_named g link_info_entry link_info_names_row c vs → all_named g link_info_entry link_info_names_row c ws → map link_info_entry vs ≡ map link_info_entry ws → pointwise equal vs ws ≡ true
+entries_equal : (g : Grammar) (c : Context) (vs ws : List LinkInfo) → all_named g link_info_entry link_info_is_row_variant c vs → all_named g link_info_entry link_info_is_row_variant c ws → map link_info_entry vs ≡ map link_info_entry ws → pointwise equal vs ws ≡ true
 entries_equal g c [] [] p q e = refl
 entries_equal g c [] (w ∷ ws) p q e = absurd cc
 entries_equal g c (v ∷ vs) [] p q e = absurd cc
 entries_equal g c (v ∷ vs) (w ∷ ws) p q e =
     let first = first_equal _ _ _ _ e in
     let context = ap (g.next c) (sym first) in
-    let after = subst (λ d. all_named g link_info_entry link_info_names_row d ws) context q.1 in
+    let after = subst (λ d. all_named g link_info_entry link_info_is_row_variant d ws) context q.1 in
     and_from _ _ (info_injective c v w p.0 q.0 first) (entries_equal g (g.next c (link_info_entry v)) vs ws p.1 after (rest_equal _ _ _ _ e))
 
-pub infos_injective : (vs ws : List LinkInfo) → all_named (info_grammar_under link_peer) link_info_entry link_info_names_row nothing vs → all_named (info_grammar_under link_peer) link_info_entry link_info_names_row nothing ws → text_by link_info_entry vs ≡ text_by link_info_entry ws → pointwise equal vs ws ≡ true
+pub infos_injective : (vs ws : List LinkInfo) → all_named (info_grammar_under link_peer) link_info_entry link_info_is_row_variant nothing vs → all_named (info_grammar_under link_peer) link_info_entry link_info_is_row_variant nothing ws → text_by link_info_entry vs ≡ text_by link_info_entry ws → pointwise equal vs ws ≡ true
 infos_injective vs ws p q e = entries_equal (info_grammar_under link_peer) nothing vs ws p q (one_list _ _ e)

@@ -8,7 +8,7 @@ use Rattle.link_info_grammar.specs.Families.{macvlan, macvlan_address}
 use Rattle.link_info_types.specs.MacVlanTypes.{mac_vlan_mode_number, mac_vlan_mode_of, mac_vlan_flags_bits, mac_vlan_mac_address_mode_number, mac_vlan_mac_address_mode_of}
 use Rattle.link_info_types.specs.declared.mac_vlan.MacVlanFlags.{MacVlanFlags}
 use Rattle.link_info_devices.specs.declared.mac_vlan.InfoMacVlan.{InfoMacVlan, Row_of-InfoMacVlan, end_of-InfoMacVlan, more_of-InfoMacVlan, items-the_row-InfoMacVlan, out-InfoMacVlan, roll-out-InfoMacVlan, items_shown-the_row-InfoMacVlan-0, items_hidden-the_row-InfoMacVlan-0, back-the_row-InfoMacVlan, MacAddrData, Mode, Flags, MacAddrMode, MacAddr, MacAddrData', MacAddrCount, BcQueueLen, BcQueueLenUsed, BcCutoff, Other}
-use Rattle.link_info_devices.specs.MacVlan.{mac_vlan_entry, mac_vlan_texts, mac_vlan_names_row, mac_vlan_address_names_row}
+use Rattle.link_info_devices.specs.MacVlan.{mac_vlan_entry, mac_vlan_texts, mac_vlan_is_row_variant, mac_vlan_address_is_row_variant}
 use Rattle.link_info_devices.specs.contracts.mac_vlan.InfoMacVlanPartialEq.TheImpl as equality
 use Rattle.link_info_devices.specs.contracts.mac_vlan.InfoMacVlanPartialEq.TheImpl.Laws as equality_laws
 use Rattle.link_info_devices.specs.contracts.mac_vlan.InfoMacVlanEq.TheImpl.Laws.{laws-law}
@@ -34,7 +34,7 @@ variant (Other a) = 0
 abbrev of_address : Attribute → ℕ
 of_address a = numbered (line_at macvlan_address (proper_kind a.kind)) (proper_kind a.kind)
 
-variant_number : (v : InfoMacVlan) → mac_vlan_address_names_row v → variant v ≡ of_address (mac_vlan_entry v)
+variant_number : (v : InfoMacVlan) → mac_vlan_address_is_row_variant v → variant v ≡ of_address (mac_vlan_entry v)
 variant_number (Other a) h = rw h refl
 variant_number (MacAddrData' s r) h = absurd h
 variant_number v h = refl
@@ -48,7 +48,7 @@ same v w e = ap (equal v) (sym e) ∙ laws-law.refl v
 flags_injective : (f g : MacVlanFlags) → f.0 ≡ g.0 → f ≡ g
 flags_injective f g e = λ i. record f { 0 = e i }
 
-address_by : (v w : InfoMacVlan) → variant v ≡ variant w → mac_vlan_address_names_row v → mac_vlan_address_names_row w → mac_vlan_entry v ≡ mac_vlan_entry w → equal v w ≡ true
+address_by : (v w : InfoMacVlan) → variant v ≡ variant w → mac_vlan_address_is_row_variant v → mac_vlan_address_is_row_variant w → mac_vlan_entry v ≡ mac_vlan_entry w → equal v w ≡ true
 address_by (Mode x) (Mode y) i p q e = same (Mode x) (Mode y) (ap Mode (p ∙ ap mac_vlan_mode_of (le4_injective _ _ (payload_equal (Mode x) (Mode y) e)) ∙ sym q))
 address_by (Flags x) (Flags y) i p q e = let h : x.0 ≡ y.0 = le2_injective _ _ (payload_equal (Flags x) (Flags y) e) in same (Flags x) (Flags y) (ap Flags (flags_injective x y h))
 address_by (MacAddrMode x) (MacAddrMode y) i p q e = same (MacAddrMode x) (MacAddrMode y) (ap MacAddrMode (p ∙ ap mac_vlan_mac_address_mode_of (le4_injective _ _ (payload_equal (MacAddrMode x) (MacAddrMode y) e)) ∙ sym q))
@@ -62,13 +62,13 @@ address_by (MacAddrData' s r) w i p q e = absurd p
 address_by v w i p q e = absurd (omega (arith, i))
 
 -- The same statement in the list of addresses.
-pub address_injective : IsInjective equal mac_vlan_entry mac_vlan_address_names_row
+pub address_injective : IsInjective equal mac_vlan_entry mac_vlan_address_is_row_variant
 address_injective v w p q e = address_by v w (variant_number v p ∙ ap of_address e ∙ sym (variant_number w q)) p q e
 
 abbrev row_number : Attribute → ℕ
 row_number a = numbered (line_at macvlan (proper_kind a.kind)) (proper_kind a.kind)
 
-variant_of : (v : InfoMacVlan) → mac_vlan_names_row v → variant v ≡ row_number (mac_vlan_entry v)
+variant_of : (v : InfoMacVlan) → mac_vlan_is_row_variant v → variant v ≡ row_number (mac_vlan_entry v)
 variant_of (Other a) h = rw h refl
 variant_of v h = refl
 
@@ -81,10 +81,10 @@ unfolding list_text
 texts-items _ end_of-InfoMacVlan = refl
 texts-items _ (more_of-InfoMacVlan v rest) = ap (λ r. attribute_text (mac_vlan_entry v) ++ r) (texts-items _ rest)
 
-by_variant : (v w : InfoMacVlan) → variant v ≡ variant w → mac_vlan_names_row v → mac_vlan_names_row w → mac_vlan_entry v ≡ mac_vlan_entry w → equal v w ≡ true
+by_variant : (v w : InfoMacVlan) → variant v ≡ variant w → mac_vlan_is_row_variant v → mac_vlan_is_row_variant w → mac_vlan_entry v ≡ mac_vlan_entry w → equal v w ≡ true
 by_variant (MacAddrData' s r) (MacAddrData' s' r') i p q e =
     lists s r s' r'
-    ∙ lists_injective equal mac_vlan_entry mac_vlan_address_names_row address_injective _ _ p q
+    ∙ lists_injective equal mac_vlan_entry mac_vlan_address_is_row_variant address_injective _ _ p q
     (sym (texts-items _ r) ∙ payload_equal (MacAddrData' s r) (MacAddrData' s' r') e ∙ texts-items _ r')
 by_variant (Mode x) (Mode y) i p q e = address_by (Mode x) (Mode y) i p q e
 by_variant (Flags x) (Flags y) i p q e = address_by (Flags x) (Flags y) i p q e
@@ -97,5 +97,5 @@ by_variant (BcCutoff x) (BcCutoff y) i p q e = address_by (BcCutoff x) (BcCutoff
 by_variant (Other x) (Other y) i p q e = same (Other x) (Other y) (ap Other e)
 by_variant v w i p q e = absurd (omega (arith, i))
 
-pub mac_vlan_injective : IsInjective equal mac_vlan_entry mac_vlan_names_row
+pub mac_vlan_injective : IsInjective equal mac_vlan_entry mac_vlan_is_row_variant
 mac_vlan_injective v w p q e = by_variant v w (variant_of v p ∙ ap row_number e ∙ sym (variant_of w q)) p q e

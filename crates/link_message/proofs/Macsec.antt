@@ -6,7 +6,7 @@ use Rattle.link_info_grammar.specs.Families.{macsec}
 use Rattle.link_info_devices.specs.declared.macsec.InfoMacSec.{InfoMacSec}
 use Rattle.link_info_devices.specs.declared.macsec.InfoMacSec.TheVariants as MacSec
 use Rattle.link_info_types.specs.MacSecTypes.{mac_sec_cipher_id_of, mac_sec_offload_of, mac_sec_validate_of}
-use Rattle.link_info_devices.specs.Macsec.{macsec_entry, macsec_names_row}
+use Rattle.link_info_devices.specs.Macsec.{macsec_entry, macsec_is_row_variant}
 use Rattle.link_info_devices.specs.contracts.macsec.InfoMacSecPartialEq.TheImpl as equality
 use Rattle.link_info_devices.specs.contracts.macsec.InfoMacSecEq.TheImpl.Laws.{laws-law}
 use Rattle.link_message.specs.Injective.{IsInjective}
@@ -37,7 +37,7 @@ variant (MacSec.Other a) = 0
 abbrev row_number : Attribute → ℕ
 row_number a = numbered (line_at macsec (proper_kind a.kind)) (proper_kind a.kind)
 
-variant_number : (v : InfoMacSec) → macsec_names_row v → variant v ≡ row_number (macsec_entry v)
+variant_number : (v : InfoMacSec) → macsec_is_row_variant v → variant v ≡ row_number (macsec_entry v)
 variant_number (MacSec.Other a) h = rw h refl
 variant_number v h = refl
 
@@ -47,7 +47,7 @@ payload_equal v w e = ap (λ (a : Attribute). a.payload) e
 same : (v w : InfoMacSec) → v ≡ w → equal v w ≡ true
 same v w e = ap (equal v) (sym e) ∙ laws-law.refl v
 
-by_variant : (v w : InfoMacSec) → variant v ≡ variant w → macsec_names_row v → macsec_names_row w → macsec_entry v ≡ macsec_entry w → equal v w ≡ true
+by_variant : (v w : InfoMacSec) → variant v ≡ variant w → macsec_is_row_variant v → macsec_is_row_variant w → macsec_entry v ≡ macsec_entry w → equal v w ≡ true
 by_variant (MacSec.Sci x) (MacSec.Sci y) i p q e = same (MacSec.Sci x) (MacSec.Sci y) (ap MacSec.Sci (le8_injective x y (payload_equal (MacSec.Sci x) (MacSec.Sci y) e)))
 by_variant (MacSec.Port x) (MacSec.Port y) i p q e = same (MacSec.Port x) (MacSec.Port y) (ap MacSec.Port (be2_injective x y (payload_equal (MacSec.Port x) (MacSec.Port y) e)))
 by_variant (MacSec.IcvLen x) (MacSec.IcvLen y) i p q e = same (MacSec.IcvLen x) (MacSec.IcvLen y) (ap MacSec.IcvLen (byte_equal x y (payload_equal (MacSec.IcvLen x) (MacSec.IcvLen y) e)))
@@ -65,5 +65,5 @@ by_variant (MacSec.Offload x) (MacSec.Offload y) i p q e = same (MacSec.Offload 
 by_variant (MacSec.Other x) (MacSec.Other y) i p q e = same (MacSec.Other x) (MacSec.Other y) (ap MacSec.Other e)
 by_variant v w i p q e = absurd (omega (arith, i))
 
-pub macsec_injective : IsInjective equal macsec_entry macsec_names_row
+pub macsec_injective : IsInjective equal macsec_entry macsec_is_row_variant
 macsec_injective v w p q e = by_variant v w (variant_number v p ∙ ap row_number e ∙ sym (variant_number w q)) p q e

@@ -11,7 +11,7 @@ use Rattle.std.specs.declared.net.ip_addr.IpAddr.TheVariants.{V4, V6}
 use Rattle.std.specs.declared.net.ipv4_addr.Ipv4Addr.{Ipv4Addr}
 use Rattle.std.specs.declared.net.ipv6_addr.Ipv6Addr.{Ipv6Addr}
 use Rattle.netlink_packet_core_numbers.specs.Addresses.{ip_octets, HasAddressLength}
-use Rattle.netlink_packet_core_grammar.specs.Truths.{truth_byte}
+use Rattle.netlink_packet_core_grammar.specs.Booleans.{boolean_byte}
 use Rattle.netlink_packet_core_grammar.specs.Numbers.{le2, le4, le8, be2, be4, be8, signed_bits}
 use Rattle.netlink_packet_core_grammar.proofs.Numbers.{from_le2, from_le4, from_le8, from_be2, from_be4, from_be8}
 
@@ -61,11 +61,11 @@ signed_same y z e = (Decides-int_eq y z).1 (signed_injective y z (le4_injective 
 pub byte_equal : (m n : ℕ) → m ∷ [] ≡ n ∷ [] → m ≡ n
 byte_equal m n e = cc
 
-pub truth_injective : (s t : Bool) → truth_byte s ≡ truth_byte t → s ≡ t
-truth_injective true true e = refl
-truth_injective false false e = refl
-truth_injective true false e = absurd cc
-truth_injective false true e = absurd cc
+pub boolean_injective : (s t : Bool) → boolean_byte s ≡ boolean_byte t → s ≡ t
+boolean_injective true true e = refl
+boolean_injective false false e = refl
+boolean_injective true false e = absurd cc
+boolean_injective false true e = absurd cc
 
 pub head_equal : (m n : ℕ) (xs ys : List ℕ) → m ∷ xs ≡ n ∷ ys → m ≡ n
 head_equal m n xs ys e = cc
@@ -91,9 +91,9 @@ ipv4_injective a b e = λ i. record { octets = e i }
 pub ipv6_injective : (a b : Ipv6Addr) → ipv6_octets a ≡ ipv6_octets b → a ≡ b
 ipv6_injective a b e = let s = octets_injective _ _ e in λ i. record { segments = s i }
 
-fronts_are : (m n : ℕ) (xs ys : List ℕ) → be2 m ++ xs ≡ be2 n ++ ys → be2 m ≡ be2 n
+prefixes_are : (m n : ℕ) (xs ys : List ℕ) → be2 m ++ xs ≡ be2 n ++ ys → be2 m ≡ be2 n
 unfolding be2
-fronts_are m n xs ys e = ap (take 2) e
+prefixes_are m n xs ys e = ap (take 2) e
 
 rests_are : (m n : ℕ) (xs ys : List ℕ) → be2 m ++ xs ≡ be2 n ++ ys → xs ≡ ys
 unfolding be2
@@ -101,7 +101,7 @@ rests_are m n xs ys e = ap (drop 2) e
 
 pub range_injective : (r s : ℕ × ℕ) → be2 r.0 ++ be2 r.1 ≡ be2 s.0 ++ be2 s.1 → r ≡ s
 range_injective r s e =
-    let low = be2_injective r.0 s.0 (fronts_are _ _ _ _ e) in
+    let low = be2_injective r.0 s.0 (prefixes_are _ _ _ _ e) in
     let high = be2_injective r.1 s.1 (rests_are r.0 s.0 _ _ e) in
     λ i. (low i, high i)
 

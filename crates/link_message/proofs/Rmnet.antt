@@ -5,7 +5,7 @@ use Rattle.attribute_tables_grammar.specs.LookUps.{line_at}
 use Rattle.link_info_grammar.specs.Families.{rmnet}
 use Rattle.link_info_devices.specs.declared.rmnet.InfoRmNet.{InfoRmNet}
 use Rattle.link_info_devices.specs.declared.rmnet.InfoRmNet.TheVariants.{MuxId, Flags, Other}
-use Rattle.link_info_devices.specs.Rmnet.{rmnet_entry, rmnet_names_row, flags_bytes}
+use Rattle.link_info_devices.specs.Rmnet.{rmnet_entry, rmnet_is_row_variant, flags_bytes}
 use Rattle.link_info_devices.specs.declared.rmnet.InfoRmNetFlags.{InfoRmNetFlags}
 use Rattle.link_info_types.specs.RmNetTypes.{rm_net_flags_bits}
 use Rattle.link_info_types.specs.declared.rmnet.RmNetFlags.{RmNetFlags}
@@ -37,7 +37,7 @@ variant (Other a) = 0
 abbrev row_number : Attribute → ℕ
 row_number a = numbered (line_at rmnet (proper_kind a.kind)) (proper_kind a.kind)
 
-variant_number : (v : InfoRmNet) → rmnet_names_row v → variant v ≡ row_number (rmnet_entry v)
+variant_number : (v : InfoRmNet) → rmnet_is_row_variant v → variant v ≡ row_number (rmnet_entry v)
 variant_number (Other a) h = rw h refl
 variant_number v h = refl
 
@@ -47,11 +47,11 @@ payload_equal v w e = ap (λ (a : Attribute). a.payload) e
 same : (v w : InfoRmNet) → v ≡ w → equal v w ≡ true
 same v w e = ap (equal v) (sym e) ∙ laws-law.refl v
 
-by_variant : (v w : InfoRmNet) → variant v ≡ variant w → rmnet_names_row v → rmnet_names_row w → rmnet_entry v ≡ rmnet_entry w → equal v w ≡ true
+by_variant : (v w : InfoRmNet) → variant v ≡ variant w → rmnet_is_row_variant v → rmnet_is_row_variant w → rmnet_entry v ≡ rmnet_entry w → equal v w ≡ true
 by_variant (MuxId x) (MuxId y) i p q e = same (MuxId x) (MuxId y) (ap MuxId (le2_injective x y (payload_equal (MuxId x) (MuxId y) e)))
 by_variant (Flags x) (Flags y) i p q e = same (Flags x) (Flags y) (ap Flags (flag_pair_equal x y (payload_equal (Flags x) (Flags y) e)))
 by_variant (Other x) (Other y) i p q e = same (Other x) (Other y) (ap Other e)
 by_variant v w i p q e = absurd (omega (arith, i))
 
-pub rmnet_injective : IsInjective equal rmnet_entry rmnet_names_row
+pub rmnet_injective : IsInjective equal rmnet_entry rmnet_is_row_variant
 rmnet_injective v w p q e = by_variant v w (variant_number v p ∙ ap row_number e ∙ sym (variant_number w q)) p q e

@@ -15,8 +15,8 @@ length-header-append law h r = omega (arith, length-append (link_header_bytes h)
 pub ruleset headers = (length-header, length-header-append)
 
 -- In a buffer of its size the header is all.
-pub header_alone : (h front : List ℕ) → length front ≡ length h → h ++ drop (length h) front ≡ h
-header_alone h front e = ap (λ x. h ++ x) (drop_all (length h) front (omega arith)) ∙ append-nil h
+pub header_only : (h prefix : List ℕ) → length prefix ≡ length h → h ++ drop (length h) prefix ≡ h
+header_only h prefix e = ap (λ x. h ++ x) (drop_all (length h) prefix (omega arith)) ∙ append-nil h
 
 -- A header and attributes, written before what was there.
 pub header_then : (h t old : List ℕ) (n : ℕ) → length h ≡ 16 → length t ≡ n → h ++ (t ++ drop n (drop 16 old)) ≡ (h ++ t) ++ drop (length (h ++ t)) old

@@ -8,7 +8,7 @@ use Rattle.attribute_tables_grammar.specs.LookUps.{line_at}
 use Rattle.link_info_grammar.specs.Families.{pair}
 use Rattle.link_info_devices.specs.declared.veth.PairData.{PairData}
 use Rattle.link_info_devices.specs.declared.veth.PairData.TheVariants as Pair
-use Rattle.link_info_devices.specs.Veth.{pair_entry, pair_names_row}
+use Rattle.link_info_devices.specs.Veth.{pair_entry, pair_is_row_variant}
 use Rattle.link_info_devices.specs.contracts.veth.PairDataPartialEq.TheImpl as equality
 use Rattle.link_info_devices.specs.contracts.veth.PairDataEq.TheImpl.Laws.{laws-law}
 use Rattle.link_message.specs.Injective.{IsInjective}
@@ -25,7 +25,7 @@ variant (Pair.Other a) = 0
 abbrev row_number : Attribute → ℕ
 row_number a = numbered (line_at pair (proper_kind a.kind)) (proper_kind a.kind)
 
-variant_number : {n : ℕ} (v : PairData n) → pair_names_row v → variant v ≡ row_number (pair_entry v)
+variant_number : {n : ℕ} (v : PairData n) → pair_is_row_variant v → variant v ≡ row_number (pair_entry v)
 variant_number (Pair.Other a) h = rw h refl
 variant_number v h = refl
 
@@ -35,10 +35,10 @@ payload_equal v w e = ap (λ (a : Attribute). a.payload) e
 same : (n : ℕ) → Fits w16 n → (v w : PairData n) → v ≡ w → equal n v w ≡ true
 same n f v w e = ap (equal n v) (sym e) ∙ (laws-law n f).refl v
 
-by_variant : (n : ℕ) → Fits w16 n → (v w : PairData n) → variant v ≡ variant w → pair_names_row v → pair_names_row w → pair_entry v ≡ pair_entry w → equal n v w ≡ true
+by_variant : (n : ℕ) → Fits w16 n → (v w : PairData n) → variant v ≡ variant w → pair_is_row_variant v → pair_is_row_variant w → pair_entry v ≡ pair_entry w → equal n v w ≡ true
 by_variant n f (Pair.Peer x) (Pair.Peer y) i p q e = (bytes_decides x.items y.items).1 (payload_equal {n = n} (Pair.Peer x) (Pair.Peer y) e)
 by_variant n f (Pair.Other x) (Pair.Other y) i p q e = same n f (Pair.Other x) (Pair.Other y) (ap Pair.Other e)
 by_variant n f v w i p q e = absurd (omega (arith, i))
 
-pub pair_injective : (n : ℕ) → Fits w16 n → IsInjective (equal n) pair_entry pair_names_row
+pub pair_injective : (n : ℕ) → Fits w16 n → IsInjective (equal n) pair_entry pair_is_row_variant
 pair_injective n f v w p q e = by_variant n f v w (variant_number v p ∙ ap row_number e ∙ sym (variant_number w q)) p q e

@@ -2,7 +2,7 @@
 use Rattle.std.proofs.Common.{◌≡◌, ℕ, suc, List, [], ◌∷◌, ◌++◌, take, drop, Bool, true, false, refl, sym, ap, ◌∙◌, arith, Option, Some, None}
 use Rattle.netlink_packet_core.specs.Attributes.{Attribute, proper_kind, zeros}
 use Rattle.netlink_packet_core_grammar.specs.Numbers.{le4, le8, be2}
-use Rattle.netlink_packet_core_grammar.specs.Truths.{truth_byte}
+use Rattle.netlink_packet_core_grammar.specs.Booleans.{boolean_byte}
 use Rattle.attribute_tables_grammar.specs.LookUps.{Line, line_at}
 use Rattle.link_message_grammar.specs.NestedTables.{vf, vf_stats, vf_vlans}
 use Rattle.link_message_types.specs.VfTypes.{vf_link_state_number, vf_link_state_of}
@@ -32,7 +32,7 @@ use Rattle.link_message_nested.specs.contracts.vf_stats.VfStatsEq.TheImpl.Laws a
 use Rattle.link_message_nested.specs.contracts.vf_vlan.VfVlanPartialEq.TheImpl as vlan_equality
 use Rattle.link_message_nested.specs.contracts.vf_vlan.VfVlanEq.TheImpl.Laws as vlan_laws
 use Rattle.link_message.specs.Injective.{IsInjective}
-use Rattle.link_message.proofs.Numbers.{be2_injective, le4_injective, le8_injective, truth_injective}
+use Rattle.link_message.proofs.Numbers.{be2_injective, le4_injective, le8_injective, boolean_injective}
 use Rattle.link_message.proofs.Records.{number_4_equal, after_4_equal}
 use Rattle.link_message.proofs.Lists.{lists_injective}
 
@@ -84,16 +84,16 @@ mac_record r s e =
 broadcast_record : (r s : VfInfoBroadcast) → vf_info_broadcast_bytes r ≡ vf_info_broadcast_bytes s → r ≡ s
 broadcast_record r s e = λ i. record { addr = e i }
 
-truth_in_front : (s t : Bool) → truth_byte s ++ zeros 3 ≡ truth_byte t ++ zeros 3 → s ≡ t
-truth_in_front true true e = refl
-truth_in_front false false e = refl
-truth_in_front true false e = absurd cc
-truth_in_front false true e = absurd cc
+boolean_at_start : (s t : Bool) → boolean_byte s ++ zeros 3 ≡ boolean_byte t ++ zeros 3 → s ≡ t
+boolean_at_start true true e = refl
+boolean_at_start false false e = refl
+boolean_at_start true false e = absurd cc
+boolean_at_start false true e = absurd cc
 
 setting_record : {k : ℕ} (r s : VfInfoSetting k) → vf_info_setting_bytes r ≡ vf_info_setting_bytes s → r ≡ s
 setting_record r s e =
     let a = number_4_equal r.vf_id s.vf_id _ _ e in
-    let b = truth_in_front r.enabled s.enabled (after_4_equal r.vf_id s.vf_id _ _ e) in
+    let b = boolean_at_start r.enabled s.enabled (after_4_equal r.vf_id s.vf_id _ _ e) in
     λ i. record { vf_id = a i; enabled = b i }
 
 vlan_numbers : VfVlanInfo → List ℕ → List ℕ
@@ -103,9 +103,9 @@ vlan_is : (v : VfVlanInfo) → vf_vlan_info_bytes v ≡ vlan_numbers v (0 ∷ 0 
 unfolding vlan_numbers le4 be2
 vlan_is v = refl
 
-front_be2 : (m n : ℕ) (xs ys : List ℕ) → be2 m ++ xs ≡ be2 n ++ ys → m ≡ n
+prefix_be2 : (m n : ℕ) (xs ys : List ℕ) → be2 m ++ xs ≡ be2 n ++ ys → m ≡ n
 unfolding be2
-front_be2 m n xs ys e = be2_injective m n (ap (take 2) e)
+prefix_be2 m n xs ys e = be2_injective m n (ap (take 2) e)
 
 vlan_info_record : (r s : VfVlanInfo) → r.protocol ≡ vlan_protocol_of (vlan_protocol_number r.protocol) → s.protocol ≡ vlan_protocol_of (vlan_protocol_number s.protocol) → vf_vlan_info_bytes r ≡ vf_vlan_info_bytes s → r ≡ s
 unfolding vlan_numbers
@@ -116,7 +116,7 @@ vlan_info_record r s p q e0 =
     let b = number_4_equal r.vlan_id s.vlan_id _ _ e1 in
     let e2 = after_4_equal r.vlan_id s.vlan_id _ _ e1 in
     let c = number_4_equal r.qos s.qos _ _ e2 in
-    let n = front_be2 (vlan_protocol_number r.protocol) (vlan_protocol_number s.protocol) _ _ (after_4_equal r.qos s.qos _ _ e2) in
+    let n = prefix_be2 (vlan_protocol_number r.protocol) (vlan_protocol_number s.protocol) _ _ (after_4_equal r.qos s.qos _ _ e2) in
     let d = p ∙ ap vlan_protocol_of n ∙ sym q in
     λ i. record { vf_id = a i; vlan_id = b i; qos = c i; protocol = d i }
 

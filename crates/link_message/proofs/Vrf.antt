@@ -5,7 +5,7 @@ use Rattle.attribute_tables_grammar.specs.LookUps.{line_at}
 use Rattle.link_info_grammar.specs.Families.{vrf}
 use Rattle.link_info_devices.specs.declared.vrf.InfoVrf.{InfoVrf}
 use Rattle.link_info_devices.specs.declared.vrf.InfoVrf.TheVariants.{TableId, Other}
-use Rattle.link_info_devices.specs.Vrf.{vrf_entry, vrf_names_row}
+use Rattle.link_info_devices.specs.Vrf.{vrf_entry, vrf_is_row_variant}
 use Rattle.link_info_devices.specs.contracts.vrf.InfoVrfPartialEq.TheImpl as equality
 use Rattle.link_info_devices.specs.contracts.vrf.InfoVrfEq.TheImpl.Laws.{laws-law}
 use Rattle.link_message.specs.Injective.{IsInjective}
@@ -23,7 +23,7 @@ variant (Other a) = 0
 abbrev row_number : Attribute → ℕ
 row_number a = numbered (line_at vrf (proper_kind a.kind)) (proper_kind a.kind)
 
-variant_number : (v : InfoVrf) → vrf_names_row v → variant v ≡ row_number (vrf_entry v)
+variant_number : (v : InfoVrf) → vrf_is_row_variant v → variant v ≡ row_number (vrf_entry v)
 variant_number (Other a) h = rw h refl
 variant_number v h = refl
 
@@ -33,10 +33,10 @@ payload_equal v w e = ap (λ (a : Attribute). a.payload) e
 same : (v w : InfoVrf) → v ≡ w → equal v w ≡ true
 same v w e = ap (equal v) (sym e) ∙ laws-law.refl v
 
-by_variant : (v w : InfoVrf) → variant v ≡ variant w → vrf_names_row v → vrf_names_row w → vrf_entry v ≡ vrf_entry w → equal v w ≡ true
+by_variant : (v w : InfoVrf) → variant v ≡ variant w → vrf_is_row_variant v → vrf_is_row_variant w → vrf_entry v ≡ vrf_entry w → equal v w ≡ true
 by_variant (TableId x) (TableId y) i p q e = same (TableId x) (TableId y) (ap TableId (le4_injective x y (payload_equal (TableId x) (TableId y) e)))
 by_variant (Other x) (Other y) i p q e = same (Other x) (Other y) (ap Other e)
 by_variant v w i p q e = absurd (omega (arith, i))
 
-pub vrf_injective : IsInjective equal vrf_entry vrf_names_row
+pub vrf_injective : IsInjective equal vrf_entry vrf_is_row_variant
 vrf_injective v w p q e = by_variant v w (variant_number v p ∙ ap row_number e ∙ sym (variant_number w q)) p q e

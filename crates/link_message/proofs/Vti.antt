@@ -5,7 +5,7 @@ use Rattle.attribute_tables_grammar.specs.LookUps.{line_at}
 use Rattle.link_info_grammar.specs.Families.{vti}
 use Rattle.link_info_tunnels.specs.declared.vti.InfoVti.{InfoVti}
 use Rattle.link_info_tunnels.specs.declared.vti.InfoVti.TheVariants.{Link, IKey, OKey, Local, Remote, FwMark, Other}
-use Rattle.link_info_tunnels.specs.Vti.{vti_entry, vti_names_row}
+use Rattle.link_info_tunnels.specs.Vti.{vti_entry, vti_is_row_variant}
 use Rattle.link_info_tunnels.specs.contracts.vti.InfoVtiPartialEq.TheImpl as equality
 use Rattle.link_info_tunnels.specs.contracts.vti.InfoVtiEq.TheImpl.Laws.{laws-law}
 use Rattle.link_message.specs.Injective.{IsInjective}
@@ -28,7 +28,7 @@ variant (Other a) = 0
 abbrev row_number : Attribute → ℕ
 row_number a = numbered (line_at vti (proper_kind a.kind)) (proper_kind a.kind)
 
-variant_number : (v : InfoVti) → vti_names_row v → variant v ≡ row_number (vti_entry v)
+variant_number : (v : InfoVti) → vti_is_row_variant v → variant v ≡ row_number (vti_entry v)
 variant_number (Other a) h = rw h refl
 variant_number v h = refl
 
@@ -38,7 +38,7 @@ payload_equal v w e = ap (λ (a : Attribute). a.payload) e
 same : (v w : InfoVti) → v ≡ w → equal v w ≡ true
 same v w e = ap (equal v) (sym e) ∙ laws-law.refl v
 
-by_variant : (v w : InfoVti) → variant v ≡ variant w → vti_names_row v → vti_names_row w → vti_entry v ≡ vti_entry w → equal v w ≡ true
+by_variant : (v w : InfoVti) → variant v ≡ variant w → vti_is_row_variant v → vti_is_row_variant w → vti_entry v ≡ vti_entry w → equal v w ≡ true
 by_variant (Link x) (Link y) i p q e = same (Link x) (Link y) (ap Link (le4_injective x y (payload_equal (Link x) (Link y) e)))
 by_variant (IKey x) (IKey y) i p q e = same (IKey x) (IKey y) (ap IKey (be4_injective x y (payload_equal (IKey x) (IKey y) e)))
 by_variant (OKey x) (OKey y) i p q e = same (OKey x) (OKey y) (ap OKey (be4_injective x y (payload_equal (OKey x) (OKey y) e)))
@@ -48,5 +48,5 @@ by_variant (FwMark x) (FwMark y) i p q e = same (FwMark x) (FwMark y) (ap FwMark
 by_variant (Other x) (Other y) i p q e = same (Other x) (Other y) (ap Other e)
 by_variant v w i p q e = absurd (omega (arith, i))
 
-pub vti_injective : IsInjective equal vti_entry vti_names_row
+pub vti_injective : IsInjective equal vti_entry vti_is_row_variant
 vti_injective v w p q e = by_variant v w (variant_number v p ∙ ap row_number e ∙ sym (variant_number w q)) p q e

@@ -5,7 +5,7 @@ use Rattle.attribute_tables_grammar.specs.LookUps.{line_at}
 use Rattle.link_info_grammar.specs.Families.{wwan}
 use Rattle.link_info_devices.specs.declared.wwan.InfoWwan.{InfoWwan}
 use Rattle.link_info_devices.specs.declared.wwan.InfoWwan.TheVariants.{LinkId, Other}
-use Rattle.link_info_devices.specs.Wwan.{wwan_entry, wwan_names_row}
+use Rattle.link_info_devices.specs.Wwan.{wwan_entry, wwan_is_row_variant}
 use Rattle.link_info_devices.specs.contracts.wwan.InfoWwanPartialEq.TheImpl as equality
 use Rattle.link_info_devices.specs.contracts.wwan.InfoWwanEq.TheImpl.Laws.{laws-law}
 use Rattle.link_message.specs.Injective.{IsInjective}
@@ -23,7 +23,7 @@ variant (Other a) = 0
 abbrev row_number : Attribute → ℕ
 row_number a = numbered (line_at wwan (proper_kind a.kind)) (proper_kind a.kind)
 
-variant_number : (v : InfoWwan) → wwan_names_row v → variant v ≡ row_number (wwan_entry v)
+variant_number : (v : InfoWwan) → wwan_is_row_variant v → variant v ≡ row_number (wwan_entry v)
 variant_number (Other a) h = rw h refl
 variant_number v h = refl
 
@@ -33,10 +33,10 @@ payload_equal v w e = ap (λ (a : Attribute). a.payload) e
 same : (v w : InfoWwan) → v ≡ w → equal v w ≡ true
 same v w e = ap (equal v) (sym e) ∙ laws-law.refl v
 
-by_variant : (v w : InfoWwan) → variant v ≡ variant w → wwan_names_row v → wwan_names_row w → wwan_entry v ≡ wwan_entry w → equal v w ≡ true
+by_variant : (v w : InfoWwan) → variant v ≡ variant w → wwan_is_row_variant v → wwan_is_row_variant w → wwan_entry v ≡ wwan_entry w → equal v w ≡ true
 by_variant (LinkId x) (LinkId y) i p q e = same (LinkId x) (LinkId y) (ap LinkId (le4_injective x y (payload_equal (LinkId x) (LinkId y) e)))
 by_variant (Other x) (Other y) i p q e = same (Other x) (Other y) (ap Other e)
 by_variant v w i p q e = absurd (omega (arith, i))
 
-pub wwan_injective : IsInjective equal wwan_entry wwan_names_row
+pub wwan_injective : IsInjective equal wwan_entry wwan_is_row_variant
 wwan_injective v w p q e = by_variant v w (variant_number v p ∙ ap row_number e ∙ sym (variant_number w q)) p q e

@@ -5,7 +5,7 @@ use Rattle.attribute_tables_grammar.specs.LookUps.{line_at}
 use Rattle.link_info_grammar.specs.Families.{xfrm}
 use Rattle.link_info_tunnels.specs.declared.xfrm.InfoXfrm.TheVariants.{Link, IfId, Other}
 use Rattle.link_info_tunnels.specs.declared.xfrm.InfoXfrm.{InfoXfrm}
-use Rattle.link_info_tunnels.specs.Xfrm.{xfrm_entry, xfrm_names_row}
+use Rattle.link_info_tunnels.specs.Xfrm.{xfrm_entry, xfrm_is_row_variant}
 use Rattle.link_info_tunnels.specs.contracts.xfrm.InfoXfrmPartialEq.TheImpl as equality
 use Rattle.link_info_tunnels.specs.contracts.xfrm.InfoXfrmEq.TheImpl.Laws.{laws-law}
 use Rattle.link_message.specs.Injective.{IsInjective}
@@ -24,7 +24,7 @@ variant (Other a) = 0
 abbrev row_number : Attribute → ℕ
 row_number a = numbered (line_at xfrm (proper_kind a.kind)) (proper_kind a.kind)
 
-variant_number : (v : InfoXfrm) → xfrm_names_row v → variant v ≡ row_number (xfrm_entry v)
+variant_number : (v : InfoXfrm) → xfrm_is_row_variant v → variant v ≡ row_number (xfrm_entry v)
 variant_number (Other a) h = rw h refl
 variant_number v h = refl
 
@@ -34,11 +34,11 @@ payload_equal v w e = ap (λ (a : Attribute). a.payload) e
 same : (v w : InfoXfrm) → v ≡ w → equal v w ≡ true
 same v w e = ap (equal v) (sym e) ∙ laws-law.refl v
 
-by_variant : (v w : InfoXfrm) → variant v ≡ variant w → xfrm_names_row v → xfrm_names_row w → xfrm_entry v ≡ xfrm_entry w → equal v w ≡ true
+by_variant : (v w : InfoXfrm) → variant v ≡ variant w → xfrm_is_row_variant v → xfrm_is_row_variant w → xfrm_entry v ≡ xfrm_entry w → equal v w ≡ true
 by_variant (Link x) (Link y) i p q e = same (Link x) (Link y) (ap Link (le4_injective x y (payload_equal (Link x) (Link y) e)))
 by_variant (IfId x) (IfId y) i p q e = same (IfId x) (IfId y) (ap IfId (le4_injective x y (payload_equal (IfId x) (IfId y) e)))
 by_variant (Other x) (Other y) i p q e = same (Other x) (Other y) (ap Other e)
 by_variant v w i p q e = absurd (omega (arith, i))
 
-pub xfrm_injective : IsInjective equal xfrm_entry xfrm_names_row
+pub xfrm_injective : IsInjective equal xfrm_entry xfrm_is_row_variant
 xfrm_injective v w p q e = by_variant v w (variant_number v p ∙ ap row_number e ∙ sym (variant_number w q)) p q e

@@ -11,7 +11,7 @@ ghost use Rattle.link_message.specs.LinkMessages.{link_message_text, link_messag
 ghost use Rattle.link_message.specs.LinkMessages.{link_message_names_row, link_message_empty_ports};
 
 use link_message_attributes::LinkAttribute;
-use link_message_grammar::laws::{bodies_are_headers_and_attributes, empty_ports_are_told};
+use link_message_grammar::laws::{bodies_are_headers_and_attributes, empty_ports_are_determined};
 use link_message_types::laws::headers_are_sixteen_bytes;
 use link_message_types::{LINK_HEADER_LEN, LinkHeader};
 use netlink_packet_core::{DecodeError, Emitable, Nla, emit_all, fits_all, len_all};
@@ -54,12 +54,12 @@ impl LinkMessage {
         ensures fits { IfOk result (λ m. link_message_fits m ≡ link_body.fits bytes.now) }
         ensures empty_ports { IfOk result
             (λ m. link_message_empty_ports m ≡ link_body.empty_ports bytes.now) }
-        ensures names_row { IfOk result (λ m. link_message_names_row m) }
+        ensures is_row_variant { IfOk result (λ m. link_message_names_row m) }
         ensures err { IfErr result (λ e. link_body.accepted bytes.now ≡ is_memory e) }
         ensures not_empty { IfErr result (λ e. is_memory e ≡ true → 16 < length bytes.now) }
     {
         bodies_are_headers_and_attributes();
-        empty_ports_are_told();
+        empty_ports_are_determined();
         let header = LinkHeader::parse(bytes)?;
         let (_, list) = bytes.split_at(LINK_HEADER_LEN);
         let attributes = LinkAttribute::parse_list(alloc, list, header.interface_family)?;

@@ -12,9 +12,9 @@ use Rattle.attribute_tables_grammar.specs.Peers.{bytes_peer}
 use Rattle.attribute_tables_grammar.specs.Readings.{all_named}
 use Rattle.attribute_tables_grammar.specs.Shapes.{raw}
 use Rattle.attribute_tables_grammar.specs.Tables.{Payload, Payload.plain, Payload.list, Payload.link_info}
-use Rattle.attribute_tables.specs.Beginnings.{begins_readable, line_may_want_memory, table_may_want_memory}
+use Rattle.attribute_tables.specs.Beginnings.{begins_readable, line_may_allocate, table_may_allocate}
 use Rattle.link_info_grammar.specs.LinkInfo.{info_grammar_under}
-use Rattle.link_info.specs.LinkInfo.{link_info_entry, link_info_fits, link_info_names_row}
+use Rattle.link_info.specs.LinkInfo.{link_info_entry, link_info_fits, link_info_is_row_variant}
 use Rattle.link_message_grammar.specs.LinkMessage.{Family, unspec, bridge, inet_6, family_payload, has_no_link_row, link_line}
 use Rattle.link_message_grammar.specs.Body.{attribute_row, attribute_row_under, info_payload_rule, link_peer}
 use Rattle.link_message_grammar.specs.NestedTables.{specific}
@@ -128,7 +128,7 @@ abbrev pub link_attribute_names_row : Family → LinkAttribute → Type 0
 link_attribute_names_row f (Link.VfInfoList vs) = All link_vf_info_names_row vs.items
 link_attribute_names_row f (Link.Xdp vs) = All link_xdp_names_row vs.items
 link_attribute_names_row f (Link.Event e) = e ≡ link_event_of (link_event_number e)
-link_attribute_names_row f (Link.LinkInfo vs) = all_named (info_grammar_under link_peer) link_info_entry link_info_names_row nothing vs.items
+link_attribute_names_row f (Link.LinkInfo vs) = all_named (info_grammar_under link_peer) link_info_entry link_info_is_row_variant nothing vs.items
 link_attribute_names_row f (Link.ProtoInfoBridge vs) = f ≡ bridge
 link_attribute_names_row f (Link.ProtoInfoInet6 vs) = f ≡ inet_6
 link_attribute_names_row f (Link.ProtoInfoUnknown a) = (proper_kind a.kind ≡ 12) × has_no_link_row f (proper_kind a.kind)
@@ -162,29 +162,29 @@ line_holds_list None = false
 line_holds_list (Some l) = payload_holds_list l.payload
 
 -- Whether reading the attributes of all address families may allocate; only a row with a list of them does.
-abbrev pub families_may_want_memory : Family → List ℕ → Bool
-families_may_want_memory unspec p = begins_readable (family_row specific) (table_may_want_memory specific) p
-families_may_want_memory f p = line_may_want_memory (link_line f 26) p
+abbrev pub families_may_allocate : Family → List ℕ → Bool
+families_may_allocate unspec p = begins_readable (family_row specific) (table_may_allocate specific) p
+families_may_allocate f p = line_may_allocate (link_line f 26) p
 
 -- Whether reading a list may allocate: link info if it is accepted; another list of attributes if its first attribute
 -- is accepted, or is a list whose reading may allocate.
-abbrev pub list_may_want_memory : Family → ℕ → List ℕ → Bool
-list_may_want_memory f k p =
+abbrev pub list_may_allocate : Family → ℕ → List ℕ → Bool
+list_may_allocate f k p =
     cond (k == 18) (info_payload_rule.accepted p)
     (cond (k == 22) (vf_infos_begin_readable p)
     (cond (k == 24) (vf_ports_begin_readable p)
-    (cond (k == 26) (families_may_want_memory f p)
-    (line_may_want_memory (link_line f k) p))))
+    (cond (k == 26) (families_may_allocate f p)
+    (line_may_allocate (link_line f k) p))))
 
 -- Whether reading a payload may allocate: for a list of attributes this depends on its start; for bytes, a text and the
 -- bits of a mask, on whether the row accepts them.
-abbrev pub row_may_want_memory : Family → ℕ → List ℕ → Bool
-row_may_want_memory f k p =
-    cond (line_holds_list (link_line f k)) (list_may_want_memory f k p) ((k == 29 || line_holds_bytes (link_line f k)) && (attribute_row f k).rule.accepted p)
+abbrev pub row_may_allocate : Family → ℕ → List ℕ → Bool
+row_may_allocate f k p =
+    cond (line_holds_list (link_line f k)) (list_may_allocate f k p) ((k == 29 || line_holds_bytes (link_line f k)) && (attribute_row f k).rule.accepted p)
 
 -- Whether reading the attribute at the start of some bytes may allocate.
-abbrev pub link_attribute_may_want_memory : Family → List ℕ → Bool
-link_attribute_may_want_memory f b = row_may_want_memory f (proper_kind (viewed_kind b)) (viewed_payload b)
+abbrev pub link_attribute_may_allocate : Family → List ℕ → Bool
+link_attribute_may_allocate f b = row_may_allocate f (proper_kind (viewed_kind b)) (viewed_payload b)
 
 -- The kind isn't one of those whose payload is no number.
 abbrev pub IsReadAsNumber : ℕ → Type 0

@@ -14,10 +14,10 @@ ghost use Rattle.link_message_grammar.specs.LinkMessage.{has_no_link_row};
 ghost use Rattle.link_message_grammar.specs.Body.{attribute_row, attributes_rule};
 ghost use Rattle.link_message_types.specs.AddressFamilies.{table_family};
 ghost use Rattle.link_message_attributes.specs.LinkAttributes.{link_attribute_entry, link_attribute_fits, link_attribute_names_row};
-ghost use Rattle.link_message_attributes.specs.LinkAttributes.{plain_row, row_may_want_memory, link_attribute_may_want_memory};
+ghost use Rattle.link_message_attributes.specs.LinkAttributes.{plain_row, row_may_allocate, link_attribute_may_allocate};
 ghost use Rattle.link_message_attributes.specs.Payloads.{link_payload_bytes, link_payload_fits};
 ghost use Rattle.attribute_tables.specs.Outcomes.{IfMemory, IfRead, IsRefusedUnless, IsRewrittenBy, ListIsReadAs};
-ghost use Rattle.attribute_tables.specs.Outcomes.{ListIsWrittenBy, RowIsRewrittenBy, SucceedsWhere};
+ghost use Rattle.attribute_tables.specs.Outcomes.{ListIsWrittenBy, RowIsRewrittenBy, SucceedsIf};
 
 use super::families::number_of_table;
 use super::kinds::IFLA_ADDRESS;
@@ -91,7 +91,7 @@ use link_info::LinkInfo;
 use link_message_checks::attribute_error;
 use link_message_checks::attributes_error;
 use link_message_grammar::laws::attributes_are_looked_up;
-use link_message_grammar::laws::peers_stand_in_link_info;
+use link_message_grammar::laws::only_link_info_holds_peers;
 use link_message_nested::AfSpecUnspec;
 use link_message_nested::DevlinkPort;
 use link_message_nested::DpllPin;
@@ -393,7 +393,7 @@ impl LinkAttribute {
         family: AddressFamily,
         payload: &[u8],
     ) -> Result<Option<Self>, DecodeError>
-        ensures judged { SucceedsWhere result
+        ensures judged { SucceedsIf result
             ((plain_row (table_family family) 12).rule.accepted payload.now) }
         ensures none { IfOk result
             (λ o. IfNone o (has_no_link_row (table_family family) 12)) }
@@ -401,9 +401,9 @@ impl LinkAttribute {
             (λ _. (plain_row (table_family family) 12).is_typed ≡ true) }
         ensures written { RowIsRewrittenBy result link_attribute_entry link_attribute_fits
             (plain_row (table_family family) 12) (attribute 12 payload.now) }
-        ensures names_row { IfRead result (λ v. link_attribute_names_row (table_family family) v) }
+        ensures is_row_variant { IfRead result (λ v. link_attribute_names_row (table_family family) v) }
         ensures memory { IfMemory result
-            (row_may_want_memory (table_family family) 12 payload.now ≡ true) }
+            (row_may_allocate (table_family family) 12 payload.now ≡ true) }
     {
         match family {
             AddressFamily::Bridge => typed!(ProtoInfoBridge, parse_raw(alloc, payload)),
@@ -424,7 +424,7 @@ impl LinkAttribute {
         family: AddressFamily,
         payload: &[u8],
     ) -> Result<Option<Self>, DecodeError>
-        ensures judged { SucceedsWhere result
+        ensures judged { SucceedsIf result
             ((plain_row (table_family family) 26).rule.accepted payload.now) }
         ensures none { IfOk result
             (λ o. IfNone o (has_no_link_row (table_family family) 26)) }
@@ -432,9 +432,9 @@ impl LinkAttribute {
             (λ _. (plain_row (table_family family) 26).is_typed ≡ true) }
         ensures written { RowIsRewrittenBy result link_attribute_entry link_attribute_fits
             (plain_row (table_family family) 26) (attribute 26 payload.now) }
-        ensures names_row { IfRead result (λ v. link_attribute_names_row (table_family family) v) }
+        ensures is_row_variant { IfRead result (λ v. link_attribute_names_row (table_family family) v) }
         ensures memory { IfMemory result
-            (row_may_want_memory (table_family family) 26 payload.now ≡ true) }
+            (row_may_allocate (table_family family) 26 payload.now ≡ true) }
     {
         match family {
             AddressFamily::Unspec => typed!(AfSpecUnspec, parse_families(alloc, payload)),
@@ -459,7 +459,7 @@ impl LinkAttribute {
         payload: &[u8],
     ) -> Result<Option<Self>, DecodeError>
         requires { (kind == 18) ≡ false }
-        ensures judged { SucceedsWhere result
+        ensures judged { SucceedsIf result
             ((plain_row (table_family family) kind).rule.accepted payload.now) }
         ensures none { IfOk result
             (λ o. IfNone o (has_no_link_row (table_family family) kind)) }
@@ -467,9 +467,9 @@ impl LinkAttribute {
             (λ _. (plain_row (table_family family) kind).is_typed ≡ true) }
         ensures written { RowIsRewrittenBy result link_attribute_entry link_attribute_fits
             (plain_row (table_family family) kind) (attribute kind payload.now) }
-        ensures names_row { IfRead result (λ v. link_attribute_names_row (table_family family) v) }
+        ensures is_row_variant { IfRead result (λ v. link_attribute_names_row (table_family family) v) }
         ensures memory { IfMemory result
-            (row_may_want_memory (table_family family) kind payload.now ≡ true) }
+            (row_may_allocate (table_family family) kind payload.now ≡ true) }
     {
         match kind {
             IFLA_ADDRESS => typed!(Address, parse_bytes(alloc, payload)),
@@ -512,7 +512,7 @@ impl LinkAttribute {
         kind: u16,
         payload: &[u8],
     ) -> Result<Option<Self>, DecodeError>
-        ensures judged { SucceedsWhere result
+        ensures judged { SucceedsIf result
             ((attribute_row (table_family family) kind).rule.accepted payload.now) }
         ensures none { IfOk result
             (λ o. IfNone o (has_no_link_row (table_family family) kind)) }
@@ -520,11 +520,11 @@ impl LinkAttribute {
             (λ _. (attribute_row (table_family family) kind).is_typed ≡ true) }
         ensures written { RowIsRewrittenBy result link_attribute_entry link_attribute_fits
             (attribute_row (table_family family) kind) (attribute kind payload.now) }
-        ensures names_row { IfRead result (λ v. link_attribute_names_row (table_family family) v) }
+        ensures is_row_variant { IfRead result (λ v. link_attribute_names_row (table_family family) v) }
         ensures memory { IfMemory result
-            (row_may_want_memory (table_family family) kind payload.now ≡ true) }
+            (row_may_allocate (table_family family) kind payload.now ≡ true) }
     {
-        peers_stand_in_link_info();
+        only_link_info_holds_peers();
         match kind {
             IFLA_LINKINFO => typed!(LinkInfo, parse_link_info(alloc, payload)),
             _ => Self::read_plain_row(alloc, family, kind, payload),
@@ -538,15 +538,15 @@ impl LinkAttribute {
         family: AddressFamily,
     ) -> Result<LinkAttribute, DecodeError>
         requires { IsAttribute (storage buf.now).now }
-        ensures judged { SucceedsWhere result
+        ensures judged { SucceedsIf result
             (is_accepted_by (attribute_row (table_family family)) (storage buf.now).now) }
         ensures written { IsRewrittenBy result link_attribute_entry link_attribute_fits
             (viewed_row (attribute_row (table_family family)) (storage buf.now).now)
             (viewed_attribute (storage buf.now).now) }
-        ensures names_row { IfOk result
+        ensures is_row_variant { IfOk result
             (λ v. link_attribute_names_row (table_family family) v) }
         ensures memory { IfMemory result
-            (link_attribute_may_want_memory (table_family family) (storage buf.now).now ≡ true) }
+            (link_attribute_may_allocate (table_family family) (storage buf.now).now ≡ true) }
     {
         typed_rows_write_the_kind();
         match Self::read_row(alloc, family, buf.kind(), buf.value()) {
@@ -577,10 +577,10 @@ impl LinkAttribute {
         ensures written { IsRewrittenBy result link_attribute_entry link_attribute_fits
             (viewed_row (attribute_row (table_family family)) (storage buf.now).now)
             (viewed_attribute (storage buf.now).now) }
-        ensures names_row { IfOk result
+        ensures is_row_variant { IfOk result
             (λ v. link_attribute_names_row (table_family family) v) }
         ensures memory { IfMemory result
-            (link_attribute_may_want_memory (table_family family) (storage buf.now).now ≡ true) }
+            (link_attribute_may_allocate (table_family family) (storage buf.now).now ≡ true) }
     {
         match Self::read(alloc, buf, family) {
             Ok(value) => Ok(value),
@@ -598,13 +598,13 @@ impl LinkAttribute {
         bytes: &[u8],
         family: AddressFamily,
     ) -> Result<Vec<LinkAttribute>, DecodeError>
-        ensures judged { SucceedsWhere result
+        ensures judged { SucceedsIf result
             ((attributes_rule (table_family family)).accepted bytes.now) }
         ensures read { ListIsReadAs result link_attribute_entry link_attribute_fits
             (reading_as any (without_context (attribute_row (table_family family))) bytes.now) }
         ensures written { ListIsWrittenBy result link_attribute_entry link_attribute_fits
             (attributes_rule (table_family family)) bytes.now }
-        ensures names_row { IfOk result
+        ensures is_row_variant { IfOk result
             (λ v. All (link_attribute_names_row (table_family family)) v.items) }
         ensures not_empty { IfErr result (λ _. 0 < length bytes.now) }
     {
@@ -631,7 +631,7 @@ impl LinkAttribute {
             (reading_as any (without_context (attribute_row (table_family family))) bytes.now) }
         ensures written { ListIsWrittenBy result link_attribute_entry link_attribute_fits
             (attributes_rule (table_family family)) bytes.now }
-        ensures names_row { IfOk result
+        ensures is_row_variant { IfOk result
             (λ v. All (link_attribute_names_row (table_family family)) v.items) }
         ensures not_empty { IfErr result (λ _. 0 < length bytes.now) }
     {
@@ -653,9 +653,9 @@ impl Reader for LinkAttributeReader {
 
     ghost row_of = { λ r. attribute_row (table_family r.family) };
 
-    ghost names_row = { λ r. link_attribute_names_row (table_family r.family) };
+    ghost is_row_variant = { λ r. link_attribute_names_row (table_family r.family) };
 
-    ghost may_want_memory = { λ r. link_attribute_may_want_memory (table_family r.family) };
+    ghost may_allocate = { λ r. link_attribute_may_allocate (table_family r.family) };
 
     fn read(&self, alloc: Global, buf: &NlaBuffer<&[u8]>) -> Result<LinkAttribute, DecodeError> {
         LinkAttribute::read(alloc, buf, self.family)

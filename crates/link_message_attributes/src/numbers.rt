@@ -5,10 +5,10 @@ ghost use Rattle.netlink_packet_core.specs.Families.{attribute};
 ghost use Rattle.netlink_packet_core.specs.Numbers.{le4};
 ghost use Rattle.link_message_grammar.specs.LinkMessage.{Family, has_no_link_row};
 ghost use Rattle.link_message_types.specs.AddressFamilies.{table_family};
-ghost use Rattle.link_message_attributes.specs.LinkAttributes.{IsReadAsNumber, plain_row, row_may_want_memory};
+ghost use Rattle.link_message_attributes.specs.LinkAttributes.{IsReadAsNumber, plain_row, row_may_allocate};
 ghost use Rattle.link_message_attributes.specs.LinkAttributes.{link_attribute_entry, link_attribute_fits};
 ghost use Rattle.link_message_attributes.specs.LinkAttributes.{link_attribute_names_row};
-ghost use Rattle.attribute_tables.specs.Outcomes.{IfMemory, IfRead, RowIsRewrittenBy, SucceedsWhere};
+ghost use Rattle.attribute_tables.specs.Outcomes.{IfMemory, IfRead, RowIsRewrittenBy, SucceedsIf};
 
 use super::attributes::LinkAttribute;
 use super::kinds::{
@@ -32,7 +32,7 @@ impl LinkAttribute {
         ensures value { IfSome result
             (λ v. link_attribute_entry v ≡ attribute kind (number ∷ [])) }
         ensures inside { IfSome result (λ v. link_attribute_fits v ≡ true) }
-        ensures names_row { IfSome result
+        ensures is_row_variant { IfSome result
             (λ v. (family : Family) → link_attribute_names_row family v) }
         ensures none { IfNone result
             (kind ≢ 16 × kind ≢ 17 × kind ≢ 33 × kind ≢ 39) }
@@ -51,7 +51,7 @@ impl LinkAttribute {
         ensures value { IfSome result
             (λ v. link_attribute_entry v ≡ attribute kind (le4 number)) }
         ensures inside { IfSome result (λ v. link_attribute_fits v ≡ true) }
-        ensures names_row { IfSome result
+        ensures is_row_variant { IfSome result
             (λ v. (family : Family) → link_attribute_names_row family v) }
         ensures none { IfNone result
             (kind ≢ 4 × kind ≢ 5 × kind ≢ 10 × kind ≢ 13 × kind ≢ 19 × kind ≢ 21 × kind ≢ 27
@@ -100,7 +100,7 @@ impl LinkAttribute {
         payload: &[u8],
     ) -> Result<Option<Self>, DecodeError>
         requires { IsReadAsNumber kind }
-        ensures judged { SucceedsWhere result
+        ensures judged { SucceedsIf result
             ((plain_row (table_family family) kind).rule.accepted payload.now) }
         ensures none { IfOk result
             (λ o. IfNone o (has_no_link_row (table_family family) kind)) }
@@ -108,9 +108,9 @@ impl LinkAttribute {
             (λ _. (plain_row (table_family family) kind).is_typed ≡ true) }
         ensures written { RowIsRewrittenBy result link_attribute_entry link_attribute_fits
             (plain_row (table_family family) kind) (attribute kind payload.now) }
-        ensures names_row { IfRead result (λ v. link_attribute_names_row (table_family family) v) }
+        ensures is_row_variant { IfRead result (λ v. link_attribute_names_row (table_family family) v) }
         ensures memory { IfMemory result
-            (row_may_want_memory (table_family family) kind payload.now ≡ true) }
+            (row_may_allocate (table_family family) kind payload.now ≡ true) }
     {
         match kind {
             IFLA_OPERSTATE | IFLA_CARRIER | IFLA_PROTO_DOWN => typed!(

@@ -6,7 +6,7 @@ ghost use Rattle.netlink_packet_core.specs.Numbers.{as_usize, le4};
 ghost use Rattle.attribute_tables_grammar.specs.Lists.{nothing};
 ghost use Rattle.attribute_tables_grammar.specs.Readings.{all_named};
 ghost use Rattle.link_info_grammar.specs.LinkInfo.{info_grammar_under};
-ghost use Rattle.link_info.specs.LinkInfo.{link_info_entry, link_info_fits, link_info_names_row};
+ghost use Rattle.link_info.specs.LinkInfo.{link_info_entry, link_info_fits, link_info_is_row_variant};
 ghost use Rattle.link_message_grammar.specs.Body.{info_payload_rule, link_peer};
 ghost use Rattle.link_message_types.specs.ExtentMasks.{joined_extent_masks, link_extent_masks_of};
 ghost use Rattle.link_message_attributes.specs.Payloads.{link_payload_bytes, link_payload_fits};
@@ -93,7 +93,7 @@ impl<'a> LinkPayload<'a> {
     #[tactic(auto, using(attribute_tables::proofs::Lists::lists))]
     pub(crate) fn fill(self, buffer: &mut [u8])
         requires fits { link_payload_fits self ≡ true }
-        requires room { length buffer.old ≡ length (link_payload_bytes self) }
+        requires buffer_size { length buffer.old ≡ length (link_payload_bytes self) }
         ensures { buffer.new ≡ link_payload_bytes self.entry }
     {
         match self {
@@ -165,8 +165,8 @@ pub(crate) fn parse_link_info(alloc: Global, payload: &[u8]) -> Result<Vec<LinkI
     ensures judged { IsRefusedUnless result (info_payload_rule.accepted payload.now) }
     ensures written { ListIsWrittenBy result link_info_entry link_info_fits info_payload_rule
         payload.now }
-    ensures names_row { IfOk result
-        (λ v. all_named (info_grammar_under link_peer) link_info_entry link_info_names_row nothing
+    ensures is_row_variant { IfOk result
+        (λ v. all_named (info_grammar_under link_peer) link_info_entry link_info_is_row_variant nothing
         v.items) }
     ensures not_empty { IfMemory result (0 < length payload.now) }
 {

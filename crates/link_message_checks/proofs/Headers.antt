@@ -4,13 +4,13 @@ use Rattle.std.specs.Prelude.{bytes_eq, slice_index}
 use Rattle.std.proofs.lemmas.Bool.{false_from_ne_true}
 use Rattle.std.proofs.lemmas.List.{take_min}
 use Rattle.std.proofs.lemmas.Slice.Eq.{bytes_eq-Decides}
-use Rattle.link_interpreter.proofs.SameShapes.{behind_same}
+use Rattle.link_interpreter.proofs.SameShapes.{following_same}
 use Rattle.link_message_grammar.specs.Body.{header_text, is_listed, layer_type_text}
 
-pub own_header : (b : List ℕ) → 16 ≤ length b → slice_index b 1 ≡ 0 → is_listed (slice_index b 2 + 256 * slice_index b 3) ≡ true → header_text b ≡ take 16 b
-own_header (f ∷ x ∷ k ∷ l ∷ tail) long z h =
+pub canonical_header : (b : List ℕ) → 16 ≤ length b → slice_index b 1 ≡ 0 → is_listed (slice_index b 2 + 256 * slice_index b 3) ≡ true → header_text b ≡ take 16 b
+canonical_header (f ∷ x ∷ k ∷ l ∷ tail) long z h =
     ap (λ v. f ∷ 0 ∷ (cond v (k ∷ l ∷ []) (255 ∷ 255 ∷ []) ++ take 12 tail)) h ∙ ap (λ n. f ∷ n ∷ k ∷ l ∷ take 12 tail) (sym z)
-own_header b long z h = absurd (omega arith)
+canonical_header b long z h = absurd (omega arith)
 
 -- The layer type that is written, in two bytes.
 pub named_layer : (a b : ℕ) → a < 256 → is_listed (a + 256 * b) ≡ true → (a + 256 * b) % 256 ∷ (a + 256 * b) / 256 ∷ [] ≡ layer_type_text a b
@@ -55,8 +55,8 @@ module _ (a b : List ℕ) where
         let high : k / 256 ≡ l / 256 = ap (λ z. slice_index z 3) e in
         other (omega arith)))
 
-    pub rest_tells : f ≡ g → k ≡ l → bytes_eq x y ≡ bytes_eq (header_text a) (header_text b)
-    rest_tells e h =
-        behind_same (fields f k []) x y
+    pub rest_determines : f ≡ g → k ≡ l → bytes_eq x y ≡ bytes_eq (header_text a) (header_text b)
+    rest_determines e h =
+        following_same (fields f k []) x y
         ∙ (λ i. bytes_eq (fields f k x) (fields (e i) (h i) y))
         ∙ (λ i. bytes_eq (sym left i) (sym right i))

@@ -1,3 +1,3 @@
 pub mod Headers
 pub mod ShortBodies
-pub mod Fronts
+pub mod Prefixes

@@ -49,8 +49,8 @@ module _ (p : Peer) (a b : List ℕ) where
   abbrev one_short : Type 0
   one_short = (length a < 16) ⊎ ((16 ≤ length a) × (length b < 16))
 
-  none_behind : length a < 16 → length b < 16 → attributes_same ≡ true
-  none_behind l m = (λ i. (list_rule_of p (family a)).same (cut_off a l i) (cut_off b m i)) ∙ no_attributes p (family a)
+  none_after_prefix : length a < 16 → length b < 16 → attributes_same ≡ true
+  none_after_prefix l m = (λ i. (list_rule_of p (family a)).same (cut_off a l i) (cut_off b m i)) ∙ no_attributes p (family a)
 
   both : one_short → header_text a ≡ header_text b → (length a < 16) × (length b < 16)
   both (inl l) e = (l, both_short a b e l)
@@ -58,8 +58,8 @@ module _ (p : Peer) (a b : List ℕ) where
 
   by : one_short → (v : Bool) → headers_same ≡ v → v ≡ (v && attributes_same)
   by s false e = refl
-  by s true e = let t = both s ((bytes_eq-Decides (header_text a) (header_text b)).0 e) in sym (none_behind t.0 t.1)
+  by s true e = let t = both s ((bytes_eq-Decides (header_text a) (header_text b)).0 e) in sym (none_after_prefix t.0 t.1)
 
   -- If one of two bodies is cut short, their headers determine whether they mean the same.
-  pub headers_tell : one_short → headers_same ≡ (headers_same && attributes_same)
-  headers_tell s = by s headers_same refl
+  pub headers_determine : one_short → headers_same ≡ (headers_same && attributes_same)
+  headers_determine s = by s headers_same refl

@@ -9,7 +9,7 @@ ghost use Rattle.link_message_grammar.specs.Body.{attribute_row, attributes_rule
 
 use crate::body::walk_attributes;
 use crate::peer::LinkPeer;
-use attribute_tables_grammar::laws::measures_tell_rules;
+use attribute_tables_grammar::laws::measures_determine_rules;
 use link_interpreter::{find, measure_held};
 use link_message_grammar::laws::kinds_are_looked_up;
 use link_tables::family_table;
@@ -21,7 +21,7 @@ pub fn accepts_attribute(family: u8, kind: u16, payload: &[u8]) -> bool
     ensures { result
         ≡ (attribute_row (family_of family) (proper_kind kind)).rule.accepted payload.now }
 {
-    measures_tell_rules();
+    measures_determine_rules();
     kinds_are_looked_up();
     let found = find(&LinkPeer, family_table(family), kind);
     measure_held(&LinkPeer, found.held, payload).is_some()
@@ -31,7 +31,7 @@ pub fn accepts_attribute(family: u8, kind: u16, payload: &[u8]) -> bool
 pub fn accepts_attributes(family: u8, bytes: &[u8]) -> bool
     ensures { result ≡ (attributes_rule (family_of family)).accepted bytes.now }
 {
-    measures_tell_rules();
+    measures_determine_rules();
     walk_attributes(&LinkPeer, family, bytes).is_some()
 }
 
@@ -41,7 +41,7 @@ pub fn accepts_attributes(family: u8, bytes: &[u8]) -> bool
 pub fn attribute_error(family: u8, kind: u16, payload: &[u8], error: DecodeError) -> DecodeError
     requires refused { is_memory error ≡ false
         → (attribute_row (family_of family) (proper_kind kind)).rule.accepted payload.now ≡ false }
-    ensures told { (attribute_row (family_of family) (proper_kind kind)).rule.accepted payload.now
+    ensures outcome { (attribute_row (family_of family) (proper_kind kind)).rule.accepted payload.now
         ≡ is_memory result }
     ensures memory { is_memory result ≡ true → is_memory error ≡ true }
 {

@@ -6,12 +6,12 @@ ghost use Rattle.link_message_grammar.specs.Laws.{BodyLaws};
 ghost use Rattle.link_message_grammar.specs.LinkMessage.{family_of};
 ghost use Rattle.link_message_grammar.specs.Body.{body_rule, list_rule_of};
 ghost use Rattle.link_interpreter.specs.Measures.{view};
-ghost use Rattle.link_interpreter.specs.Fronts.{IsOwnFront};
-ghost use Rattle.link_message_checks.specs.Fronts.{IsBodyFront};
-ghost use Rattle.link_interpreter.specs.Room.{HasRoom};
+ghost use Rattle.link_interpreter.specs.Prefixes.{IsCanonicalPrefix};
+ghost use Rattle.link_message_checks.specs.Prefixes.{IsBodyPrefix};
+ghost use Rattle.link_interpreter.specs.Capacity.{HasCapacity};
 
-use crate::header::{is_own_header, same_header, write_header};
-use attribute_tables_grammar::laws::{measures_tell_rules, rows_are_looked_up};
+use crate::header::{is_canonical_header, same_header, write_header};
+use attribute_tables_grammar::laws::{measures_determine_rules, rows_are_looked_up};
 use link_interpreter::{Measured, PeerSet, WritePeer, append, same_held, walk_list, write_held};
 use link_message_grammar::laws::{
     bodies_are_measured, bodies_are_small, body_laws_hold_for_any_peers,
@@ -31,22 +31,22 @@ pub(crate) fn body_laws_hold<P: PeerSet>(peers: &P)
 pub(crate) fn walk_attributes<P: PeerSet>(peers: &P, family: u8, bytes: &[u8]) -> Option<Measured>
     ensures measure { option_map view result
         ≡ measure (list_rule_of P.peer (family_of family)) bytes.now }
-    ensures own { IfSome result
-        (λ m. m.is_own ≡ true
+    ensures already_canonical { IfSome result
+        (λ m. m.is_canonical ≡ true
         → (list_rule_of P.peer (family_of family)).canonical bytes.now ≡ bytes.now) }
-    ensures front { IfSome result
-        (λ m. IsOwnFront (list_rule_of P.peer (family_of family)) bytes.now m.front) }
+    ensures prefix { IfSome result
+        (λ m. IsCanonicalPrefix (list_rule_of P.peer (family_of family)) bytes.now m.prefix) }
 {
     rows_are_looked_up();
     walk_list(peers, Form::Any, family_table(family), bytes)
 }
 
 // Returns the size of the canonical prefix of a body, from that of its attributes.
-fn front_of(is_own_header: bool, front: u32) -> u32
-    ensures { result ≡ cond (is_own_header && nat_lt front (2 ^ 32 - 16)) (16 + front) 0 }
+fn prefix_of(is_canonical_header: bool, prefix: u32) -> u32
+    ensures { result ≡ cond (is_canonical_header && nat_lt prefix (2 ^ 32 - 16)) (16 + prefix) 0 }
 {
-    if is_own_header && front < 0xffff_fff0 {
-        16 + front
+    if is_canonical_header && prefix < 0xffff_fff0 {
+        16 + prefix
     } else {
         0
     }
@@ -55,9 +55,9 @@ fn front_of(is_own_header: bool, front: u32) -> u32
 // Walks a body under these peers. Returns all that one walk finds; None if it isn't accepted.
 pub(crate) fn walk_body_over<P: PeerSet>(peers: &P, bytes: &[u8]) -> Option<Measured>
     ensures measure { option_map view result ≡ measure (body_rule P.peer) bytes.now }
-    ensures own { IfSome result
-        (λ m. m.is_own ≡ true → (body_rule P.peer).canonical bytes.now ≡ bytes.now) }
-    ensures front { IfSome result (λ m. IsBodyFront P.peer bytes.now m.front) }
+    ensures already_canonical { IfSome result
+        (λ m. m.is_canonical ≡ true → (body_rule P.peer).canonical bytes.now ≡ bytes.now) }
+    ensures prefix { IfSome result (λ m. IsBodyPrefix P.peer bytes.now m.prefix) }
 {
     bodies_are_measured();
     if bytes.len() < LINK_HEADER_LEN {
@@ -66,18 +66,18 @@ pub(crate) fn walk_body_over<P: PeerSet>(peers: &P, bytes: &[u8]) -> Option<Meas
     let Some(found) = walk_attributes(peers, bytes[0], &bytes[LINK_HEADER_LEN..]) else {
         return None;
     };
-    measures_tell_rules();
+    measures_determine_rules();
     bodies_are_small();
     peers.peers_are_lawful();
-    let is_own_header = is_own_header(bytes);
+    let is_canonical_header = is_canonical_header(bytes);
     Some(Measured {
         text_len: 16 + found.text_len,
         attributes: found.attributes,
         fits: found.fits,
         empty_ports: found.empty_ports,
         // `&`, since `&&` in a struct literal splits the prover's goals.
-        is_own: found.is_own & is_own_header,
-        front: front_of(is_own_header, found.front),
+        is_canonical: found.is_canonical & is_canonical_header,
+        prefix: prefix_of(is_canonical_header, found.prefix),
     })
 }
 
@@ -110,36 +110,36 @@ pub(crate) fn same_body_over<P: PeerSet>(peers: &P, left: &[u8], right: &[u8]) -
 fn write_attributes<P: WritePeer>(peers: &P, family: u8, bytes: &[u8], out: &mut Vec<u8>)
     requires accepted { (list_rule_of P.peer (family_of family)).accepted bytes.now ≡ true }
     requires fits { (list_rule_of P.peer (family_of family)).fits bytes.now ≡ true }
-    requires room { HasRoom out.old ((list_rule_of P.peer (family_of family)).canonical bytes.now) }
+    requires capacity { HasCapacity out.old ((list_rule_of P.peer (family_of family)).canonical bytes.now) }
     ensures text { out.new.items
         ≡ out.old.items ++ (list_rule_of P.peer (family_of family)).canonical bytes.now }
-    ensures room { vec_capacity out.old ≤ vec_capacity out.new }
+    ensures capacity { vec_capacity out.old ≤ vec_capacity out.new }
 {
     let held = Held::List(Form::Any, family_table(family));
     write_held(peers, held, bytes, out);
 }
 
-// Appends the canonical text of an accepted body that fits, under these peers. Its first `front`
+// Appends the canonical text of an accepted body that fits, under these peers. Its first `prefix`
 // bytes are known to be canonical; `out` has to have capacity for the text.
 pub(crate) fn write_body_over<P: WritePeer>(
     peers: &P,
     bytes: &[u8],
-    front: usize,
+    prefix: usize,
     out: &mut Vec<u8>,
 )
     requires accepted { (body_rule P.peer).accepted bytes.now ≡ true }
     requires fits { (body_rule P.peer).fits bytes.now ≡ true }
-    requires front { IsBodyFront P.peer bytes.now front }
-    requires room { HasRoom out.old ((body_rule P.peer).canonical bytes.now) }
+    requires prefix { IsBodyPrefix P.peer bytes.now prefix }
+    requires capacity { HasCapacity out.old ((body_rule P.peer).canonical bytes.now) }
     ensures text { out.new.items ≡ out.old.items ++ (body_rule P.peer).canonical bytes.now }
-    ensures room { vec_capacity out.old ≤ vec_capacity out.new }
+    ensures capacity { vec_capacity out.old ≤ vec_capacity out.new }
 {
     body_laws_hold(peers);
-    if front < LINK_HEADER_LEN {
+    if prefix < LINK_HEADER_LEN {
         write_header(bytes, out);
         write_attributes(peers, bytes[0], &bytes[LINK_HEADER_LEN..], out);
     } else {
-        append(&bytes[..front], out);
-        write_attributes(peers, bytes[0], &bytes[front..], out);
+        append(&bytes[..prefix], out);
+        write_attributes(peers, bytes[0], &bytes[prefix..], out);
     }
 }

@@ -10,14 +10,14 @@ use link_interpreter::append;
 use link_tables::LINK_HEADER_LEN;
 
 /// The size of a header up to the end of its layer type.
-const FRONT_LEN: usize = 4;
+const PREFIX_LEN: usize = 4;
 
 /// The layer type for types without a name (if_arp.h, ARPHRD_VOID).
 const VOID_LAYER: u16 = 0xffff;
 
 // Returns whether a body's header is canonical: its second byte is zero, and its layer type has a
 // name.
-pub(crate) fn is_own_header(bytes: &[u8]) -> bool
+pub(crate) fn is_canonical_header(bytes: &[u8]) -> bool
     requires { 16 ≤ length bytes.now }
     ensures { result ≡ true → header_text bytes.now ≡ take 16 bytes.now }
 {
@@ -45,24 +45,24 @@ fn layer_type(bytes: &[u8]) -> u16
 pub(crate) fn same_header(left: &[u8], right: &[u8]) -> bool
     ensures { result ≡ bytes_eq (header_text left.now) (header_text right.now) }
 {
-    if left.len() < FRONT_LEN || right.len() < FRONT_LEN {
-        return left.len() < FRONT_LEN && right.len() < FRONT_LEN;
+    if left.len() < PREFIX_LEN || right.len() < PREFIX_LEN {
+        return left.len() < PREFIX_LEN && right.len() < PREFIX_LEN;
     }
     left[0] == right[0]
         && layer_type(left) == layer_type(right)
-        && &left[FRONT_LEN..left.len().min(LINK_HEADER_LEN)]
-            == &right[FRONT_LEN..right.len().min(LINK_HEADER_LEN)]
+        && &left[PREFIX_LEN..left.len().min(LINK_HEADER_LEN)]
+            == &right[PREFIX_LEN..right.len().min(LINK_HEADER_LEN)]
 }
 
 // Appends a header in canonical form: its second byte zero, and a layer type without a name as
 // void.
 pub(crate) fn write_header(bytes: &[u8], out: &mut Vec<u8>)
     requires header { 16 ≤ length bytes.now }
-    requires room { length out.old.items + 16 ≤ vec_capacity out.old }
+    requires capacity { length out.old.items + 16 ≤ vec_capacity out.old }
     ensures text { out.new.items ≡ out.old.items ++ header_text bytes.now }
-    ensures room { vec_capacity out.old ≤ vec_capacity out.new }
+    ensures capacity { vec_capacity out.old ≤ vec_capacity out.new }
 {
     let [low, high] = layer_type(bytes).to_le_bytes();
     append(&[bytes[0], 0, low, high], out);
-    append(&bytes[FRONT_LEN..LINK_HEADER_LEN], out);
+    append(&bytes[PREFIX_LEN..LINK_HEADER_LEN], out);
 }

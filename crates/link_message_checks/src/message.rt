@@ -8,13 +8,13 @@ ghost use Rattle.attribute_tables_grammar.specs.Walks.{measure};
 ghost use Rattle.netlink_packet_core_numbers.specs.Errors.{is_memory};
 ghost use Rattle.link_message_grammar.specs.Body.{link_body, link_peer};
 ghost use Rattle.link_interpreter.specs.Measures.{view};
-ghost use Rattle.link_message_checks.specs.Fronts.{IsBodyFront};
+ghost use Rattle.link_message_checks.specs.Prefixes.{IsBodyPrefix};
 ghost use Rattle.link_message_checks.specs.Measures.{IsBodyMeasure};
-ghost use Rattle.link_interpreter.specs.Room.{HasRoom};
+ghost use Rattle.link_interpreter.specs.Capacity.{HasCapacity};
 
 use crate::body::{same_body_over, walk_body_over, write_body_over};
 use crate::peer::LinkPeer;
-use attribute_tables_grammar::laws::measures_tell_rules;
+use attribute_tables_grammar::laws::measures_determine_rules;
 use link_interpreter::Measured;
 use netlink_packet_core_numbers::DecodeError;
 use std::alloc::AllocError;
@@ -36,9 +36,9 @@ pub struct BodyMeasure {
 /// For the crates that check captures.
 pub fn walk_body(bytes: &[u8]) -> Option<Measured>
     ensures measure { option_map view result ≡ measure link_body bytes.now }
-    ensures own { IfSome result
-        (λ m. m.is_own ≡ true → link_body.canonical bytes.now ≡ bytes.now) }
-    ensures front { IfSome result (λ m. IsBodyFront link_peer bytes.now m.front) }
+    ensures already_canonical { IfSome result
+        (λ m. m.is_canonical ≡ true → link_body.canonical bytes.now ≡ bytes.now) }
+    ensures prefix { IfSome result (λ m. IsBodyPrefix link_peer bytes.now m.prefix) }
 {
     walk_body_over(&LinkPeer, bytes)
 }
@@ -55,7 +55,7 @@ pub fn check(bytes: &[u8]) -> Result<BodyMeasure, DecodeError>
     ensures measure { IfOk result (λ m. IsBodyMeasure link_body bytes.now m) }
     ensures err { IfErr result (λ e. is_memory e ≡ false) }
 {
-    measures_tell_rules();
+    measures_determine_rules();
     let Some(found) = walk_body(bytes) else {
         return Err(DecodeError::from("not the body of a link message"));
     };
@@ -80,16 +80,16 @@ pub fn same(left: &[u8], right: &[u8]) -> bool
 }
 
 /// Appends the canonical text of an accepted body that fits; for the crates that write captures.
-/// The first `front` bytes are known to be canonical; `out` has to have capacity for the text.
-pub fn write_body(bytes: &[u8], front: usize, out: &mut Vec<u8>)
-    requires front { IsBodyFront link_peer bytes.now front }
+/// The first `prefix` bytes are known to be canonical; `out` has to have capacity for the text.
+pub fn write_body(bytes: &[u8], prefix: usize, out: &mut Vec<u8>)
+    requires prefix { IsBodyPrefix link_peer bytes.now prefix }
     requires accepted { link_body.accepted bytes.now ≡ true }
     requires fits { link_body.fits bytes.now ≡ true }
-    requires room { HasRoom out.old (link_body.canonical bytes.now) }
+    requires capacity { HasCapacity out.old (link_body.canonical bytes.now) }
     ensures text { out.new.items ≡ out.old.items ++ link_body.canonical bytes.now }
-    ensures room { vec_capacity out.old ≤ vec_capacity out.new }
+    ensures capacity { vec_capacity out.old ≤ vec_capacity out.new }
 {
-    write_body_over(&LinkPeer, bytes, front, out);
+    write_body_over(&LinkPeer, bytes, prefix, out);
 }
 
 /// Appends the canonical text of a body that `check` accepts, and that fits and has no empty ports.
@@ -104,10 +104,10 @@ pub fn write_canonical(bytes: &[u8], out: &mut Vec<u8>) -> Result<(), AllocError
     requires has_ports { link_body.empty_ports bytes.now ≡ false }
     ensures ok { OnOk result (out.new.items ≡ out.old.items ++ link_body.canonical bytes.now) }
     ensures err { OnErr result (out.new.items ≡ out.old.items) }
-    ensures room { OnErr result
+    ensures capacity { OnErr result
         (vec_capacity out.old < length out.old.items + length (link_body.canonical bytes.now)) }
 {
-    measures_tell_rules();
+    measures_determine_rules();
     let Some(found) = walk_body(bytes) else {
         unreachable!();
     };
@@ -115,6 +115,6 @@ pub fn write_canonical(bytes: &[u8], out: &mut Vec<u8>) -> Result<(), AllocError
         return Err(AllocError);
     };
     out.reserve(size)?;
-    write_body(bytes, found.front as usize, out);
+    write_body(bytes, found.prefix as usize, out);
     Ok(())
 }

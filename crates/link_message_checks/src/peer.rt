@@ -6,7 +6,7 @@ ghost use Rattle.link_message_grammar.specs.Body.{body_rule, link_peer};
 
 use crate::body::{body_laws_hold, same_body_over, walk_body_over, write_body_over};
 use crate::header::same_header;
-use attribute_tables_grammar::laws::measures_tell_rules;
+use attribute_tables_grammar::laws::measures_determine_rules;
 use link_interpreter::{BytesPeer, Measured, PeerMeasure, PeerRule, PeerSet, WritePeer};
 use link_message_grammar::laws::link_peer_is_lawful;
 use link_tables::LINK_HEADER_LEN;
@@ -31,7 +31,7 @@ impl PeerRule for LinkPeer {
     }
 
     fn check(&self, payload: &[u8]) -> Result<PeerMeasure, DecodeError> {
-        measures_tell_rules();
+        measures_determine_rules();
         let Some(found) = self.measure_peer(payload) else {
             return Err(DecodeError::from(NO_PEER));
         };
@@ -46,7 +46,7 @@ impl PeerRule for LinkPeer {
     }
 
     fn canonical(&self, alloc: Global, payload: &[u8]) -> Result<Vec<u8>, DecodeError> {
-        measures_tell_rules();
+        measures_determine_rules();
         let Some(found) = self.measure_peer(payload) else {
             return Err(DecodeError::from(NO_PEER));
         };
@@ -68,7 +68,7 @@ impl PeerSet for LinkPeer {
 
     #[tactic(auto, unfolding(link_message_grammar::specs::Body::link_peer))]
     fn measure_peer(&self, payload: &[u8]) -> Option<Measured> {
-        measures_tell_rules();
+        measures_determine_rules();
         let Some(found) = walk_body_over(&BytesPeer, payload) else {
             return None;
         };
@@ -101,7 +101,7 @@ pub fn has_empty_ports(body: &[u8]) -> bool
     requires { (body_rule bytes_peer).accepted body.now ≡ true }
     ensures { result ≡ (body_rule bytes_peer).empty_ports body.now }
 {
-    measures_tell_rules();
+    measures_determine_rules();
     match walk_body_over(&BytesPeer, body) {
         Some(found) => found.empty_ports,
         None => unreachable!(),

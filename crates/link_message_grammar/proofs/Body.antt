@@ -7,17 +7,17 @@ use Rattle.std.proofs.lemmas.Slice.Eq.{bytes_eq-Decides}
 use Rattle.netlink_packet_core_grammar.specs.Attributes.{nla_align}
 use Rattle.netlink_packet_core_grammar.specs.Bytes.{AreBytes}
 use Rattle.netlink_packet_core_grammar.proofs.Bytes.{AreBytes-append, AreBytes-take, AreBytes-drop}
-use Rattle.attribute_tables_grammar.specs.Rules.{Rule, Lawful, Renews}
+use Rattle.attribute_tables_grammar.specs.Rules.{Rule, Lawful, Migrates}
 use Rattle.attribute_tables_grammar.specs.Lists.{any}
 use Rattle.attribute_tables_grammar.specs.Peers.{Peer, LawfulPeer, bytes_peer}
 use Rattle.attribute_tables_grammar.specs.Tables.{Payload.list}
-use Rattle.attribute_tables_grammar.proofs.Attributes.{renews_itself}
-use Rattle.attribute_tables_grammar.proofs.Renewed.{renewed}
+use Rattle.attribute_tables_grammar.proofs.Attributes.{migrates_reflexive}
+use Rattle.attribute_tables_grammar.proofs.Migrated.{migrated}
 use Rattle.attribute_tables_grammar.proofs.Tables.{bytes_peer_lawful}
 use Rattle.link_message_grammar.proofs.Tables.{table_lawful, table_bounded}
 use Rattle.link_message_grammar.specs.LinkMessage.{Family, family_of, link_table}
 use Rattle.link_message_grammar.specs.Body.{is_listed, layer_type_text, header_text, attribute_bytes, family, list_rule_of, body_rule, link_peer, link_peer_of}
-use Rattle.link_message_grammar.specs.Laws.{LinkPeersAreLawful, LinkPeerIsLawful, OldBodiesAreRenewed}
+use Rattle.link_message_grammar.specs.Laws.{LinkPeersAreLawful, LinkPeerIsLawful, OldBodiesAreMigrated}
 
 -- ---- the header
 
@@ -71,7 +71,7 @@ written_header_by f x k l tail long =
     record {
       size = ap length h ∙ omega (arith, lt);
       first_byte = refl;
-      idempotent = λ c. ap (λ z. header_text (z ++ c)) h ∙ ap (λ (z : List ℕ). f ∷ 0 ∷ (z ++ take 12 (t ++ c))) y.again ∙ ap (λ (z : List ℕ). f ∷ 0 ∷ y.a ∷ y.b ∷ z) (take_at t c 12 lt) ∙ sym h;
+      idempotent = λ c. ap (λ z. header_text (z ++ c)) h ∙ ap (λ (z : List ℕ). f ∷ 0 ∷ (z ++ take 12 (t ++ c))) y.canonical_accepted ∙ ap (λ (z : List ℕ). f ∷ 0 ∷ y.a ∷ y.b ∷ z) (take_at t c 12 lt) ∙ sym h;
       rest = λ c. ap (λ z. attribute_bytes (z ++ c)) h ∙ drop_at t c 12 lt;
       bytes = λ p. subst AreBytes (sym h) (p.0, (omega arith, AreBytes-append (y.a ∷ y.b ∷ []) t (y.bytes p.1.1.0 p.1.1.1.0) (AreBytes-take 12 tail p.1.1.1.1)));
     }
@@ -81,8 +81,8 @@ written_header b h =
     let k = header_of b h in
     subst WrittenHeader (sym k.is) (written_header_by k.f k.x k.k k.l k.tail k.long)
 
-pub family_again : (b c : List ℕ) → WrittenHeader b → family (header_text b ++ c) ≡ family b
-family_again b c w = ap (λ n. family_of n) (first_byte_of (header_text b) c w.size ∙ w.first_byte)
+pub family_read_back : (b c : List ℕ) → WrittenHeader b → family (header_text b ++ c) ≡ family b
+family_read_back b c w = ap (λ n. family_of n) (first_byte_of (header_text b) c w.size ∙ w.first_byte)
   where
     first_byte_of : (h c : List ℕ) → length h ≡ 16 → slice_index (h ++ c) 0 ≡ slice_index h 0
     first_byte_of [] c l = absurd (omega arith)
@@ -97,7 +97,7 @@ small_rest : (L l : ℕ) → nla_align (4 + L) ≤ 77 * (4 + l) → nla_align (4
 small_rest L l h = omega arith
 
 -- If q's attributes migrate those of p, its bodies migrate those of p.
-module _ (p q : Peer) (renews : (f : Family) → Renews (list_rule_of p f) (list_rule_of q f)) where
+module _ (p q : Peer) (migrates : (f : Family) → Migrates (list_rule_of p f) (list_rule_of q f)) where
   abbrev old_text : List ℕ → List ℕ
   old_text b = (list_rule_of p (family b)).canonical (attribute_bytes b)
 
@@ -117,21 +117,21 @@ module _ (p q : Peer) (renews : (f : Family) → Renews (list_rule_of p f) (list
   -- The result of q for the attributes in p's text.
   inside : {A : Type 0} (say : Rule → List ℕ → A) (b : List ℕ) → WrittenHeader b → say (list_rule_of q (family (header_text b ++ old_text b))) (attribute_bytes (header_text b ++ old_text b)) ≡ say (list_rule_of q (family b)) (old_text b)
   inside say b w =
-      ap (λ f. say (list_rule_of q f) (attribute_bytes (header_text b ++ old_text b))) (family_again b (old_text b) w) ∙ ap (say (list_rule_of q (family b))) (w.rest (old_text b))
+      ap (λ f. say (list_rule_of q f) (attribute_bytes (header_text b ++ old_text b))) (family_read_back b (old_text b) w) ∙ ap (say (list_rule_of q (family b))) (w.rest (old_text b))
 
-  pub bodies_renew : Renews (body_rule p) (body_rule q)
+  pub bodies_migrate : Migrates (body_rule p) (body_rule q)
   unfolding body_rule
-  bodies_renew = record {
+  bodies_migrate = record {
     accepted = λ b x y m.
         let k = both_accept b x y in
         and_from _ _ (le-leb _ _ (omega (arith, length-append (header_text b) (old_text b), k.header.size)))
-        (inside (λ r. r.accepted) b k.header ∙ (renews (family b)).accepted (attribute_bytes b) k.old k.new m);
-    empty_ports = λ b x y m. let k = both_accept b x y in inside (λ r. r.empty_ports) b k.header ∙ (renews (family b)).empty_ports (attribute_bytes b) k.old k.new m;
-    fits = λ b x y f. let k = both_accept b x y in inside (λ r. r.fits) b k.header ∙ (renews (family b)).fits (attribute_bytes b) k.old k.new f;
+        (inside (λ r. r.accepted) b k.header ∙ (migrates (family b)).accepted (attribute_bytes b) k.old k.new m);
+    empty_ports = λ b x y m. let k = both_accept b x y in inside (λ r. r.empty_ports) b k.header ∙ (migrates (family b)).empty_ports (attribute_bytes b) k.old k.new m;
+    fits = λ b x y f. let k = both_accept b x y in inside (λ r. r.fits) b k.header ∙ (migrates (family b)).fits (attribute_bytes b) k.old k.new f;
     canonical = λ b x y.
         let k = both_accept b x y in
-        let rest = inside (λ r. r.canonical) b k.header ∙ (renews (family b)).canonical (attribute_bytes b) k.old k.new in
-        ap (λ z. z ++ (list_rule_of q (family (header_text b ++ old_text b))).canonical (attribute_bytes (header_text b ++ old_text b))) (k.header.again (old_text b)) ∙ ap (λ z. header_text b ++ z) rest;
+        let rest = inside (λ r. r.canonical) b k.header ∙ (migrates (family b)).canonical (attribute_bytes b) k.old k.new in
+        ap (λ z. z ++ (list_rule_of q (family (header_text b ++ old_text b))).canonical (attribute_bytes (header_text b ++ old_text b))) (k.header.canonical_accepted (old_text b)) ∙ ap (λ z. header_text b ++ z) rest;
   }
 
 module _ (p : Peer) (lawful_peer : LawfulPeer p) where
@@ -139,25 +139,25 @@ module _ (p : Peer) (lawful_peer : LawfulPeer p) where
   unfolding list_rule_of
   law f = table_lawful p lawful_peer f
 
-  self_migration : Renews (body_rule p) (body_rule p)
-  self_migration = bodies_renew p p (λ f. renews_itself (list_rule_of p f) (law f))
+  self_migration : Migrates (body_rule p) (body_rule p)
+  self_migration = bodies_migrate p p (λ f. migrates_reflexive (list_rule_of p f) (law f))
 
   pub body_lawful : Lawful (body_rule p)
   unfolding body_rule
   body_lawful = record {
-    again = λ b a m. (self_migration.accepted b a a m, self_migration.empty_ports b a a m);
-    fits_again = λ b a f. self_migration.fits b a a f;
-    itself = λ b a. self_migration.canonical b a a;
-    one_text = λ a b x y e.
+    canonical_accepted = λ b a m. (self_migration.accepted b a a m, self_migration.empty_ports b a a m);
+    canonical_fits = λ b a f. self_migration.fits b a a f;
+    canonical_idempotent = λ b a. self_migration.canonical b a a;
+    same_implies_equal_text = λ a b x y e.
         let s = and_parts (nat_le 16 (length a)) ((list_rule_of p (family a)).accepted (attribute_bytes a)) x in
         let t = and_parts (nat_le 16 (length b)) ((list_rule_of p (family b)).accepted (attribute_bytes b)) y in
         let e' = and_parts (bytes_eq (header_text a) (header_text b)) ((list_rule_of p (family a)).same (attribute_bytes a) (attribute_bytes b)) e in
         let h : header_text a ≡ header_text b = (bytes_eq-Decides (header_text a) (header_text b)).0 e'.0 in
         let fam = one_family a b (written_header a s.0) (written_header b t.0) h in
         let t' : (list_rule_of p (family a)).accepted (attribute_bytes b) ≡ true = ap (λ f. (list_rule_of p f).accepted (attribute_bytes b)) fam ∙ t.1 in
-        let c = (law (family a)).one_text (attribute_bytes a) (attribute_bytes b) s.1 t' e'.1 in
+        let c = (law (family a)).same_implies_equal_text (attribute_bytes a) (attribute_bytes b) s.1 t' e'.1 in
         ap (λ z. z ++ (list_rule_of p (family a)).canonical (attribute_bytes a)) h ∙ ap (λ z. header_text b ++ z) c ∙ ap (λ f. header_text b ++ (list_rule_of p f).canonical (attribute_bytes b)) fam;
-    one_meaning = λ a b x y e.
+    equal_text_implies_same = λ a b x y e.
         let s = and_parts (nat_le 16 (length a)) ((list_rule_of p (family a)).accepted (attribute_bytes a)) x in
         let t = and_parts (nat_le 16 (length b)) ((list_rule_of p (family b)).accepted (attribute_bytes b)) y in
         let ca = (list_rule_of p (family a)).canonical (attribute_bytes a) in
@@ -169,7 +169,7 @@ module _ (p : Peer) (lawful_peer : LawfulPeer p) where
         let fam = one_family a b v w h in
         let t' : (list_rule_of p (family a)).accepted (attribute_bytes b) ≡ true = ap (λ f. (list_rule_of p f).accepted (attribute_bytes b)) fam ∙ t.1 in
         and_from _ _ ((bytes_eq-Decides (header_text a) (header_text b)).1 h)
-        ((law (family a)).one_meaning (attribute_bytes a) (attribute_bytes b) s.1 t' (c ∙ ap (λ f. (list_rule_of p f).canonical (attribute_bytes b)) (sym fam)));
+        ((law (family a)).equal_text_implies_same (attribute_bytes a) (attribute_bytes b) s.1 t' (c ∙ ap (λ f. (list_rule_of p f).canonical (attribute_bytes b)) (sym fam)));
     bounded = λ b a.
         let s = and_parts (nat_le 16 (length b)) ((list_rule_of p (family b)).accepted (attribute_bytes b)) a in
         let w = written_header b s.0 in
@@ -195,21 +195,21 @@ module _ (p : Peer) (lawful_peer : LawfulPeer p) where
       omega (arith, length-append (header_text b) c, w.size, length-drop 16 b, leb-true 16 (length b) s.0, (law (family b)).bounded (attribute_bytes b) s.1)
 
 -- Bodies whose peers were bytes, under any rule of peers.
-pub old_bodies_are_renewed : OldBodiesAreRenewed
+pub old_bodies_are_migrated : OldBodiesAreMigrated
 unfolding list_rule_of
-old_bodies_are_renewed p = bodies_renew bytes_peer p (λ f. renewed p (list any (link_table f)) (table_bounded f))
+old_bodies_are_migrated p = bodies_migrate bytes_peer p (λ f. migrated p (list any (link_table f)) (table_bounded f))
 
 -- ---- peers
 
 link_peer_lawful_of : (r : Rule) → Lawful r → ((b : List ℕ) → r.accepted b ≡ true → length (r.canonical b) ≤ 77 * length b) → LawfulPeer (link_peer_of r)
 link_peer_lawful_of r l small = record {
-  again = λ b a.
+  canonical_accepted = λ b a.
       let s = parts b a in
-      let o = l.again b s.0 s.1 in
-      and_from _ _ (and_from _ _ o.0 (ap not o.1)) (l.fits_again b s.0 s.2);
-  itself = λ b a. l.itself b (parts b a).0;
-  one_text = λ a b x y e. l.one_text a b (parts a x).0 (parts b y).0 e;
-  one_meaning = λ a b x y e. l.one_meaning a b (parts a x).0 (parts b y).0 e;
+      let o = l.canonical_accepted b s.0 s.1 in
+      and_from _ _ (and_from _ _ o.0 (ap not o.1)) (l.canonical_fits b s.0 s.2);
+  canonical_idempotent = λ b a. l.canonical_idempotent b (parts b a).0;
+  same_implies_equal_text = λ a b x y e. l.same_implies_equal_text a b (parts a x).0 (parts b y).0 e;
+  equal_text_implies_same = λ a b x y e. l.equal_text_implies_same a b (parts a x).0 (parts b y).0 e;
   bounded = λ b a. small b (parts b a).0;
   counted = λ b a. l.counted b (parts b a).0;
   bytes = λ b a h. l.bytes b (parts b a).0 (parts b a).2 h;

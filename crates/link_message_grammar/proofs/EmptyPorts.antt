@@ -14,7 +14,7 @@ use Rattle.attribute_tables_grammar.specs.Readings.{Written, written_list, readi
 use Rattle.attribute_tables_grammar.specs.Tables.{Payload, Payload.plain, Payload.peer, Payload.list, Payload.link_info, Table, Table.end, Table.row, Names, Names.others, Names.name, names_grammar, rule, row_in, named, grammar}
 use Rattle.attribute_tables_grammar.proofs.Tables.{pick_row, pick_rule, info_rows}
 use Rattle.link_message_grammar.specs.Body.{attribute_row_under, is_emptied}
-use Rattle.link_message_grammar.specs.Laws.{EmptyPortsAreTold}
+use Rattle.link_message_grammar.specs.Laws.{EmptyPortsAreDetermined}
 use Rattle.link_message_grammar.specs.LinkMessage.{Family, unspec, bridge, inet_6, other, protocol_line, below_protocol, above_protocol, link_line}
 use Rattle.link_message_grammar.specs.NestedTables.{resized, vf_ports}
 use Rattle.link_message_grammar.proofs.Parts.{attributes_are_looked_up}
@@ -167,20 +167,20 @@ module _ (p : Peer) where
   ports_inside : (c : Context) (k : ℕ) → NeverEmpty (inside.row c k).rule
   ports_inside c k = rows_full vf_ports refl k
 
-  kept_told : (ks : List Attribute) → (is_empty_ports ports ks || some_empty_ports inside nothing ks) ≡ (length (list_text (rewritten inside nothing ks)) == 0)
+  kept_determined : (ks : List Attribute) → (is_empty_ports ports ks || some_empty_ports inside nothing ks) ≡ (length (list_text (rewritten inside nothing ks)) == 0)
   unfolding rewritten list_text
-  kept_told [] = refl
-  kept_told (k ∷ ks) = some_full inside ports_inside nothing (k ∷ ks) ∙ sym (not_none (rewrite (row_of inside nothing k) k) (rewritten inside (inside.next nothing k) ks))
+  kept_determined [] = refl
+  kept_determined (k ∷ ks) = some_full inside ports_inside nothing (k ∷ ks) ∙ sym (not_none (rewrite (row_of inside nothing k) k) (rewritten inside (inside.next nothing k) ks))
 
   at_ports : (o : Option (List Attribute)) → if_read false (λ es. all_accepted inside nothing (kept ports es)) o ≡ true →
       if_read false (λ es. is_empty_ports ports (kept ports es) || some_empty_ports inside nothing (kept ports es)) o
       ≡ (length (if_read [] (λ es. list_text (rewritten inside nothing (kept ports es))) o) == 0)
   at_ports None h = absurd cc
-  at_ports (Some es) h = kept_told (kept ports es)
+  at_ports (Some es) h = kept_determined (kept ports es)
 
-  ports_told : (b : List ℕ) → (list_of p ports vf_ports).accepted b ≡ true → (list_of p ports vf_ports).empty_ports b ≡ (length ((list_of p ports vf_ports).canonical b) == 0)
+  ports_determined : (b : List ℕ) → (list_of p ports vf_ports).accepted b ≡ true → (list_of p ports vf_ports).empty_ports b ≡ (length ((list_of p ports vf_ports).canonical b) == 0)
   unfolding list_of
-  ports_told b h = at_ports (read_as ports b) h
+  ports_determined b h = at_ports (read_as ports b) h
 
   -- ---- an attribute
 
@@ -190,7 +190,7 @@ module _ (p : Peer) where
       let h : (attribute_row_under p f 24).rule.accepted e.payload ≡ true = subst (λ x. (attribute_row_under p f x).rule.accepted e.payload ≡ true) q a in
       let w : (proper_kind e.kind + 0 == 24) ≡ true = ap (λ x. x + 0 == 24) (kind ∙ q) in
       subst (λ x. (attribute_row_under p f x).rule.empty_ports e.payload ≡ is_emptied (rewrite (attribute_row_under p f x) e)) (sym q)
-      (ports_told e.payload h ∙ sym (ap (λ t. t && (length ((list_of p ports vf_ports).canonical e.payload) == 0)) w))
+      (ports_determined e.payload h ∙ sym (ap (λ t. t && (length ((list_of p ports vf_ports).canonical e.payload) == 0)) w))
 
   by_row : (f : Family) (k : ℕ) (e : Attribute) → proper_kind e.kind ≡ k → (b : Bool) → (k == 24) ≡ b → (attribute_row_under p f k).rule.accepted e.payload ≡ true →
       (attribute_row_under p f k).rule.empty_ports e.payload ≡ is_emptied (rewrite (attribute_row_under p f k) e)
@@ -204,14 +204,14 @@ module _ (p : Peer) where
   abbrev rows : Family → Grammar
   rows f = without_context (attribute_row_under p f)
 
-  list_told : (f : Family) (c : Context) (es : List Attribute) (ws : List Written) → written_list (rows f) c es ≡ Some ws → some_empty_ports (rows f) c es ≡ list_any (λ w. is_emptied w.entry) ws
+  list_determined : (f : Family) (c : Context) (es : List Attribute) (ws : List Written) → written_list (rows f) c es ≡ Some ws → some_empty_ports (rows f) c es ≡ list_any (λ w. is_emptied w.entry) ws
   unfolding written_list some_empty_ports
-  list_told f c [] ws h = let e : [] ≡ ws = cc in ap (list_any (λ w. is_emptied w.entry)) e
-  list_told f c (e ∷ es) ws h =
+  list_determined f c [] ws h = let e : [] ≡ ws = cc in ap (list_any (λ w. is_emptied w.entry)) e
+  list_determined f c (e ∷ es) ws h =
       cond_both ((row_of (rows f) c e).rule.accepted e.payload) _ None (λ o. o ≡ Some ws → some_empty_ports (rows f) c (e ∷ es) ≡ list_any (λ w. is_emptied w.entry) ws)
       (λ a m.
       let k = option_map-got _ (written_list (rows f) c es) ws m in
-      ap₂ (λ x y. x || y) (by_row f (proper_kind e.kind) e refl (proper_kind e.kind == 24) refl a) (list_told f c es k.0 k.1)
+      ap₂ (λ x y. x || y) (by_row f (proper_kind e.kind) e refl (proper_kind e.kind == 24) refl a) (list_determined f c es k.0 k.1)
       ∙ ap (list_any (λ w. is_emptied w.entry)) k.2)
       (λ a m. absurd (none-some ws m)) h
 
@@ -220,8 +220,8 @@ module _ (p : Peer) where
   at_bytes : (f : Family) (o : Option (List Attribute)) (ws : List Written) → if_some o (λ es. written_list (rows f) nothing (kept any es)) ≡ Some ws →
       if_read false (λ es. is_empty_ports any (kept any es) || some_empty_ports (rows f) nothing (kept any es)) o ≡ list_any (λ w. is_emptied w.entry) ws
   at_bytes f None ws h = absurd (none-some ws h)
-  at_bytes f (Some es) ws h = list_told f nothing es ws h
+  at_bytes f (Some es) ws h = list_determined f nothing es ws h
 
-  pub empty_ports_are_told : EmptyPortsAreTold p
+  pub empty_ports_are_determined : EmptyPortsAreDetermined p
   unfolding rows_rule reading_as
-  empty_ports_are_told f b ws h = ap (λ r. r.empty_ports b) (attributes_are_looked_up p f) ∙ at_bytes f (attributes_of b) ws h
+  empty_ports_are_determined f b ws h = ap (λ r. r.empty_ports b) (attributes_are_looked_up p f) ∙ at_bytes f (attributes_of b) ws h

@@ -6,5 +6,5 @@ pub mod Parts
 pub mod EmptyPorts
 pub mod Together
 pub mod Peerless
-pub mod ReadAgain
+pub mod ReadBack
 pub mod Measures

@@ -3,7 +3,7 @@ use Rattle.std.proofs.Common.{◌≡◌, ℕ, ◌<◌, List, length, refl, ap}
 use Rattle.attribute_tables_grammar.specs.LookUps.{link_info_of, rows_rule}
 use Rattle.attribute_tables_grammar.specs.Lists.{any, list_rule}
 use Rattle.attribute_tables_grammar.specs.Peers.{Peer}
-use Rattle.attribute_tables_grammar.proofs.SameSteps.{sameness_goes_by_steps}
+use Rattle.attribute_tables_grammar.proofs.SameSteps.{sameness_unfolds}
 use Rattle.attribute_tables_grammar.proofs.Readings.{non_empty_alike, non_empty_refuses}
 use Rattle.link_info_grammar.specs.LinkInfo.{info_grammar_under, info_rule_under}
 use Rattle.link_message_grammar.proofs.Lines.{attributes-grammar}
@@ -25,7 +25,7 @@ module _ (p : Peer) where
 
   same_info : (a b : List ℕ) → 0 < length a → 0 < length b → (info_rule_under p).same a b ≡ (info_payload_rule_under p).same a b
   unfolding link_info_of info_grammar_under info_rule_under
-  same_info a b l m = sameness_goes_by_steps.non_empty (info_grammar_under p) a b l m
+  same_info a b l m = sameness_unfolds.non_empty (info_grammar_under p) a b l m
 
   pub info_is_a_list_inside : InfoIsAListInside p
   unfolding link_info_of info_grammar_under

@@ -5,7 +5,7 @@ use Rattle.attribute_tables_grammar.specs.Tables.{holds_no_peers_but}
 use Rattle.attribute_tables_grammar.proofs.Peerless.{rules_without_peers_are_one}
 use Rattle.link_message_grammar.specs.NestedTables.{resized}
 use Rattle.link_message_grammar.specs.LinkMessage.{Family, unspec, bridge, inet_6, other, link_table}
-use Rattle.link_message_grammar.specs.Laws.{PeersStandInLinkInfo}
+use Rattle.link_message_grammar.specs.Laws.{OnlyLinkInfoHoldsPeers}
 use Rattle.link_message_grammar.proofs.Lines.{kinds_are_looked_up}
 
 of_family : (f : Family) → holds_no_peers_but 18 (link_table f) ≡ true
@@ -15,6 +15,6 @@ of_family bridge = refl
 of_family inet_6 = refl
 of_family other = refl
 
-pub peers_stand_in_link_info : PeersStandInLinkInfo
-peers_stand_in_link_info p q f k e =
+pub only_link_info_holds_peers : OnlyLinkInfoHoldsPeers
+only_link_info_holds_peers p q f k e =
     ap (row_of_line p) (sym (kinds_are_looked_up f k)) ∙ rules_without_peers_are_one.rows p q 18 (link_table f) (of_family f) k e ∙ ap (row_of_line q) (kinds_are_looked_up f k)

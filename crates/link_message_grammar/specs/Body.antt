@@ -106,5 +106,5 @@ abbrev pub is_emptied : Attribute → Bool
 is_emptied e = e.kind == 24 && length e.payload == 0
 
 -- The measure of a body, from that of its attributes.
-abbrev pub behind_header : Measure → Measure
-behind_header m = record { size = 16 + m.size; attributes = m.attributes; fits = m.fits; empty_ports = m.empty_ports }
+abbrev pub after_header : Measure → Measure
+after_header m = record { size = 16 + m.size; attributes = m.attributes; fits = m.fits; empty_ports = m.empty_ports }

@@ -1,6 +1,6 @@
 -- The laws of the definitions, which the functions of `laws` have as contracts.
 use Rattle.std.specs.Prelude.{◌≡◌, ℕ, ◌+◌, ◌*◌, ◌≤◌, ◌<◌, ◌==◌, ◌&&◌, ◌++◌, nat_le, true, false, List, length, take, bytes_eq, Option, Some, None, option_map}
-use Rattle.attribute_tables_grammar.specs.Rules.{Lawful, Renews}
+use Rattle.attribute_tables_grammar.specs.Rules.{Lawful, Migrates}
 use Rattle.std.specs.List.{list_any}
 use Rattle.attribute_tables_grammar.specs.Lists.{any, without_context}
 use Rattle.attribute_tables_grammar.specs.Readings.{Written, reading_as}
@@ -8,10 +8,10 @@ use Rattle.attribute_tables_grammar.specs.LookUps.{line_at, rows_rule}
 use Rattle.attribute_tables_grammar.specs.Peers.{Peer, LawfulPeer, bytes_peer}
 use Rattle.attribute_tables_grammar.specs.Tables.{Payload.list, rule, rising}
 use Rattle.attribute_tables_grammar.specs.Walks.{Measure, measure}
-use Rattle.attribute_tables_grammar.specs.Laws.{OneTextEach, KeepsMeaning}
+use Rattle.attribute_tables_grammar.specs.Laws.{TextsDecideMeaning, KeepsMeaning}
 use Rattle.link_info_grammar.specs.LinkInfo.{info_rule_under}
 use Rattle.link_message_grammar.specs.LinkMessage.{Family, link_line, link_table}
-use Rattle.link_message_grammar.specs.Body.{attribute_bytes, attribute_row_under, behind_header, body_rule, family, header_text, info_payload_rule_under, is_emptied, link_peer, link_peer_under, list_rule_of}
+use Rattle.link_message_grammar.specs.Body.{attribute_bytes, attribute_row_under, after_header, body_rule, family, header_text, info_payload_rule_under, is_emptied, link_peer, link_peer_under, list_rule_of}
 
 -- Lists of link attributes are lawful, under each address family.
 abbrev pub AttributesAreLawful : Type 0
@@ -47,16 +47,16 @@ abbrev pub LinkPeerIsLawful : Type 0
 LinkPeerIsLawful = LawfulPeer link_peer
 
 -- Two accepted bodies mean the same if and only if their canonical texts are equal.
-abbrev pub BodiesTellMeanings : Type 0
-BodiesTellMeanings = (p : Peer) → LawfulPeer p → OneTextEach (body_rule p)
+abbrev pub BodiesDetermineMeanings : Type 0
+BodiesDetermineMeanings = (p : Peer) → LawfulPeer p → TextsDecideMeaning (body_rule p)
 
 -- A canonical text means the same as the body.
 abbrev pub BodiesKeepMeanings : Type 0
 BodiesKeepMeanings = (p : Peer) → LawfulPeer p → KeepsMeaning (body_rule p)
 
 -- Under a rule of peers an old text is accepted, and becomes what the bytes that it was made from become.
-abbrev pub OldBodiesAreRenewed : Type 0
-OldBodiesAreRenewed = (p : Peer) → Renews (body_rule bytes_peer) (body_rule p)
+abbrev pub OldBodiesAreMigrated : Type 0
+OldBodiesAreMigrated = (p : Peer) → Migrates (body_rule bytes_peer) (body_rule p)
 
 -- A body consists of a header and the attributes of its family.
 pub record BodyParts (p : Peer) (b : List ℕ) : Type 0 where
@@ -76,15 +76,15 @@ abbrev pub reading_of : Peer → List ℕ → Option (List Written)
 reading_of p b = reading_as any (without_context (attribute_row_under p (family b))) (attribute_bytes b)
 
 -- The canonical text of a body has its header, and the same attributes are read from it.
-pub record IsReadAgain (p : Peer) (b : List ℕ) : Type 0 where
+pub record IsReadBack (p : Peer) (b : List ℕ) : Type 0 where
   pub header : header_text ((body_rule p).canonical b) ≡ header_text b
   pub family : family ((body_rule p).canonical b) ≡ family b
   pub attributes : reading_of p ((body_rule p).canonical b) ≡ reading_of p b
 
 -- A legal body that fits, and in which no list of ports is empty, is read from its canonical text as from its own
 -- bytes.
-abbrev pub CanonicalTextsAreReadAgain : Peer → Type 0
-CanonicalTextsAreReadAgain p = (b : List ℕ) → (body_rule p).accepted b ≡ true → (body_rule p).fits b ≡ true → (body_rule p).empty_ports b ≡ false → IsReadAgain p b
+abbrev pub CanonicalTextsAreReadBack : Peer → Type 0
+CanonicalTextsAreReadBack p = (b : List ℕ) → (body_rule p).accepted b ≡ true → (body_rule p).fits b ≡ true → (body_rule p).empty_ports b ≡ false → IsReadBack p b
 
 -- A look-up of a kind returns its row in the table.
 abbrev pub KindsAreLookedUp : Type 0
@@ -95,13 +95,13 @@ abbrev pub AttributesAreLookedUp : Peer → Type 0
 AttributesAreLookedUp p = (f : Family) → list_rule_of p f ≡ rows_rule any (attribute_row_under p f)
 
 -- Only link info holds peers: the other rows are the same under every rule of peers.
-abbrev pub PeersStandInLinkInfo : Type 0
-PeersStandInLinkInfo = (p q : Peer) (f : Family) (k : ℕ) → (k == 18) ≡ false → attribute_row_under p f k ≡ attribute_row_under q f k
+abbrev pub OnlyLinkInfoHoldsPeers : Type 0
+OnlyLinkInfoHoldsPeers = (p q : Peer) (f : Family) (k : ℕ) → (k == 18) ≡ false → attribute_row_under p f k ≡ attribute_row_under q f k
 
 -- Attributes have a list of ports of which no entry is kept if and only if one of the attributes that are read is such
 -- a list without an entry.
-abbrev pub EmptyPortsAreTold : Peer → Type 0
-EmptyPortsAreTold p = (f : Family) (b : List ℕ) (ws : List Written) → reading_as any (without_context (attribute_row_under p f)) b ≡ Some ws →
+abbrev pub EmptyPortsAreDetermined : Peer → Type 0
+EmptyPortsAreDetermined p = (f : Family) (b : List ℕ) (ws : List Written) → reading_as any (without_context (attribute_row_under p f)) b ≡ Some ws →
     (list_rule_of p f).empty_ports b ≡ list_any (λ w. is_emptied w.entry) ws
 
 -- The payload of IFLA_LINKINFO is a list of link info, and is refused if there is no attribute in it.
@@ -121,15 +121,15 @@ pub record InfoIsAListInside (p : Peer) : Type 0 where
 -- canonical if its header and its attributes are.
 pub record BodiesAreMeasured : Type 0 where
   pub short : (p : Peer) (b : List ℕ) → length b < 16 → None ≡ measure (body_rule p) b
-  pub long : (p : Peer) (b : List ℕ) (o : Option Measure) → 16 ≤ length b → o ≡ measure (list_rule_of p (family b)) (attribute_bytes b) → option_map behind_header o ≡ measure (body_rule p) b
+  pub long : (p : Peer) (b : List ℕ) (o : Option Measure) → 16 ≤ length b → o ≡ measure (list_rule_of p (family b)) (attribute_bytes b) → option_map after_header o ≡ measure (body_rule p) b
   pub own : (p : Peer) (b : List ℕ) → header_text b ≡ take 16 b → (list_rule_of p (family b)).canonical (attribute_bytes b) ≡ attribute_bytes b → (body_rule p).canonical b ≡ b
 
 -- The laws that functions state under the rule of peers in force, under any rule of peers.
 pub record BodyLaws (p : Peer) : Type 0 where
   pub headers_and_attributes : BodiesAreHeadersAndAttributes p
-  pub read_again : CanonicalTextsAreReadAgain p
+  pub is_read_back : CanonicalTextsAreReadBack p
   pub looked_up : AttributesAreLookedUp p
-  pub empty_ports : EmptyPortsAreTold p
+  pub empty_ports : EmptyPortsAreDetermined p
   pub info_inside : InfoIsAListInside p
 
 -- The laws of bodies hold under every lawful rule of peers.

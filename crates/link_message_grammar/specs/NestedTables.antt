@@ -2,7 +2,7 @@
 -- `Families`.
 use Rattle.std.specs.Prelude.{ℕ}
 use Rattle.attribute_tables_grammar.specs.Shapes as shapes
-use Rattle.attribute_tables_grammar.specs.Shapes.{exact, text, fixed_record, id_and_truth}
+use Rattle.attribute_tables_grammar.specs.Shapes.{exact, text, fixed_record, id_and_boolean}
 use Rattle.attribute_tables_grammar.specs.Lists.{any}
 use Rattle.attribute_tables_grammar.specs.Tables.{Payload, Payload.plain, Payload.list, Table, Table.end}
 use Rattle.attribute_tables_grammar.specs.Rows.{◌↪◌, ◌↠◌, ◌⸴◌, raw_list}
@@ -70,12 +70,12 @@ vf =
     1 ↪ fixed_record 36 36 ⸴  -- IFLA_VF_MAC
     2 ↪ fixed_record 12 12 ⸴  -- IFLA_VF_VLAN
     3 ↪ fixed_record 8 8 ⸴  -- IFLA_VF_TX_RATE
-    4 ↪ id_and_truth ⸴  -- IFLA_VF_SPOOFCHK
+    4 ↪ id_and_boolean ⸴  -- IFLA_VF_SPOOFCHK
     5 ↪ fixed_record 8 8 ⸴  -- IFLA_VF_LINK_STATE
     6 ↪ fixed_record 12 12 ⸴  -- IFLA_VF_RATE
-    7 ↪ id_and_truth ⸴  -- IFLA_VF_RSS_QUERY_EN
+    7 ↪ id_and_boolean ⸴  -- IFLA_VF_RSS_QUERY_EN
     8 ↠ list any vf_stats ⸴  -- IFLA_VF_STATS
-    9 ↪ id_and_truth ⸴  -- IFLA_VF_TRUST
+    9 ↪ id_and_boolean ⸴  -- IFLA_VF_TRUST
     12 ↠ list any vf_vlans ⸴  -- IFLA_VF_VLAN_LIST
     13 ↪ fixed_record 32 32 ⸴  -- IFLA_VF_BROADCAST
     end

@@ -2,12 +2,12 @@
 #![tactic(auto, using(crate::proofs::Together::laws))]
 
 ghost use Rattle.link_message_grammar.specs.Laws.{AttributesAreLawful, KindsRise, BodiesAreLawful, BodiesAreSmall};
-ghost use Rattle.link_message_grammar.specs.Laws.{LinkPeersAreLawful, BodiesTellMeanings, BodiesKeepMeanings, OldBodiesAreRenewed};
+ghost use Rattle.link_message_grammar.specs.Laws.{LinkPeersAreLawful, BodiesDetermineMeanings, BodiesKeepMeanings, OldBodiesAreMigrated};
 ghost use Rattle.link_message_grammar.specs.Laws.{BodiesAreHeadersAndAttributes, KindsAreLookedUp};
 ghost use Rattle.link_message_grammar.specs.Laws.{AttributesAreLookedUp, InfoIsAListInside};
-ghost use Rattle.link_message_grammar.specs.Laws.{EmptyPortsAreTold, CanonicalTextsAreReadAgain, BodiesAreMeasured};
+ghost use Rattle.link_message_grammar.specs.Laws.{EmptyPortsAreDetermined, CanonicalTextsAreReadBack, BodiesAreMeasured};
 ghost use Rattle.link_message_grammar.specs.Laws.{BodiesGrowByAttributes, ShortBodiesFit, BodyLawsHoldForAnyPeers};
-ghost use Rattle.link_message_grammar.specs.Laws.{LinkPeerIsLawful, PeersStandInLinkInfo};
+ghost use Rattle.link_message_grammar.specs.Laws.{LinkPeerIsLawful, OnlyLinkInfoHoldsPeers};
 ghost use Rattle.link_message_grammar.specs.Body.{link_peer};
 
 /// Lists of link attributes are lawful, under each address family.
@@ -53,8 +53,8 @@ pub fn link_peer_is_lawful()
 {}
 
 /// Two accepted bodies mean the same if and only if their canonical texts are equal.
-pub fn bodies_tell_meanings()
-    ensures { BodiesTellMeanings }
+pub fn bodies_determine_meanings()
+    ensures { BodiesDetermineMeanings }
 {}
 
 /// A canonical text means the same as the body.
@@ -65,8 +65,8 @@ pub fn bodies_keep_meanings()
 /// The canonical text that a body had while peers were bytes is migrated by any rule of peers that
 /// accepts the body: it becomes what the body becomes. It fits if the body does, and is accepted
 /// without empty ports if the body had none.
-pub fn old_bodies_are_renewed()
-    ensures { OldBodiesAreRenewed }
+pub fn old_bodies_are_migrated()
+    ensures { OldBodiesAreMigrated }
 {}
 
 /// A body consists of a header of 16 bytes and the attributes of its family.
@@ -76,8 +76,8 @@ pub fn bodies_are_headers_and_attributes()
 
 /// A legal body that fits, and in which no list of ports is empty, is read from its canonical text
 /// as from its own bytes.
-pub fn canonical_texts_are_read_again()
-    ensures { CanonicalTextsAreReadAgain link_peer }
+pub fn canonical_texts_are_read_back()
+    ensures { CanonicalTextsAreReadBack link_peer }
 {}
 
 /// A look-up of a kind returns its row in the table of the family.
@@ -92,13 +92,13 @@ pub fn attributes_are_looked_up()
 
 /// The attributes that are read from a list determine whether it has a list of ports of which no
 /// entry is kept.
-pub fn empty_ports_are_told()
-    ensures { EmptyPortsAreTold link_peer }
+pub fn empty_ports_are_determined()
+    ensures { EmptyPortsAreDetermined link_peer }
 {}
 
 /// Only link info holds peers: the rows of other kinds are the same under every rule of peers.
-pub fn peers_stand_in_link_info()
-    ensures { PeersStandInLinkInfo }
+pub fn only_link_info_holds_peers()
+    ensures { OnlyLinkInfoHoldsPeers }
 {}
 
 /// The payload of IFLA_LINKINFO is a list of link info, and is refused if it is empty.

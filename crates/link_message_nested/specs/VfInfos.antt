@@ -9,7 +9,7 @@ use Rattle.attribute_tables_grammar.specs.Lists.{Row, any, is_of_kind_one, rewri
 use Rattle.attribute_tables_grammar.specs.LookUps.{has_no_row, row_of_line}
 use Rattle.attribute_tables_grammar.specs.Peers.{bytes_peer}
 use Rattle.attribute_tables_grammar.specs.Tables.{Payload.list}
-use Rattle.attribute_tables.specs.Beginnings.{begins_readable, entries_begin_readable, table_may_want_memory}
+use Rattle.attribute_tables.specs.Beginnings.{begins_readable, entries_begin_readable, table_may_allocate}
 use Rattle.link_message_grammar.specs.NestedTables.{vf}
 use Rattle.link_message_types.specs.VfTypes.{vf_link_state_number, vf_link_state_of}
 use Rattle.link_message_records.specs.VfRecords.{vf_info_mac_bytes, vf_info_vlan_bytes, vf_info_tx_rate_bytes, vf_info_link_state_bytes, vf_info_rate_bytes, vf_info_broadcast_bytes}
@@ -81,7 +81,7 @@ IsVfInfoOf b v =
 
 -- The settings of one virtual function begin with an accepted one, so that an allocation may fail.
 abbrev pub vf_info_begins_readable : List ℕ → Bool
-vf_info_begins_readable p = begins_readable (family_row vf) (table_may_want_memory vf) p
+vf_info_begins_readable p = begins_readable (family_row vf) (table_may_allocate vf) p
 
 -- The first virtual function of a list is accepted, or its settings begin with an accepted one.
 unfoldable pub vf_infos_begin_readable : List ℕ → Bool

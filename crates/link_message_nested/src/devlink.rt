@@ -47,7 +47,7 @@ impl FieldNla for DevlinkPort {
 impl Family for DevlinkPort {
     ghost rows = { devlink_port };
 
-    ghost names_row = { devlink_port_names_row };
+    ghost is_row_variant = { devlink_port_names_row };
 
     fn read_row(alloc: Global, kind: u16, payload: &[u8]) -> Result<Option<Self>, DecodeError> {
         match kind {

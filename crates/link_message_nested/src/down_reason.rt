@@ -39,7 +39,7 @@ impl FieldNla for LinkProtocolDownReason {
 impl Family for LinkProtocolDownReason {
     ghost rows = { protocol_down_reason };
 
-    ghost names_row = { link_protocol_down_reason_names_row };
+    ghost is_row_variant = { link_protocol_down_reason_names_row };
 
     fn read_row(_alloc: Global, kind: u16, payload: &[u8]) -> Result<Option<Self>, DecodeError> {
         match kind {

@@ -33,7 +33,7 @@ impl FieldNla for DpllPin {
 impl Family for DpllPin {
     ghost rows = { dpll_pin };
 
-    ghost names_row = { dpll_pin_names_row };
+    ghost is_row_variant = { dpll_pin_names_row };
 
     fn read_row(_alloc: Global, kind: u16, payload: &[u8]) -> Result<Option<Self>, DecodeError> {
         match kind {

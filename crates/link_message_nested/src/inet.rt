@@ -3,7 +3,7 @@
 ghost use Rattle.std.specs.Prelude.{◌≡◌, ◌<◌, ◌≤◌, ◌+◌, ◌++◌, true, length, map, take};
 ghost use Rattle.std.specs.Int.{w32, cast_unsigned};
 ghost use Rattle.netlink_packet_core.specs.AttributeViews.{IsAttribute};
-ghost use Rattle.netlink_packet_core.specs.Families.{Gives, accepts, may_want_memory};
+ghost use Rattle.netlink_packet_core.specs.Families.{Gives, accepts, may_allocate};
 ghost use Rattle.netlink_packet_core.specs.NlaBuffers.{storage};
 ghost use Rattle.attribute_tables_grammar.specs.LookUps.{table_row};
 ghost use Rattle.attribute_tables_grammar.specs.Peers.{bytes_peer};
@@ -62,7 +62,7 @@ struct Request {
 impl Request {
     /// Returns the settings of a record that aren't 0.
     fn new(asked: &InetDevConf) -> Self
-        ensures room { result.count ≤ 33 }
+        ensures capacity { result.count ≤ 33 }
         ensures requested { requested_so_far result ≡ requested_from 1 asked.now.values }
     {
         let nothing = RequestedSetting { kind: 0, number: 0 };
@@ -70,8 +70,8 @@ impl Request {
             settings: [nothing; SETTINGS],
             count: 0,
         };
-        for place in 0..SETTINGS {
-            request.push(place as u16 + 1, asked.values[place].cast_unsigned());
+        for index in 0..SETTINGS {
+            request.push(index as u16 + 1, asked.values[index].cast_unsigned());
         }
         request
     }
@@ -79,7 +79,7 @@ impl Request {
     /// Appends a setting, unless it is 0.
     fn push(&mut self, kind: u16, number: u32)
         requires { self.old.count < 33 }
-        ensures room { self.new.count ≤ self.old.count + 1 }
+        ensures capacity { self.new.count ≤ self.old.count + 1 }
         ensures requested { requested_so_far self.new
             ≡ requested_so_far self.old ++ requested_setting kind number }
     {
@@ -142,9 +142,9 @@ impl Reader for AfSpecInetReader {
 
     ghost row_of = { λ _. table_row bytes_peer inet };
 
-    ghost names_row = { λ _. af_spec_inet_names_row };
+    ghost is_row_variant = { λ _. af_spec_inet_names_row };
 
-    ghost may_want_memory = { λ _. may_want_memory inet };
+    ghost may_allocate = { λ _. may_allocate inet };
 
     fn read(&self, alloc: Global, buf: &NlaBuffer<&[u8]>) -> Result<AfSpecInet, DecodeError> {
         match buf.kind() {
@@ -159,7 +159,7 @@ impl<'a> Parseable<NlaBuffer<&'a [u8]>> for AfSpecInet {
 
     ghost accepts = { λ b. accepts inet (storage b).now };
 
-    ghost may_want_memory = { λ b. may_want_memory inet (storage b).now };
+    ghost may_allocate = { λ b. may_allocate inet (storage b).now };
 
     ghost gives = { λ b v. Gives inet (storage b).now (af_spec_inet_entry v)
         × af_spec_inet_names_row v };

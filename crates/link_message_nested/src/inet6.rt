@@ -2,7 +2,7 @@
 
 ghost use Rattle.std.specs.Prelude.{◌≡◌, true};
 ghost use Rattle.netlink_packet_core.specs.AttributeViews.{IsAttribute};
-ghost use Rattle.netlink_packet_core.specs.Families.{Gives, accepts, may_want_memory};
+ghost use Rattle.netlink_packet_core.specs.Families.{Gives, accepts, may_allocate};
 ghost use Rattle.netlink_packet_core.specs.NlaBuffers.{storage};
 ghost use Rattle.attribute_tables_grammar.specs.LookUps.{table_row};
 ghost use Rattle.attribute_tables_grammar.specs.Peers.{bytes_peer};
@@ -123,9 +123,9 @@ impl Reader for AfSpecInet6Reader {
 
     ghost row_of = { λ _. table_row bytes_peer inet6 };
 
-    ghost names_row = { λ _. af_spec_inet_6_names_row };
+    ghost is_row_variant = { λ _. af_spec_inet_6_names_row };
 
-    ghost may_want_memory = { λ _. may_want_memory inet6 };
+    ghost may_allocate = { λ _. may_allocate inet6 };
 
     fn read(&self, alloc: Global, buf: &NlaBuffer<&[u8]>) -> Result<AfSpecInet6, DecodeError> {
         let payload = buf.value();
@@ -152,7 +152,7 @@ impl<'a> Parseable<NlaBuffer<&'a [u8]>> for AfSpecInet6 {
 
     ghost accepts = { λ b. accepts inet6 (storage b).now };
 
-    ghost may_want_memory = { λ b. may_want_memory inet6 (storage b).now };
+    ghost may_allocate = { λ b. may_allocate inet6 (storage b).now };
 
     ghost gives = { λ b v. Gives inet6 (storage b).now (af_spec_inet_6_entry v)
         × af_spec_inet_6_names_row v };

@@ -42,7 +42,7 @@ impl FieldNla for AfSpecMctp {
 impl Family for AfSpecMctp {
     ghost rows = { mctp };
 
-    ghost names_row = { af_spec_mctp_names_row };
+    ghost is_row_variant = { af_spec_mctp_names_row };
 
     fn read_row(_alloc: Global, kind: u16, payload: &[u8]) -> Result<Option<Self>, DecodeError> {
         match kind {

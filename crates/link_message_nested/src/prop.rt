@@ -34,7 +34,7 @@ impl FieldNla for Prop {
 impl Family for Prop {
     ghost rows = { props };
 
-    ghost names_row = { prop_names_row };
+    ghost is_row_variant = { prop_names_row };
 
     fn read_row(alloc: Global, kind: u16, payload: &[u8]) -> Result<Option<Self>, DecodeError> {
         match kind {

@@ -26,7 +26,7 @@ impl FieldNla for LinkProtoInfoInet6 {
 impl Family for LinkProtoInfoInet6 {
     ghost rows = { end };
 
-    ghost names_row = { λ _. ⊤ };
+    ghost is_row_variant = { λ _. ⊤ };
 
     fn read_row(_alloc: Global, _kind: u16, _payload: &[u8]) -> Result<Option<Self>, DecodeError> {
         Ok(None)

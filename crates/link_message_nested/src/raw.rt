@@ -1,13 +1,13 @@
 //! Lists of raw attributes.
 
 ghost use Rattle.std.specs.Prelude.{◌≡◌, ◌<◌, ⊤, true, length, IfErr};
-ghost use Rattle.netlink_packet_core.specs.Families.{family_row, may_want_memory};
+ghost use Rattle.netlink_packet_core.specs.Families.{family_row, may_allocate};
 ghost use Rattle.attribute_tables_grammar.specs.Lists.{any};
 ghost use Rattle.attribute_tables_grammar.specs.LookUps.{list_of, table_row};
 ghost use Rattle.attribute_tables_grammar.specs.Peers.{bytes_peer};
 ghost use Rattle.attribute_tables_grammar.specs.Tables.{Table.end};
 ghost use Rattle.attribute_tables.specs.Beginnings.{begins_accepted};
-ghost use Rattle.attribute_tables.specs.Outcomes.{IfMemory, ListIsWrittenBy, SucceedsWhere};
+ghost use Rattle.attribute_tables.specs.Outcomes.{IfMemory, ListIsWrittenBy, SucceedsIf};
 
 use attribute_tables::{Reader, parse_list};
 use attribute_tables_grammar::laws::rows_are_looked_up;
@@ -22,9 +22,9 @@ impl Reader for RawReader {
 
     ghost row_of = { λ _. table_row bytes_peer end };
 
-    ghost names_row = { λ _ _. ⊤ };
+    ghost is_row_variant = { λ _ _. ⊤ };
 
-    ghost may_want_memory = { λ _. may_want_memory end };
+    ghost may_allocate = { λ _. may_allocate end };
 
     fn read(&self, alloc: Global, buf: &NlaBuffer<&[u8]>) -> Result<DefaultNla, DecodeError> {
         DefaultNla::parse(alloc, buf)
@@ -40,7 +40,7 @@ impl Reader for RawReader {
 /// the first attribute is valid.
 #[tactic(auto, using(crate::proofs::RawRules::raw_rules, attribute_tables::proofs::Families::family_lists))]
 pub fn parse_raw(alloc: Global, bytes: &[u8]) -> Result<Vec<DefaultNla>, DecodeError>
-    ensures judged { SucceedsWhere result ((list_of bytes_peer any end).accepted bytes.now) }
+    ensures judged { SucceedsIf result ((list_of bytes_peer any end).accepted bytes.now) }
     ensures written { ListIsWrittenBy result (λ a. a) (λ _. true) (list_of bytes_peer any end)
         bytes.now }
     ensures not_empty { IfErr result (λ _. 0 < length bytes.now) }

@@ -10,10 +10,10 @@ ghost use Rattle.attribute_tables_grammar.specs.Lists.{any};
 ghost use Rattle.attribute_tables_grammar.specs.LookUps.{list_of, table_row};
 ghost use Rattle.attribute_tables_grammar.specs.Peers.{bytes_peer};
 ghost use Rattle.attribute_tables.specs.Views.{fits_by};
-ghost use Rattle.attribute_tables.specs.Beginnings.{begins_readable, table_may_want_memory};
+ghost use Rattle.attribute_tables.specs.Beginnings.{begins_readable, table_may_allocate};
 ghost use Rattle.link_message_grammar.specs.NestedTables.{specific};
 ghost use Rattle.link_message_nested.specs.AddressFamilies.{af_spec_unspec_entry, af_spec_unspec_fits, af_spec_unspec_names_row};
-ghost use Rattle.attribute_tables.specs.Outcomes.{IfMemory, ListIsWrittenBy, SucceedsWhere};
+ghost use Rattle.attribute_tables.specs.Outcomes.{IfMemory, ListIsWrittenBy, SucceedsIf};
 
 use super::inet::{AfSpecInet, AfSpecInetReader};
 use super::inet6::{AfSpecInet6, AfSpecInet6Reader};
@@ -97,9 +97,9 @@ impl Reader for AfSpecUnspecReader {
 
     ghost row_of = { λ _. table_row bytes_peer specific };
 
-    ghost names_row = { λ _. af_spec_unspec_names_row };
+    ghost is_row_variant = { λ _. af_spec_unspec_names_row };
 
-    ghost may_want_memory = { λ _. table_may_want_memory specific };
+    ghost may_allocate = { λ _. table_may_allocate specific };
 
     #[tactic(auto, using(crate::proofs::FamilyRules::family_rules, attribute_tables::proofs::Families::family_lists))]
     fn read(&self, alloc: Global, buf: &NlaBuffer<&[u8]>) -> Result<AfSpecUnspec, DecodeError> {
@@ -119,7 +119,7 @@ impl<'a> Parseable<NlaBuffer<&'a [u8]>> for AfSpecUnspec {
 
     ghost accepts = { λ b. accepts specific (storage b).now };
 
-    ghost may_want_memory = { λ b. table_may_want_memory specific (storage b).now };
+    ghost may_allocate = { λ b. table_may_allocate specific (storage b).now };
 
     ghost gives = { λ b v. Gives specific (storage b).now (af_spec_unspec_entry v)
         × (af_spec_unspec_fits v ≡ fits_by (family_row specific) (storage b).now)
@@ -139,13 +139,13 @@ impl<'a> Parseable<NlaBuffer<&'a [u8]>> for AfSpecUnspec {
 /// allocation fails. This may hide a refusal of a later attribute, but not of the first one.
 #[tactic(auto, using(crate::proofs::FamilyRules::family_rules))]
 pub fn parse_families(alloc: Global, bytes: &[u8]) -> Result<Vec<AfSpecUnspec>, DecodeError>
-    ensures judged { SucceedsWhere result ((list_of bytes_peer any specific).accepted bytes.now) }
+    ensures judged { SucceedsIf result ((list_of bytes_peer any specific).accepted bytes.now) }
     ensures written { ListIsWrittenBy result af_spec_unspec_entry af_spec_unspec_fits
         (list_of bytes_peer any specific) bytes.now }
-    ensures names_row { IfOk result (λ v. All af_spec_unspec_names_row v.items) }
+    ensures is_row_variant { IfOk result (λ v. All af_spec_unspec_names_row v.items) }
     ensures not_empty { IfErr result (λ _. 0 < length bytes.now) }
     ensures memory { IfMemory result
-        (begins_readable (family_row specific) (table_may_want_memory specific) bytes.now ≡ true) }
+        (begins_readable (family_row specific) (table_may_allocate specific) bytes.now ≡ true) }
 {
     rows_are_looked_up();
     parse_list(alloc, &AfSpecUnspecReader, bytes)

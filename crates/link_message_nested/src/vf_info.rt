@@ -9,12 +9,12 @@ ghost use Rattle.attribute_tables_grammar.specs.Lists.{is_of_kind_one, of_kind_o
 ghost use Rattle.attribute_tables_grammar.specs.LookUps.{list_of, table_row};
 ghost use Rattle.attribute_tables_grammar.specs.Peers.{bytes_peer};
 ghost use Rattle.attribute_tables.specs.Views.{fits_by};
-ghost use Rattle.attribute_tables.specs.Beginnings.{table_may_want_memory};
+ghost use Rattle.attribute_tables.specs.Beginnings.{table_may_allocate};
 ghost use Rattle.link_message_grammar.specs.NestedTables.{vf, vf_infos};
 ghost use Rattle.link_message_nested.specs.VfInfos.{vf_info_entry, vf_info_fits, vf_info_names_row, link_vf_info_entry};
 ghost use Rattle.link_message_nested.specs.VfInfos.{link_vf_info_fits, link_vf_info_names_row};
 ghost use Rattle.link_message_nested.specs.VfInfos.{vf_info_row, is_vf_info, IsVfInfoOf, vf_info_begins_readable, vf_infos_begin_readable};
-ghost use Rattle.attribute_tables.specs.Outcomes.{IfMemory, ListIsWrittenBy, SucceedsWhere};
+ghost use Rattle.attribute_tables.specs.Outcomes.{IfMemory, ListIsWrittenBy, SucceedsIf};
 
 use super::vf_stats::VfStats;
 use super::vf_vlan::{VfVlan, VfVlanReader};
@@ -157,9 +157,9 @@ impl Reader for VfInfoReader {
 
     ghost row_of = { λ _. table_row bytes_peer vf };
 
-    ghost names_row = { λ _. vf_info_names_row };
+    ghost is_row_variant = { λ _. vf_info_names_row };
 
-    ghost may_want_memory = { λ _. table_may_want_memory vf };
+    ghost may_allocate = { λ _. table_may_allocate vf };
 
     #[tactic(auto, using(crate::proofs::VfRules::vf_rules, attribute_tables::proofs::Families::family_lists))]
     fn read(&self, alloc: Global, buf: &NlaBuffer<&[u8]>) -> Result<VfInfo, DecodeError> {
@@ -187,7 +187,7 @@ impl<'a> Parseable<NlaBuffer<&'a [u8]>> for VfInfo {
 
     ghost accepts = { λ b. accepts vf (storage b).now };
 
-    ghost may_want_memory = { λ b. table_may_want_memory vf (storage b).now };
+    ghost may_allocate = { λ b. table_may_allocate vf (storage b).now };
 
     ghost gives = { λ b v. Gives vf (storage b).now (vf_info_entry v)
         × (vf_info_fits v ≡ fits_by (family_row vf) (storage b).now)
@@ -234,9 +234,9 @@ impl EntryReader for LinkVfInfoReader {
 
     ghost entry_row = { λ _. vf_info_row };
 
-    ghost names_row = { λ _. link_vf_info_names_row };
+    ghost is_row_variant = { λ _. link_vf_info_names_row };
 
-    ghost may_want_memory = { λ _. vf_info_begins_readable };
+    ghost may_allocate = { λ _. vf_info_begins_readable };
 
     #[tactic(auto, using(crate::proofs::VfRules::vf_rules))]
     fn read(&self, alloc: Global, buf: &NlaBuffer<&[u8]>) -> Result<LinkVfInfo, DecodeError> {
@@ -254,11 +254,11 @@ impl EntryReader for LinkVfInfoReader {
 /// allocation fails, which may hide a refusal of a later attribute.
 #[tactic(auto, using(crate::proofs::VfRules::vf_rules), unfolding(crate::specs::VfInfos::vf_infos_begin_readable))]
 pub fn parse_vf_infos(alloc: Global, bytes: &[u8]) -> Result<Vec<LinkVfInfo>, DecodeError>
-    ensures judged { SucceedsWhere result
+    ensures judged { SucceedsIf result
         ((list_of bytes_peer of_kind_one vf_infos).accepted bytes.now) }
     ensures written { ListIsWrittenBy result link_vf_info_entry link_vf_info_fits
         (list_of bytes_peer of_kind_one vf_infos) bytes.now }
-    ensures names_row { IfOk result (λ v. All link_vf_info_names_row v.items) }
+    ensures is_row_variant { IfOk result (λ v. All link_vf_info_names_row v.items) }
     ensures not_empty { IfErr result (λ _. 0 < length bytes.now) }
     ensures memory { IfMemory result (vf_infos_begin_readable bytes.now ≡ true) }
 {
@@ -271,7 +271,7 @@ impl<'a> Parseable<NlaBuffer<&'a [u8]>> for LinkVfInfo {
 
     ghost accepts = { λ b. is_vf_info (storage b).now };
 
-    ghost may_want_memory = { λ b. is_of_kind_one (viewed_attribute (storage b).now)
+    ghost may_allocate = { λ b. is_of_kind_one (viewed_attribute (storage b).now)
         && vf_info_begins_readable (viewed_payload (storage b).now) };
 
     ghost gives = { λ b v. IsVfInfoOf (storage b).now v };

@@ -12,7 +12,7 @@ ghost use Rattle.attribute_tables.specs.Beginnings.{begins_accepted};
 ghost use Rattle.link_message_grammar.specs.NestedTables.{vf_ports};
 ghost use Rattle.link_message_nested.specs.VfPorts.{vf_port_entry, link_vf_port_entry, link_vf_port_fits, vf_port_row};
 ghost use Rattle.link_message_nested.specs.VfPorts.{is_vf_port, IsVfPortOf, vf_ports_begin_readable};
-ghost use Rattle.attribute_tables.specs.Outcomes.{IfMemory, ListIsWrittenBy, SucceedsWhere};
+ghost use Rattle.attribute_tables.specs.Outcomes.{IfMemory, ListIsWrittenBy, SucceedsIf};
 
 use attribute_tables::{EntryReader, parse_family, parse_ports};
 use attribute_tables_grammar::laws::rows_are_looked_up;
@@ -41,7 +41,7 @@ impl FieldNla for VfPort {
 impl Family for VfPort {
     ghost rows = { end };
 
-    ghost names_row = { λ _. ⊤ };
+    ghost is_row_variant = { λ _. ⊤ };
 
     fn read_row(_alloc: Global, _kind: u16, _payload: &[u8]) -> Result<Option<Self>, DecodeError> {
         Ok(None)
@@ -92,9 +92,9 @@ impl EntryReader for LinkVfPortReader {
 
     ghost entry_row = { λ _. vf_port_row };
 
-    ghost names_row = { λ _ _. ⊤ };
+    ghost is_row_variant = { λ _ _. ⊤ };
 
-    ghost may_want_memory = { λ _. begins_accepted (family_row end) };
+    ghost may_allocate = { λ _. begins_accepted (family_row end) };
 
     #[tactic(auto, using(crate::proofs::VfRules::vf_rules))]
     fn read(&self, alloc: Global, buf: &NlaBuffer<&[u8]>) -> Result<LinkVfPort, DecodeError> {
@@ -112,7 +112,7 @@ impl EntryReader for LinkVfPortReader {
 /// refusal of a later attribute.
 #[tactic(auto, using(crate::proofs::VfRules::vf_rules), unfolding(crate::specs::VfPorts::vf_ports_begin_readable))]
 pub fn parse_vf_ports(alloc: Global, bytes: &[u8]) -> Result<Vec<LinkVfPort>, DecodeError>
-    ensures judged { SucceedsWhere result ((list_of bytes_peer ports vf_ports).accepted bytes.now) }
+    ensures judged { SucceedsIf result ((list_of bytes_peer ports vf_ports).accepted bytes.now) }
     ensures written { ListIsWrittenBy result link_vf_port_entry link_vf_port_fits
         (list_of bytes_peer ports vf_ports) bytes.now }
     ensures not_empty { IfMemory result (0 < length bytes.now) }
@@ -127,7 +127,7 @@ impl<'a> Parseable<NlaBuffer<&'a [u8]>> for LinkVfPort {
 
     ghost accepts = { λ b. is_vf_port (storage b).now };
 
-    ghost may_want_memory = { λ b. is_of_kind_one (viewed_attribute (storage b).now)
+    ghost may_allocate = { λ b. is_of_kind_one (viewed_attribute (storage b).now)
         && begins_accepted (family_row end) (viewed_payload (storage b).now) };
 
     ghost gives = { λ b v. IsVfPortOf (storage b).now v };

@@ -72,7 +72,7 @@ impl VfStats {
     // Returns the statistic of a kind; `None` if the kind has no row.
     fn of_u64(kind: u16, number: u64) -> Option<Self>
         ensures value { IfSome result (λ v. vf_stats_entry v ≡ attribute kind (le8 number)) }
-        ensures names_row { IfSome result (λ v. vf_stats_names_row v) }
+        ensures is_row_variant { IfSome result (λ v. vf_stats_names_row v) }
         ensures none { IfNone result (has_no_row vf_stats kind) }
     {
         match kind {
@@ -92,7 +92,7 @@ impl VfStats {
 impl Family for VfStats {
     ghost rows = { vf_stats };
 
-    ghost names_row = { vf_stats_names_row };
+    ghost is_row_variant = { vf_stats_names_row };
 
     fn read_row(_alloc: Global, kind: u16, payload: &[u8]) -> Result<Option<Self>, DecodeError> {
         match kind {

@@ -3,7 +3,7 @@
 ghost use Rattle.std.specs.Prelude.{◌≡◌, true};
 ghost use Rattle.netlink_packet_core.specs.AttributeViews.{IsAttribute};
 ghost use Rattle.netlink_packet_core.specs.NlaBuffers.{storage};
-ghost use Rattle.netlink_packet_core.specs.Families.{Gives, accepts, may_want_memory};
+ghost use Rattle.netlink_packet_core.specs.Families.{Gives, accepts, may_allocate};
 ghost use Rattle.attribute_tables_grammar.specs.LookUps.{table_row};
 ghost use Rattle.attribute_tables_grammar.specs.Peers.{bytes_peer};
 ghost use Rattle.link_message_grammar.specs.NestedTables.{vf_vlans};
@@ -64,9 +64,9 @@ impl Reader for VfVlanReader {
 
     ghost row_of = { λ _. table_row bytes_peer vf_vlans };
 
-    ghost names_row = { λ _. vf_vlan_names_row };
+    ghost is_row_variant = { λ _. vf_vlan_names_row };
 
-    ghost may_want_memory = { λ _. may_want_memory vf_vlans };
+    ghost may_allocate = { λ _. may_allocate vf_vlans };
 
     #[tactic(auto, using(crate::proofs::VfRules::vf_rules))]
     fn read(&self, alloc: Global, buf: &NlaBuffer<&[u8]>) -> Result<VfVlan, DecodeError> {
@@ -83,7 +83,7 @@ impl<'a> Parseable<NlaBuffer<&'a [u8]>> for VfVlan {
 
     ghost accepts = { λ b. accepts vf_vlans (storage b).now };
 
-    ghost may_want_memory = { λ b. may_want_memory vf_vlans (storage b).now };
+    ghost may_allocate = { λ b. may_allocate vf_vlans (storage b).now };
 
     ghost gives = { λ b v. Gives vf_vlans (storage b).now (vf_vlan_entry v) × vf_vlan_names_row v };
 

@@ -76,7 +76,7 @@ impl LinkXdp {
     // Returns the attribute of a kind that holds 4 bytes without a sign; `None` for any other kind.
     fn of_u32(kind: u16, number: u32) -> Option<Self>
         ensures value { IfSome result (λ v. link_xdp_entry v ≡ attribute kind (le4 number)) }
-        ensures names_row { IfSome result (λ v. link_xdp_names_row v) }
+        ensures is_row_variant { IfSome result (λ v. link_xdp_names_row v) }
         ensures none { IfNone result
             (kind ≢ 3 × kind ≢ 4 × kind ≢ 5 × kind ≢ 6 × kind ≢ 7 × kind ≢ 8) }
     {
@@ -95,7 +95,7 @@ impl LinkXdp {
 impl Family for LinkXdp {
     ghost rows = { xdp };
 
-    ghost names_row = { link_xdp_names_row };
+    ghost is_row_variant = { link_xdp_names_row };
 
     fn read_row(_alloc: Global, kind: u16, payload: &[u8]) -> Result<Option<Self>, DecodeError> {
         match kind {

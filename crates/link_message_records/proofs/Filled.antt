@@ -62,8 +62,8 @@ rest_more s i p rest after r e =
     e ∙ ap (drop s) r ∙ drop-drop s (s * i) p ∙ ap (λ n. drop n p) next
 
 -- The numbers after some have enough bytes for those that follow.
-pub room_at : {X : Type 0} (f : X → List ℕ) (s : ℕ) (xs : List X) (i : ℕ) (v : X) → i < length xs → v ≡ get_or xs i v → length (f v) ≡ s → length (flat_map f (take i xs)) + s ≤ length (flat_map f xs)
-room_at f s xs i v h is e =
+pub enough_at : {X : Type 0} (f : X → List ℕ) (s : ℕ) (xs : List X) (i : ℕ) (v : X) → i < length xs → v ≡ get_or xs i v → length (f v) ≡ s → length (flat_map f (take i xs)) + s ≤ length (flat_map f xs)
+enough_at f s xs i v h is e =
     let one = ap length (ap (flat_map f) (take_more xs i v h) ∙ flat_one f (take i xs) (get_or xs i v)) in
     let size : length (f (get_or xs i v)) ≡ s = ap (λ x. length (f x)) (sym is) ∙ e in
     let whole = ap (λ l. length (flat_map f l)) (sym (take-append-drop (i + 1) xs)) ∙ ap length (flat_map-append f (take (i + 1) xs) (drop (i + 1) xs)) in

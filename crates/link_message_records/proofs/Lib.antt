@@ -1,4 +1,4 @@
 pub mod Pairs
 pub mod RecordSizes
-pub mod TruthBytes
+pub mod BooleanBytes
 pub mod Filled

@@ -2,7 +2,7 @@
 use Rattle.std.specs.Prelude.{ℕ, List, ◌++◌}
 use Rattle.netlink_packet_core.specs.Attributes.{zeros}
 use Rattle.netlink_packet_core.specs.Numbers.{le4}
-use Rattle.netlink_packet_core.specs.Truths.{truth_byte}
+use Rattle.netlink_packet_core.specs.Booleans.{boolean_byte}
 use Rattle.link_message_records.specs.declared.vf_setting.VfInfoSetting.{VfInfoSetting}
 
 -- The kind of a setting's attribute.
@@ -11,4 +11,4 @@ vf_info_setting_kind {k} v = k
 
 -- The bytes of a setting: a number of 4 bytes, and a boolean of 4 bytes.
 abbrev pub vf_info_setting_bytes : {k : ℕ} → VfInfoSetting k → List ℕ
-vf_info_setting_bytes v = le4 v.vf_id ++ (truth_byte v.enabled ++ zeros 3)
+vf_info_setting_bytes v = le4 v.vf_id ++ (boolean_byte v.enabled ++ zeros 3)

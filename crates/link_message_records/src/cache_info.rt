@@ -74,7 +74,7 @@ impl FieldRecord<16> for Inet6CacheInfo {
         )
     }
 
-    ghost has_room = { refl };
+    ghost fills_record = { refl };
 
     ghost is_text = { λ v. sym (append-nil (inet_6_cache_info_bytes v)) };
 }

@@ -16,14 +16,14 @@ pub trait Fields: Copy {
 
     /// Reads the values at the start of some bytes, and returns them with the bytes that follow;
     /// `None` if there are too few bytes.
-    fn read_front(front: &[u8]) -> Option<(Self, &[u8])>
-        ensures size { IsSome result ↔ (size ≤ length front.now) }
-        ensures values { IfSome result (λ r. bytes r.0 ≡ take size front.now) }
-        ensures rest { IfSome result (λ r. r.1.now ≡ drop size front.now) };
+    fn read_prefix(prefix: &[u8]) -> Option<(Self, &[u8])>
+        ensures size { IsSome result ↔ (size ≤ length prefix.now) }
+        ensures values { IfSome result (λ r. bytes r.0 ≡ take size prefix.now) }
+        ensures rest { IfSome result (λ r. r.1.now ≡ drop size prefix.now) };
 
     /// Writes the values to the start of a buffer, leaves the rest of the buffer unchanged, and
     /// returns the number of bytes written.
-    fn write_front(&self, buffer: &mut [u8]) -> usize
+    fn write_prefix(&self, buffer: &mut [u8]) -> usize
         requires { size ≤ length buffer.old }
         ensures buffer { buffer.new ≡ bytes self.now ++ drop size buffer.old }
         ensures has_size { length (bytes self.now) ≡ size }
@@ -36,12 +36,12 @@ impl Fields for u8 {
 
     ghost size = { 1 };
 
-    fn read_front(front: &[u8]) -> Option<(Self, &[u8])> {
-        let (byte, rest) = front.split_first()?;
+    fn read_prefix(prefix: &[u8]) -> Option<(Self, &[u8])> {
+        let (byte, rest) = prefix.split_first()?;
         Some((*byte, rest))
     }
 
-    fn write_front(&self, buffer: &mut [u8]) -> usize {
+    fn write_prefix(&self, buffer: &mut [u8]) -> usize {
         buffer[0] = *self;
         1
     }
@@ -53,15 +53,15 @@ impl Fields for u16 {
 
     ghost size = { 2 };
 
-    fn read_front(front: &[u8]) -> Option<(Self, &[u8])> {
-        let (number, rest) = front.split_at_checked(2)?;
+    fn read_prefix(prefix: &[u8]) -> Option<(Self, &[u8])> {
+        let (number, rest) = prefix.split_at_checked(2)?;
         Some((parse_u16(number).ok()?, rest))
     }
 
     #[tactic(auto, using(netlink_packet_core_grammar::proofs::Sizes::sizes))]
-    fn write_front(&self, buffer: &mut [u8]) -> usize {
-        let (front, _) = buffer.split_at_mut(2);
-        fill_u16(front, *self);
+    fn write_prefix(&self, buffer: &mut [u8]) -> usize {
+        let (prefix, _) = buffer.split_at_mut(2);
+        fill_u16(prefix, *self);
         2
     }
 }
@@ -72,15 +72,15 @@ impl Fields for u32 {
 
     ghost size = { 4 };
 
-    fn read_front(front: &[u8]) -> Option<(Self, &[u8])> {
-        let (number, rest) = front.split_at_checked(4)?;
+    fn read_prefix(prefix: &[u8]) -> Option<(Self, &[u8])> {
+        let (number, rest) = prefix.split_at_checked(4)?;
         Some((parse_u32(number).ok()?, rest))
     }
 
     #[tactic(auto, using(netlink_packet_core_grammar::proofs::Sizes::sizes))]
-    fn write_front(&self, buffer: &mut [u8]) -> usize {
-        let (front, _) = buffer.split_at_mut(4);
-        fill_u32(front, *self);
+    fn write_prefix(&self, buffer: &mut [u8]) -> usize {
+        let (prefix, _) = buffer.split_at_mut(4);
+        fill_u32(prefix, *self);
         4
     }
 }
@@ -91,15 +91,15 @@ impl Fields for u64 {
 
     ghost size = { 8 };
 
-    fn read_front(front: &[u8]) -> Option<(Self, &[u8])> {
-        let (number, rest) = front.split_at_checked(8)?;
+    fn read_prefix(prefix: &[u8]) -> Option<(Self, &[u8])> {
+        let (number, rest) = prefix.split_at_checked(8)?;
         Some((parse_u64(number).ok()?, rest))
     }
 
     #[tactic(auto, using(netlink_packet_core_grammar::proofs::Sizes::sizes))]
-    fn write_front(&self, buffer: &mut [u8]) -> usize {
-        let (front, _) = buffer.split_at_mut(8);
-        fill_u64(front, *self);
+    fn write_prefix(&self, buffer: &mut [u8]) -> usize {
+        let (prefix, _) = buffer.split_at_mut(8);
+        fill_u64(prefix, *self);
         8
     }
 }
@@ -110,16 +110,16 @@ impl<const N: usize> Fields for [u8; N] {
 
     ghost size = { N };
 
-    fn read_front(front: &[u8]) -> Option<(Self, &[u8])> {
-        let (head, rest) = front.split_at_checked(N)?;
+    fn read_prefix(prefix: &[u8]) -> Option<(Self, &[u8])> {
+        let (head, rest) = prefix.split_at_checked(N)?;
         let mut bytes = [0; N];
         bytes.copy_from_slice(head);
         Some((bytes, rest))
     }
 
-    fn write_front(&self, buffer: &mut [u8]) -> usize {
-        let (front, _) = buffer.split_at_mut(N);
-        front.copy_from_slice(self);
+    fn write_prefix(&self, buffer: &mut [u8]) -> usize {
+        let (prefix, _) = buffer.split_at_mut(N);
+        prefix.copy_from_slice(self);
         N
     }
 }
@@ -130,17 +130,17 @@ impl<A: Fields, B: Fields> Fields for (A, B) {
     ghost size = { A.size + B.size };
 
     #[tactic(auto, using(crate::proofs::Pairs::pairs))]
-    fn read_front(front: &[u8]) -> Option<(Self, &[u8])> {
-        let (first, rest) = A::read_front(front)?;
-        let (second, rest) = B::read_front(rest)?;
+    fn read_prefix(prefix: &[u8]) -> Option<(Self, &[u8])> {
+        let (first, rest) = A::read_prefix(prefix)?;
+        let (second, rest) = B::read_prefix(rest)?;
         Some(((first, second), rest))
     }
 
     #[tactic(auto, using(crate::proofs::Pairs::pairs))]
-    fn write_front(&self, buffer: &mut [u8]) -> usize {
-        let first = self.0.write_front(buffer);
+    fn write_prefix(&self, buffer: &mut [u8]) -> usize {
+        let first = self.0.write_prefix(buffer);
         let (_, rest) = buffer.split_at_mut(first);
-        let second = self.1.write_front(rest);
+        let second = self.1.write_prefix(rest);
         first + second
     }
 }

@@ -83,7 +83,7 @@ impl FieldRecord<32> for Map {
         )
     }
 
-    ghost has_room = { refl };
+    ghost fills_record = { refl };
 
     ghost is_text = { λ _. refl };
 }

@@ -50,14 +50,14 @@ pub trait FieldRecord<const N: usize>: Sized {
         ensures named { IfOk result (λ v. is_named v) }
         ensures err { IfErr result (λ e. is_memory e ≡ false) }
     {
-        match Self::Fields::read_front(payload) {
+        match Self::Fields::read_prefix(payload) {
             Some((fields, _)) => Ok(Self::from_fields(fields)),
             None => Err(DecodeError::invalid_number(N, payload.len())),
         }
     }
 
     /// The size of the fields and the zeros is that of the record.
-    ghost has_room: { Self.Fields.size + padding ≡ N };
+    ghost fills_record: { Self.Fields.size + padding ≡ N };
 
     /// The bytes of a record are those of its fields, followed by the zeros.
     ghost is_text: { (v : Self)
@@ -69,9 +69,9 @@ pub(crate) fn write_record<R: FieldRecord<N>, const N: usize>(value: &R, buffer:
     requires { N ≤ length buffer.old }
     ensures { buffer.new ≡ R.record_text value.now ++ drop N buffer.old }
 {
-    let (front, _) = buffer.split_at_mut(N);
-    let size = value.fields().write_front(front);
-    let (_, rest) = front.split_at_mut(size);
+    let (prefix, _) = buffer.split_at_mut(N);
+    let size = value.fields().write_prefix(prefix);
+    let (_, rest) = prefix.split_at_mut(size);
     fill_zeros(rest);
 }
 
@@ -88,7 +88,7 @@ pub(crate) fn bytes_of<R: FieldRecord<N>, const N: usize>(value: &R) -> [u8; N]
 #[tactic(auto, using(crate::proofs::Pairs::whole_texts))]
 pub fn emit_record<R: Emitable>(value: &R, buffer: &mut [u8])
     requires ready { R.can_emit value.now }
-    requires room { length buffer.old ≡ length (R.text value.now) }
+    requires buffer_size { length buffer.old ≡ length (R.text value.now) }
     ensures { buffer.new ≡ R.text value.now }
 {
     value.emit(buffer);

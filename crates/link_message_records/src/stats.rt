@@ -10,8 +10,8 @@ impl LinkStatistics for Stats {
 
     ghost counters = { λ stats. stats.values };
 
-    fn counter(&self, place: usize) -> u32 {
-        self.values[place]
+    fn counter(&self, index: usize) -> u32 {
+        self.values[index]
     }
 }
 
@@ -20,8 +20,8 @@ impl LinkStatistics for Stats64 {
 
     ghost counters = { λ stats. stats.values };
 
-    fn counter(&self, place: usize) -> u64 {
-        self.values[place]
+    fn counter(&self, index: usize) -> u64 {
+        self.values[index]
     }
 }
 

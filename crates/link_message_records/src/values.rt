@@ -22,9 +22,9 @@ pub trait Number: Fields {
 
     /// Reads the number at the start of some bytes, with zeros for missing bytes, and returns it
     /// with the bytes that follow.
-    fn read_filled(front: &[u8]) -> (Self, &[u8])
-        ensures number { Self.bytes result.0 ≡ take Self.size (front.now ++ zeros Self.size) }
-        ensures rest { result.1.now ≡ drop Self.size front.now };
+    fn read_filled(prefix: &[u8]) -> (Self, &[u8])
+        ensures number { Self.bytes result.0 ≡ take Self.size (prefix.now ++ zeros Self.size) }
+        ensures rest { result.1.now ≡ drop Self.size prefix.now };
 
     /// Every number has the same size.
     ghost has_size: { (v : Self) → length (Self.bytes v) ≡ Self.size };
@@ -35,13 +35,13 @@ impl Number for u32 {
         4
     }
 
-    fn read_filled(front: &[u8]) -> (Self, &[u8]) {
-        let bytes: [u8; 4] = filled(front);
+    fn read_filled(prefix: &[u8]) -> (Self, &[u8]) {
+        let bytes: [u8; 4] = filled(prefix);
         let number = match parse_u32(&bytes) {
             Ok(number) => number,
             Err(_) => unreachable!(),
         };
-        let (_, rest) = front.split_at(front.len().min(4));
+        let (_, rest) = prefix.split_at(prefix.len().min(4));
         (number, rest)
     }
 
@@ -53,13 +53,13 @@ impl Number for u64 {
         8
     }
 
-    fn read_filled(front: &[u8]) -> (Self, &[u8]) {
-        let bytes: [u8; 8] = filled(front);
+    fn read_filled(prefix: &[u8]) -> (Self, &[u8]) {
+        let bytes: [u8; 8] = filled(prefix);
         let number = match parse_u64(&bytes) {
             Ok(number) => number,
             Err(_) => unreachable!(),
         };
-        let (_, rest) = front.split_at(front.len().min(8));
+        let (_, rest) = prefix.split_at(prefix.len().min(8));
         (number, rest)
     }
 
@@ -73,14 +73,14 @@ impl Fields for i32 {
     ghost size = { 4 };
 
     #[tactic(auto, using(netlink_packet_core_grammar::proofs::Numbers::signs))]
-    fn read_front(front: &[u8]) -> Option<(Self, &[u8])> {
-        let (number, rest) = u32::read_front(front)?;
+    fn read_prefix(prefix: &[u8]) -> Option<(Self, &[u8])> {
+        let (number, rest) = u32::read_prefix(prefix)?;
         Some((number.cast_signed(), rest))
     }
 
     #[tactic(auto, using(netlink_packet_core_grammar::proofs::Numbers::signs))]
-    fn write_front(&self, buffer: &mut [u8]) -> usize {
-        self.cast_unsigned().write_front(buffer)
+    fn write_prefix(&self, buffer: &mut [u8]) -> usize {
+        self.cast_unsigned().write_prefix(buffer)
     }
 }
 
@@ -90,8 +90,8 @@ impl Number for i32 {
     }
 
     #[tactic(auto, using(netlink_packet_core_grammar::proofs::Numbers::signs))]
-    fn read_filled(front: &[u8]) -> (Self, &[u8]) {
-        let (number, rest) = u32::read_filled(front);
+    fn read_filled(prefix: &[u8]) -> (Self, &[u8]) {
+        let (number, rest) = u32::read_filled(prefix);
         (number.cast_signed(), rest)
     }
 
@@ -170,7 +170,7 @@ fn write_values<T: Number>(values: &[T], buffer: &mut [u8])
     let mut at = 0usize;
     for value in values {
         let (_, rest) = buffer.split_at_mut(at);
-        at += value.write_front(rest);
+        at += value.write_prefix(rest);
     }
 }
 

@@ -86,7 +86,7 @@ impl FieldRecord<12> for VfInfoVlan {
         (self.vf_id, (self.vlan_id, self.qos))
     }
 
-    ghost has_room = { refl };
+    ghost fills_record = { refl };
 
     ghost is_text = { λ v. sym (append-nil (vf_info_vlan_bytes v)) };
 }
@@ -155,7 +155,7 @@ impl FieldRecord<8> for VfInfoTxRate {
         (self.vf_id, self.rate)
     }
 
-    ghost has_room = { refl };
+    ghost fills_record = { refl };
 
     ghost is_text = { λ v. sym (append-nil (vf_info_tx_rate_bytes v)) };
 }
@@ -235,7 +235,7 @@ impl FieldRecord<12> for VfInfoRate {
         (self.vf_id, (self.min_tx_rate, self.max_tx_rate))
     }
 
-    ghost has_room = { refl };
+    ghost fills_record = { refl };
 
     ghost is_text = { λ v. sym (append-nil (vf_info_rate_bytes v)) };
 }
@@ -307,7 +307,7 @@ impl FieldRecord<8> for VfInfoLinkState {
         (self.vf_id, u32::from(self.state))
     }
 
-    ghost has_room = { refl };
+    ghost fills_record = { refl };
 
     ghost is_text = { λ v. sym (append-nil (vf_info_link_state_bytes v)) };
 }
@@ -380,7 +380,7 @@ impl FieldRecord<36> for VfInfoMac {
         (self.vf_id, self.mac)
     }
 
-    ghost has_room = { refl };
+    ghost fills_record = { refl };
 
     ghost is_text = { λ v. sym (append-nil (vf_info_mac_bytes v)) };
 }
@@ -446,7 +446,7 @@ impl FieldRecord<32> for VfInfoBroadcast {
         self.addr
     }
 
-    ghost has_room = { refl };
+    ghost fills_record = { refl };
 
     ghost is_text = { λ v. sym (append-nil (vf_info_broadcast_bytes v)) };
 }
@@ -541,7 +541,7 @@ impl FieldRecord<16> for VfVlanInfo {
         )
     }
 
-    ghost has_room = { refl };
+    ghost fills_record = { refl };
 
     ghost is_text = { λ _. refl };
 }

@@ -3,8 +3,8 @@
 ghost use Rattle.std.specs.Prelude.{◌≡◌, ◌↔◌, ◌++◌, ⊤, true, false, length, IsOk, IfOk, IfErr};
 ghost use Rattle.netlink_packet_core.specs.Attributes.{zeros};
 ghost use Rattle.netlink_packet_core.specs.Errors.{is_memory};
-ghost use Rattle.netlink_packet_core.specs.Truths.{truth_byte};
-ghost use Rattle.attribute_tables_grammar.specs.Shapes.{accepts, meaning, spelling, id_and_truth, number_truth};
+ghost use Rattle.netlink_packet_core.specs.Booleans.{boolean_byte};
+ghost use Rattle.attribute_tables_grammar.specs.Shapes.{accepts, meaning, spelling, id_and_boolean, number_boolean};
 ghost use Rattle.link_message_records.specs.VfSettings.{vf_info_setting_bytes};
 
 use link_message_types::{Record, RecordBuffer};
@@ -58,29 +58,29 @@ impl<const KIND: u16> VfInfoSetting<KIND> {
     ///
     /// A refusal if the payload has fewer than 8 bytes.
     pub fn parse(payload: &[u8]) -> Result<Self, DecodeError>
-        ensures size { IsOk result ↔ (accepts id_and_truth payload.now ≡ true) }
+        ensures size { IsOk result ↔ (accepts id_and_boolean payload.now ≡ true) }
         ensures text { IfOk result
             (λ v. vf_info_setting_bytes v
-            ≡ spelling id_and_truth (meaning id_and_truth payload.now)) }
+            ≡ spelling id_and_boolean (meaning id_and_boolean payload.now)) }
         ensures err { IfErr result (λ e. is_memory e ≡ false) }
     {
         if payload.len() < VF_INFO_SETTING_LEN {
             return Err(DecodeError::invalid_number(VF_INFO_SETTING_LEN, payload.len()));
         }
         let (vf_id, rest) = payload.split_at(4);
-        let (truth, _) = rest.split_at(4);
+        let (boolean, _) = rest.split_at(4);
         Ok(Self {
             vf_id: parse_u32(vf_id)?,
-            enabled: is_true(truth),
+            enabled: is_true(boolean),
         })
     }
 }
 
 /// Returns whether a number of 4 bytes isn't 0.
-#[tactic(auto, using(crate::proofs::TruthBytes::truths))]
+#[tactic(auto, using(crate::proofs::BooleanBytes::booleans))]
 fn is_true(bytes: &[u8]) -> bool
     requires { length bytes.now ≡ 4 }
-    ensures { truth_byte result ++ zeros 3 ≡ number_truth bytes.now }
+    ensures { boolean_byte result ++ zeros 3 ≡ number_boolean bytes.now }
 {
     match bytes {
         [a, b, c, d] => *a as u32 + *b as u32 + *c as u32 + *d as u32 != 0,
@@ -93,15 +93,15 @@ impl<const KIND: u16> Emitable for VfInfoSetting<KIND> {
 
     ghost can_emit = { λ _. ⊤ };
 
-    #[tactic(auto, using(crate::proofs::TruthBytes::setting_sizes))]
+    #[tactic(auto, using(crate::proofs::BooleanBytes::setting_sizes))]
     fn buffer_len(&self) -> usize {
         VF_INFO_SETTING_LEN
     }
 
-    #[tactic(auto, using(crate::proofs::TruthBytes::setting_sizes))]
+    #[tactic(auto, using(crate::proofs::BooleanBytes::setting_sizes))]
     fn emit(&self, buffer: &mut [u8]) {
-        let (front, _) = buffer.split_at_mut(VF_INFO_SETTING_LEN);
-        fill_setting(self, front);
+        let (prefix, _) = buffer.split_at_mut(VF_INFO_SETTING_LEN);
+        fill_setting(self, prefix);
     }
 }
 
@@ -121,7 +121,7 @@ fn fill_setting<const KIND: u16>(setting: &VfInfoSetting<KIND>, buffer: &mut [u8
 {
     let (vf_id, rest) = buffer.split_at_mut(4);
     fill_u32(vf_id, setting.vf_id);
-    let (truth, zeros) = rest.split_at_mut(1);
-    fill_bool(truth, setting.enabled);
+    let (boolean, zeros) = rest.split_at_mut(1);
+    fill_bool(boolean, setting.enabled);
     zeros.fill(0);
 }

@@ -1,2 +1,2 @@
-mod FrontPeers
+mod PrefixPeers
 mod Texts

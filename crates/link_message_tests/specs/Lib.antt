@@ -1,2 +1,2 @@
-pub mod FrontPeers
+pub mod PrefixPeers
 pub mod Requests

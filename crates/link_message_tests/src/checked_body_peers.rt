@@ -12,7 +12,7 @@ const PEER_WRITTEN: &[u8] = b"\0\0\0\0\0\0\0\0\0\0\0\0\0\0\0\0\x30\0\x12\0\x09\0
     \x20\0\x02\0\x1c\0\x01\0\0\0\0\0\0\0\0\0\0\0\0\0\0\0\0\0\x07\0\x03\0lo\0\0";
 
 // The same pair with another second byte in the peer's header, and one whose peer has another name.
-const PEER_OTHERWISE: &[u8] =
+const PEER_VARIED: &[u8] =
     b"\0\0\0\0\0\0\0\0\0\0\0\0\0\0\0\0\x2e\0\x12\0\x09\0\x01\0veth\0\0\0\0\
     \x1e\0\x02\0\x1a\0\x01\0\0\x05\0\0\0\0\0\0\0\0\0\0\0\0\0\0\x06\0\x03\0lo";
 
@@ -56,7 +56,7 @@ fn peers_in_bodies_are_judged_as_bodies(rt: HostRuntime) -> Result<(), Fail> {
     for (bytes, text, attributes) in [
         (PEER, PEER_WRITTEN, 5),
         (PEER_WRITTEN, PEER_WRITTEN, 5),
-        (PEER_OTHERWISE, PEER_WRITTEN, 5),
+        (PEER_VARIED, PEER_WRITTEN, 5),
         (CUT_INSIDE, CUT_INSIDE_WRITTEN, 8),
         (INSIDE_WRITTEN, INSIDE_WRITTEN, 8),
     ] {
@@ -82,7 +82,7 @@ fn peers_in_bodies_are_judged_as_bodies(rt: HostRuntime) -> Result<(), Fail> {
 fn peers_in_bodies_are_compared_one_level_deep(rt: HostRuntime) {
     for (left, right, is_same) in [
         (PEER, PEER_WRITTEN, true),
-        (PEER, PEER_OTHERWISE, true),
+        (PEER, PEER_VARIED, true),
         (PEER, OTHER_PEER, false),
         (CUT_INSIDE, CUT_INSIDE_WRITTEN, true),
         (INSIDE, INSIDE_WRITTEN, false),

@@ -45,11 +45,11 @@ fn attributes_of_peers_count(rt: HostRuntime) {
         (VETH_EMPTY_PORTS, (44, 3, true), None),
         (VETH_THREE, (24, 3, true), None),
     ] {
-        let told = [
+        let results = [
             counts(check_list(bytes)),
             counts(check_list_with(bytes, &LinkPeer)),
         ];
-        assert_eq!(rt; (bytes, told), (bytes, [Some(by_bytes), by_body]));
+        assert_eq!(rt; (bytes, results), (bytes, [Some(by_bytes), by_body]));
     }
 }
 
@@ -61,11 +61,11 @@ fn peers_are_compared_as_bodies(rt: HostRuntime) {
         (VETH_SHORTER, VETH_PADDED, true),
         (VETH_SHORTER, VETH_OTHER, false),
     ] {
-        let told = [
+        let results = [
             same_list_with(left, right, &LinkPeer),
             same_list(left, right),
         ];
-        assert_eq!(rt; (left, right, told), (left, right, [is_same, false]));
+        assert_eq!(rt; (left, right, results), (left, right, [is_same, false]));
     }
 }
 
@@ -85,8 +85,8 @@ fn bytes_under_a_header_are_compared(rt: HostRuntime) {
         ),
         (&BODY[..15], &BODY[..16], false),
     ] {
-        let told = [LinkPeer.same(left, right), LinkPeer.same(right, left)];
-        assert_eq!(rt; (left, right, told), (left, right, [is_same; 2]));
+        let results = [LinkPeer.same(left, right), LinkPeer.same(right, left)];
+        assert_eq!(rt; (left, right, results), (left, right, [is_same; 2]));
     }
 }
 

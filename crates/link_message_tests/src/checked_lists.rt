@@ -15,18 +15,18 @@ fn lists_are_counted(rt: HostRuntime) {
     // The longest name, whose canonical text has one NUL too many to fit.
     let mut name = [0x61u8; 65535];
     name[..4].copy_from_slice(b"\xff\xff\x01\0");
-    for (bytes, told) in [
+    for (bytes, results) in [
         (b"".as_slice(), Some((0, 0, true))),
         (XFRM, Some((32, 4, true))),
         (name.as_slice(), Some((65536, 1, false))),
         (NO_KIND, None),
     ] {
-        assert_eq!(rt; (bytes, counts(check_list(bytes))), (bytes, told));
+        assert_eq!(rt; (bytes, counts(check_list(bytes))), (bytes, results));
     }
 }
 
 // The same link without the NUL after its name, and with flag bits.
-const XFRM_OTHERWISE: &[u8] = b"\x08\0\x01\0xfrm\
+const XFRM_VARIED: &[u8] = b"\x08\0\x01\0xfrm\
     \x14\0\x02\0\x08\0\x01\x40\x02\0\0\0\x08\0\x02\x80\x0a\0\0\0";
 
 // The same link with its data in reverse order.
@@ -48,9 +48,9 @@ fn lists_are_compared(rt: HostRuntime) {
     for (left, right, is_same) in [
         (b"".as_slice(), b"".as_slice(), true),
         (b"".as_slice(), XFRM, false),
-        (XFRM, XFRM_OTHERWISE, true),
+        (XFRM, XFRM_VARIED, true),
         (XFRM, XFRM_EXCHANGED, false),
-        (XFRM, &XFRM_OTHERWISE[..8], false),
+        (XFRM, &XFRM_VARIED[..8], false),
         (UNLISTED, UNLISTED_NESTED, false),
         (TTL_FLAG, TTL_BYTE, false),
     ] {

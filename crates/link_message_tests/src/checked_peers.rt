@@ -1,6 +1,6 @@
 //! Link info under a caller's own rule of peers.
 
-ghost use Rattle.link_message_tests.specs.FrontPeers.{front_peer};
+ghost use Rattle.link_message_tests.specs.PrefixPeers.{prefix_peer};
 
 use super::values::{counts, is_refused};
 use link_info::{
@@ -11,19 +11,19 @@ use std::alloc::Global;
 use std::test::Fail;
 
 // The number of a peer's bytes that count.
-const FRONT: usize = 4;
+const PREFIX: usize = 4;
 
 // A rule of peers of which only the first four bytes count, the header of an attribute.
 #[derive(Clone, Copy)]
-struct FrontPeer;
+struct PrefixPeer;
 
-impl PeerRule for FrontPeer {
-    ghost peer = { front_peer };
+impl PeerRule for PrefixPeer {
+    ghost peer = { prefix_peer };
 
     fn rule_is_lawful(&self) {}
 
     fn check(&self, payload: &[u8]) -> Result<PeerMeasure, DecodeError> {
-        if payload.len() < FRONT {
+        if payload.len() < PREFIX {
             return Err(DecodeError::from("a peer of fewer than four bytes"));
         }
         Ok(PeerMeasure {
@@ -33,12 +33,12 @@ impl PeerRule for FrontPeer {
     }
 
     fn same(&self, left: &[u8], right: &[u8]) -> bool {
-        &left[..left.len().min(FRONT)] == &right[..right.len().min(FRONT)]
+        &left[..left.len().min(PREFIX)] == &right[..right.len().min(PREFIX)]
     }
 
     fn canonical(&self, alloc: Global, payload: &[u8]) -> Result<Vec<u8>, DecodeError> {
         self.check(payload)?;
-        Ok(Vec::from_slice(alloc, &payload[..FRONT])?)
+        Ok(Vec::from_slice(alloc, &payload[..PREFIX])?)
     }
 }
 
@@ -62,20 +62,20 @@ fn peers_are_counted_by_the_rule(rt: HostRuntime) {
         (NETKIT, Some((32, 5, true)), (36, 4, true)),
         (NETKIT_SHORT, None, (24, 3, true)),
     ] {
-        let told = [
-            counts(check_list_with(bytes, &FrontPeer)),
+        let results = [
+            counts(check_list_with(bytes, &PrefixPeer)),
             counts(check_list_with(bytes, &BytesPeer)),
             counts(check_list(bytes)),
         ];
         assert_eq!(rt;
-            (bytes, told),
+            (bytes, results),
             (bytes, [by_rule, Some(by_bytes), Some(by_bytes)])
         );
     }
 }
 
 // The first pair with other bytes after the four, and with others among them.
-const VETH_BEHIND: &[u8] = b"\x09\0\x01\0veth\0\0\0\0\x10\0\x02\0\x09\0\x01\0abcdX\0\0\0";
+const VETH_OTHER_REST: &[u8] = b"\x09\0\x01\0veth\0\0\0\0\x10\0\x02\0\x09\0\x01\0abcdX\0\0\0";
 
 const VETH_AMONG: &[u8] = b"\x09\0\x01\0veth\0\0\0\0\x10\0\x02\0\x0a\0\x01\0abcXef\0\0";
 
@@ -83,16 +83,16 @@ const VETH_AMONG: &[u8] = b"\x09\0\x01\0veth\0\0\0\0\x10\0\x02\0\x0a\0\x01\0abcX
 fn peers_are_compared_by_the_rule(rt: HostRuntime) {
     for (left, right, by_rule, by_bytes) in [
         (VETH, VETH, true, true),
-        (VETH, VETH_BEHIND, true, false),
+        (VETH, VETH_OTHER_REST, true, false),
         (VETH, VETH_AMONG, false, false),
     ] {
-        let told = [
-            same_list_with(left, right, &FrontPeer),
+        let results = [
+            same_list_with(left, right, &PrefixPeer),
             same_list_with(left, right, &BytesPeer),
             same_list(left, right),
         ];
         assert_eq!(rt;
-            (left, right, told),
+            (left, right, results),
             (left, right, [by_rule, by_bytes, by_bytes])
         );
     }
@@ -102,7 +102,7 @@ fn peers_are_compared_by_the_rule(rt: HostRuntime) {
 fn peers_are_written(rt: HostRuntime) -> Result<(), Fail> {
     let payload = b"abcdef".as_slice();
     assert!(rt; BytesPeer.canonical(rt.alloc(), payload)?.as_slice() == payload);
-    assert!(rt; FrontPeer.canonical(rt.alloc(), payload)?.as_slice() == &payload[..FRONT]);
-    assert!(rt; is_refused(FrontPeer.canonical(rt.alloc(), &payload[..3])));
+    assert!(rt; PrefixPeer.canonical(rt.alloc(), payload)?.as_slice() == &payload[..PREFIX]);
+    assert!(rt; is_refused(PrefixPeer.canonical(rt.alloc(), &payload[..3])));
     Ok(())
 }

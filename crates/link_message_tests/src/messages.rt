@@ -268,9 +268,9 @@ fn is_list_of_veth(alloc: Global, list: &[u8], peer: &[u8]) -> bool {
 
 /// Returns whether a payload alone is read as the data, under the rule of peers.
 fn are_data_of_veth(alloc: Global, payload: &[u8], peer: &[u8]) -> Result<bool, Fail> {
-    let wanted = InfoData::Veth(InfoVeth::Peer(Vec::from_slice(alloc, peer)?));
+    let expected_result = InfoData::Veth(InfoVeth::Peer(Vec::from_slice(alloc, peer)?));
     let data = InfoData::parse_with_peers(alloc, payload, &InfoKind::Veth, &LinkPeer);
-    Ok(is_value(data, wanted))
+    Ok(is_value(data, expected_result))
 }
 
 /// Returns whether a body is read as a message with only this name.
@@ -290,8 +290,8 @@ fn a_request_is_read(rt: HostRuntime) -> Result<(), Fail> {
     else {
         return Err(Fail::from("other values"));
     };
-    let wanted = [LinkExtentMask::Vf, LinkExtentMask::SkipStats];
-    assert!(rt; masks.as_slice() == wanted.as_slice());
+    let expected_result = [LinkExtentMask::Vf, LinkExtentMask::SkipStats];
+    assert!(rt; masks.as_slice() == expected_result.as_slice());
     assert!(rt; name.as_str() == "lo");
     assert!(rt; written(rt.alloc(), &message)?.as_slice() == REQUEST);
     Ok(())
@@ -348,11 +348,11 @@ fn peers_are_messages(rt: HostRuntime) -> Result<(), Fail> {
 
 #[test]
 fn attributes_are_rewritten(rt: HostRuntime) -> Result<(), Fail> {
-    for (attributes, wanted) in REWRITTEN {
+    for (attributes, expected_result) in REWRITTEN {
         let bytes = body(rt.alloc(), attributes)?;
-        let wanted = body(rt.alloc(), wanted)?;
+        let expected_result = body(rt.alloc(), expected_result)?;
         assert_eq!(rt;
-            (attributes, has_text(rt.alloc(), &bytes, &wanted)?),
+            (attributes, has_text(rt.alloc(), &bytes, &expected_result)?),
             (attributes, true)
         );
     }
@@ -361,9 +361,9 @@ fn attributes_are_rewritten(rt: HostRuntime) -> Result<(), Fail> {
 
 #[test]
 fn headers_are_rewritten(rt: HostRuntime) -> Result<(), Fail> {
-    for (header, wanted) in HEADERS {
+    for (header, expected_result) in HEADERS {
         assert_eq!(rt;
-            (header, has_text(rt.alloc(), header, wanted)?),
+            (header, has_text(rt.alloc(), header, expected_result)?),
             (header, true)
         );
     }
@@ -392,7 +392,7 @@ fn other_bodies_are_refused(rt: HostRuntime) -> Result<(), Fail> {
 }
 
 #[test]
-fn lists_without_a_port_are_told(rt: HostRuntime) -> Result<(), Fail> {
+fn lists_without_a_port_are_reported(rt: HostRuntime) -> Result<(), Fail> {
     for (attributes, is_emptied) in PORTS {
         assert_eq!(rt;
             (attributes, have_empty_ports(rt.alloc(), attributes)?),
@@ -414,8 +414,8 @@ fn a_name_of_65530_bytes_fits(rt: HostRuntime) -> Result<(), Fail> {
 #[test]
 fn a_family_is_written_as_its_number(rt: HostRuntime) -> Result<(), Fail> {
     let bytes = written_under(rt.alloc(), AddressFamily::Other(7))?;
-    let again = LinkMessage::parse(rt.alloc(), &bytes)?;
-    assert!(rt; again.header.interface_family == AddressFamily::Bridge);
-    assert!(rt; again.attributes.as_slice() == [LinkAttribute::Mtu(1500)].as_slice());
+    let value_read_back = LinkMessage::parse(rt.alloc(), &bytes)?;
+    assert!(rt; value_read_back.header.interface_family == AddressFamily::Bridge);
+    assert!(rt; value_read_back.attributes.as_slice() == [LinkAttribute::Mtu(1500)].as_slice());
     Ok(())
 }

@@ -90,7 +90,7 @@ fn raw_lists(rt: HostRuntime) -> Result<(), Fail> {
 }
 
 #[test]
-fn what_inet6_tells_is_kept(rt: HostRuntime) -> Result<(), Fail> {
+fn inet6_attributes_are_kept(rt: HostRuntime) -> Result<(), Fail> {
     let bytes = &[5, 0, 1, 0x80, 7, 0, 0, 0];
     let kept = DefaultNla::new(0x8001, [7u8].to_vec(rt.alloc())?);
     assert!(rt; is_list_of(rt.alloc(), bytes, &[LinkProtoInfoInet6::Other(kept)]));
@@ -112,7 +112,7 @@ fn are_families(alloc: Global, bytes: &[u8], values: &[AfSpecUnspec]) -> bool {
 }
 
 #[test]
-fn what_families_tell(rt: HostRuntime) -> Result<(), Fail> {
+fn attributes_of_families_are_read(rt: HostRuntime) -> Result<(), Fail> {
     let bytes = &[
         12, 0, 45, 0, 5, 0, 2, 0, 3, 0, 0, 0, 48, 0, 10, 0, 8, 0, 1, 0, 0x10, 0, 0, 0x80, 20, 0, 7,
         0, 0, 0, 0, 0, 0, 0, 0, 0, 0, 0, 0, 0, 0, 0, 0, 1, 8, 0, 9, 0, 0xdc, 5, 0, 0, 5, 0, 8, 0,
@@ -169,7 +169,7 @@ fn first_wrong<'a>(
 }
 
 #[test]
-fn rows_go_by_the_family(rt: HostRuntime) -> Result<(), Fail> {
+fn rows_depend_on_the_family(rt: HostRuntime) -> Result<(), Fail> {
     let families = vec![in rt.alloc(); mctp(rt.alloc())?]?;
     let bytes = [255u8].to_vec(rt.alloc())?;
     let info = kept(rt.alloc())?;

@@ -12,13 +12,13 @@ use link_message::{
 use link_message_types::RecordBuffer;
 
 // The numbers of a record, each of which is its index.
-const PLACES: [u64; 25] = [
+const INDEXES: [u64; 25] = [
     0, 1, 2, 3, 4, 5, 6, 7, 8, 9, 10, 11, 12, 13, 14, 15, 16, 17, 18, 19, 20, 21, 22, 23, 24,
 ];
 
 #[test]
 fn statistics_have_the_kernels_names(rt: HostRuntime) {
-    let stats: Stats64 = Values { values: PLACES };
+    let stats: Stats64 = Values { values: INDEXES };
     let named = [
         stats.rx_packets(),
         stats.tx_packets(),
@@ -46,7 +46,7 @@ fn statistics_have_the_kernels_names(rt: HostRuntime) {
         stats.rx_nohandler(),
         stats.rx_otherhost_dropped(),
     ];
-    assert!(rt; named == PLACES);
+    assert!(rt; named == INDEXES);
 }
 
 // The indexes of settings and numbers, in the order of the kernel's headers.
@@ -200,9 +200,9 @@ const ICMP6_STATS: [usize; 7] = [
 ];
 
 /// Returns whether each index is one more than that before it, from 0 on.
-fn are_in_order(places: &[usize]) -> bool {
-    for (at, place) in places.iter().enumerate() {
-        if at != *place {
+fn are_in_order(indexes: &[usize]) -> bool {
+    for (at, index) in indexes.iter().enumerate() {
+        if at != *index {
             return false;
         }
     }
@@ -212,14 +212,14 @@ fn are_in_order(places: &[usize]) -> bool {
 /// `IPV4_DEVCONF_*` of linux/ip.h, `DEVCONF_*` of linux/ipv6.h, `IPSTATS_MIB_*` and `ICMP6_MIB_*`
 /// of linux/snmp.h.
 #[test]
-fn settings_stand_where_the_kernel_has_them(rt: HostRuntime) {
-    for places in [
+fn settings_have_the_kernels_indexes(rt: HostRuntime) {
+    for indexes in [
         INET.as_slice(),
         INET6.as_slice(),
         INET6_STATS.as_slice(),
         ICMP6_STATS.as_slice(),
     ] {
-        assert!(rt; are_in_order(places));
+        assert!(rt; are_in_order(indexes));
     }
 }
 

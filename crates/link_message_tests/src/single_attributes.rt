@@ -27,14 +27,14 @@ const FUNCTION: [u8; 28] = [
 fn virtual_functions_are_read(rt: HostRuntime) -> Result<(), Fail> {
     let alloc = rt.alloc();
     let vlan = &NlaBuffer::new_checked(UNLISTED.as_slice())?;
-    let wanted = VfVlan::Other(unlisted(alloc)?);
-    assert!(rt; is_value(VfVlan::parse(alloc, vlan), wanted));
+    let expected_result = VfVlan::Other(unlisted(alloc)?);
+    assert!(rt; is_value(VfVlan::parse(alloc, vlan), expected_result));
     let info = &NlaBuffer::new_checked(&FUNCTION[4..])?;
-    let wanted = vlan_list(alloc)?;
-    assert!(rt; is_value(VfInfo::parse(alloc, info), wanted));
+    let expected_result = vlan_list(alloc)?;
+    assert!(rt; is_value(VfInfo::parse(alloc, info), expected_result));
     let function = &NlaBuffer::new_checked(FUNCTION.as_slice())?;
-    let wanted = virtual_function(alloc)?;
-    assert!(rt; is_value(LinkVfInfo::parse(alloc, function), wanted));
+    let expected_result = virtual_function(alloc)?;
+    assert!(rt; is_value(LinkVfInfo::parse(alloc, function), expected_result));
     Ok(())
 }
 
@@ -43,8 +43,8 @@ fn ports_are_read(rt: HostRuntime) -> Result<(), Fail> {
     let alloc = rt.alloc();
     let bytes = [12, 0, 1, 0, 5, 0, 99, 0, 7, 0, 0, 0];
     let port = &NlaBuffer::new_checked(bytes.as_slice())?;
-    let wanted = LinkVfPort(vec![in alloc; VfPort::Other(unlisted(alloc)?)]?);
-    assert!(rt; is_value(LinkVfPort::parse(alloc, port), wanted));
+    let expected_result = LinkVfPort(vec![in alloc; VfPort::Other(unlisted(alloc)?)]?);
+    assert!(rt; is_value(LinkVfPort::parse(alloc, port), expected_result));
     Ok(())
 }
 
@@ -61,24 +61,24 @@ fn are_read(alloc: Global, bytes: &[u8]) -> Result<[bool; 2], DecodeError> {
 fn other_kinds_than_one_are_refused(rt: HostRuntime) -> Result<(), Fail> {
     // The same attributes, of the kinds 1, 0, 2 and 257.
     for (low, high, is_read) in [(1, 0, true), (0, 0, false), (2, 0, false), (1, 1, false)] {
-        let told = are_read(rt.alloc(), &[8, 0, low, high, 4, 0, 99, 0])?;
-        assert_eq!(rt; (low, high, told), (low, high, [is_read; 2]));
+        let results = are_read(rt.alloc(), &[8, 0, low, high, 4, 0, 99, 0])?;
+        assert_eq!(rt; (low, high, results), (low, high, [is_read; 2]));
     }
     Ok(())
 }
 
 #[test]
-fn what_families_tell_is_read(rt: HostRuntime) -> Result<(), Fail> {
+fn single_attributes_of_families_are_read(rt: HostRuntime) -> Result<(), Fail> {
     let alloc = rt.alloc();
     let buffer = &NlaBuffer::new_checked(UNLISTED.as_slice())?;
-    let wanted = AfSpecInet::Other(unlisted(alloc)?);
-    assert!(rt; is_value(AfSpecInet::parse(alloc, buffer), wanted));
-    let wanted = AfSpecInet6::Other(unlisted(alloc)?);
-    assert!(rt; is_value(AfSpecInet6::parse(alloc, buffer), wanted));
+    let expected_result = AfSpecInet::Other(unlisted(alloc)?);
+    assert!(rt; is_value(AfSpecInet::parse(alloc, buffer), expected_result));
+    let expected_result = AfSpecInet6::Other(unlisted(alloc)?);
+    assert!(rt; is_value(AfSpecInet6::parse(alloc, buffer), expected_result));
     // `AF_MCTP` with `IFLA_MCTP_PHYS_BINDING`, which is USB.
     let bytes = [12, 0, 45, 0, 5, 0, 2, 0, 3, 0, 0, 0];
     let buffer = &NlaBuffer::new_checked(bytes.as_slice())?;
-    let wanted = mctp(alloc)?;
-    assert!(rt; is_value(AfSpecUnspec::parse(alloc, buffer), wanted));
+    let expected_result = mctp(alloc)?;
+    assert!(rt; is_value(AfSpecUnspec::parse(alloc, buffer), expected_result));
     Ok(())
 }

@@ -49,11 +49,11 @@ fn lists_are_rewritten(rt: HostRuntime) {
 
 #[test]
 fn a_list_of_vlans_is_read(rt: HostRuntime) -> Result<(), Fail> {
-    let wanted = vec![in rt.alloc(); virtual_function(rt.alloc())?]?;
+    let expected_result = vec![in rt.alloc(); virtual_function(rt.alloc())?]?;
     assert!(rt;
         is_value(
             parse_entries(rt.alloc(), &LinkVfInfoReader, &FUNCTION),
-            wanted
+            expected_result
         )
     );
     Ok(())

@@ -71,12 +71,12 @@ joined-other n = other_by n (n == 0) refl
 
 -- The bits of a number are those below the eighth and those from it on.
 part_bits : (n i : ℕ) → n < 2 ^ 32 → bit_at (bit_or (bit_and n 255) (bit_and n 0xffffff00)) i ≡ bit_at n i
-part_bits n i h = by_place (cases_lt i 8) (cases_lt i 32)
+part_bits n i h = by_index (cases_lt i 8) (cases_lt i 32)
   where
-    by_place : (i < 8) ⊎ (8 ≤ i) → (i < 32) ⊎ (32 ≤ i) → bit_at (bit_or (bit_and n 255) (bit_and n 0xffffff00)) i ≡ bit_at n i
-    by_place (inl p) r = omega (arith, bit_at_or (bit_and n 255) (bit_and n 0xffffff00) i, bit_at_and n 255 i, bit_at_and n 0xffffff00 i, bit_at_ones 8 i p, bit_at_mask_below 8 32 i p, bit_at-lt n i)
-    by_place (inr q) (inl p) = omega (arith, bit_at_or (bit_and n 255) (bit_and n 0xffffff00) i, bit_at_and n 255 i, bit_at_and n 0xffffff00 i, bit_at_ones_above 8 i q, bit_at_mask_inside 8 32 i q p, bit_at-lt n i)
-    by_place (inr q) (inr r) = omega (arith, bit_at_or (bit_and n 255) (bit_and n 0xffffff00) i, bit_at_and n 255 i, bit_at_and n 0xffffff00 i, bit_at_above n 32 i h r)
+    by_index : (i < 8) ⊎ (8 ≤ i) → (i < 32) ⊎ (32 ≤ i) → bit_at (bit_or (bit_and n 255) (bit_and n 0xffffff00)) i ≡ bit_at n i
+    by_index (inl p) r = omega (arith, bit_at_or (bit_and n 255) (bit_and n 0xffffff00) i, bit_at_and n 255 i, bit_at_and n 0xffffff00 i, bit_at_ones 8 i p, bit_at_mask_below 8 32 i p, bit_at-lt n i)
+    by_index (inr q) (inl p) = omega (arith, bit_at_or (bit_and n 255) (bit_and n 0xffffff00) i, bit_at_and n 255 i, bit_at_and n 0xffffff00 i, bit_at_ones_above 8 i q, bit_at_mask_inside 8 32 i q p, bit_at-lt n i)
+    by_index (inr q) (inr r) = omega (arith, bit_at_or (bit_and n 255) (bit_and n 0xffffff00) i, bit_at_and n 255 i, bit_at_and n 0xffffff00 i, bit_at_above n 32 i h r)
 
 two_parts : (n : ℕ) → n < 2 ^ 32 → bit_or (bit_and n 255) (bit_and n 0xffffff00) ≡ n
 two_parts n h = same_from_bits _ _ (λ i. part_bits n i h)

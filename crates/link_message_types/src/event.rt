@@ -81,8 +81,8 @@ impl Emitable for LinkEvent {
 
     #[tactic(auto, using(netlink_packet_core_grammar::proofs::Sizes::sizes))]
     fn emit(&self, buffer: &mut [u8]) {
-        let (front, _) = buffer.split_at_mut(LINK_EVENT_LEN);
-        fill_u32(front, u32::from(*self));
+        let (prefix, _) = buffer.split_at_mut(LINK_EVENT_LEN);
+        fill_u32(prefix, u32::from(*self));
     }
 }
 

@@ -25,8 +25,8 @@ impl Emitable for LinkPhysId {
     }
 
     fn emit(&self, buffer: &mut [u8]) {
-        let (front, _) = buffer.split_at_mut(self.bytes.len());
-        front.copy_from_slice(self.bytes.as_slice());
+        let (prefix, _) = buffer.split_at_mut(self.bytes.len());
+        prefix.copy_from_slice(self.bytes.as_slice());
     }
 }
 

@@ -40,17 +40,17 @@ impl<R, const N: usize> RecordBuffer<R, N> {
     }
 
     /// Returns a buffer of the first `N` of some bytes; `None` if there are fewer.
-    pub fn read_front(bytes: &[u8]) -> Option<Self>
+    pub fn read_prefix(bytes: &[u8]) -> Option<Self>
         ensures size { IsSome result ↔ (N ≤ length bytes.now) }
         ensures some { IfSome result (λ b. record_bytes b ≡ take N bytes.now) }
     {
         if bytes.len() < N {
             return None;
         }
-        let mut front = [0; N];
-        front.copy_from_slice(&bytes[..N]);
+        let mut prefix = [0; N];
+        prefix.copy_from_slice(&bytes[..N]);
         Some(RecordBuffer {
-            bytes: front,
+            bytes: prefix,
             record: PhantomData,
         })
     }

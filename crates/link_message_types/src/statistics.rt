@@ -11,9 +11,9 @@ pub trait LinkStatistics {
     ghost counters: { Self → List Self.Counter };
 
     /// Returns the counter at an index, counted from 0.
-    fn counter(&self, place: usize) -> Self::Counter
-        requires { place < 24 }
-        ensures { slice_get (counters self.now) place ≡ Some result };
+    fn counter(&self, index: usize) -> Self::Counter
+        requires { index < 24 }
+        ensures { slice_get (counters self.now) index ≡ Some result };
 
     /// Good packets received.
     fn rx_packets(&self) -> Self::Counter

@@ -7,48 +7,48 @@ use Rattle.attribute_tables_grammar.specs.LookUps.{line_at}
 use Rattle.attribute_tables_grammar.specs.Tables.{Payload, Table}
 use Rattle.link_tables.specs.declared.rows.Row.{Row}
 use Rattle.link_tables.specs.declared.rows.Row.TheVariants.{Listed, Unlisted}
-use Rattle.link_tables.specs.Rows.{kind_of, stand_from, are_dense, build, line_of}
+use Rattle.link_tables.specs.Rows.{kind_of, are_consecutive, are_dense, build, line_of}
 
 module _ (tables : ℕ → Table) (info : Payload) where
   -- removing the first of consecutive rows doesn't change the entries of other kinds
-  behind_first : (r : Row) (rs : List Row) (n k : ℕ) → (kind_of r ≡ k → ⊥) → line_at (build tables info rs) k ≡ line_at (build tables info (r ∷ rs)) k
-  behind_first (Listed m b held) rs n k q = simp (ne_eqb k m (λ e. q (sym e)))
-  behind_first (Unlisted m) rs n k q = refl
+  following_first : (r : Row) (rs : List Row) (n k : ℕ) → (kind_of r ≡ k → ⊥) → line_at (build tables info rs) k ≡ line_at (build tables info (r ∷ rs)) k
+  following_first (Listed m b held) rs n k q = simp (ne_eqb k m (λ e. q (sym e)))
+  following_first (Unlisted m) rs n k q = refl
 
   -- kinds below the first row or above the last one aren't listed
-  outside : (rs : List Row) (n k : ℕ) → stand_from n rs ≡ true → (n ≤ k → n + length rs ≤ k) → None ≡ line_at (build tables info rs) k
+  outside : (rs : List Row) (n k : ℕ) → are_consecutive n rs ≡ true → (n ≤ k → n + length rs ≤ k) → None ≡ line_at (build tables info rs) k
   outside [] n k h l = refl
   outside (r ∷ rs) n k h l =
-      let a = and_parts (kind_of r == n) (stand_from (suc n) rs) h in
+      let a = and_parts (kind_of r == n) (are_consecutive (suc n) rs) h in
       let e = eqb-true (kind_of r) n a.0 in
-      outside rs (suc n) k a.1 (λ m. omega arith) ∙ behind_first r rs n k (λ x. omega arith)
+      outside rs (suc n) k a.1 (λ m. omega arith) ∙ following_first r rs n k (λ x. omega arith)
 
-  first : (r : Row) (rs : List Row) (n k : ℕ) → stand_from (suc n) rs ≡ true → kind_of r ≡ k → k ≡ n → line_of tables info r ≡ line_at (build tables info (r ∷ rs)) k
+  first : (r : Row) (rs : List Row) (n k : ℕ) → are_consecutive (suc n) rs ≡ true → kind_of r ≡ k → k ≡ n → line_of tables info r ≡ line_at (build tables info (r ∷ rs)) k
   first (Listed m b held) rs n k h e f = simp (eq-eqb k m (sym e))
   first (Unlisted m) rs n k h e f = outside rs (suc n) k h (λ l. omega arith)
 
   -- the row at index j is that of the kind n + j
-  placed : (rs : List Row) (n j k : ℕ) (d : Row) → stand_from n rs ≡ true → j < length rs → k ≡ n + j → line_of tables info (get_or rs j d) ≡ line_at (build tables info rs) k
-  placed [] n j k d h l e = absurd (omega arith)
-  placed (r ∷ rs) n zero k d h l e =
-      let a = and_parts (kind_of r == n) (stand_from (suc n) rs) h in
+  at_index : (rs : List Row) (n j k : ℕ) (d : Row) → are_consecutive n rs ≡ true → j < length rs → k ≡ n + j → line_of tables info (get_or rs j d) ≡ line_at (build tables info rs) k
+  at_index [] n j k d h l e = absurd (omega arith)
+  at_index (r ∷ rs) n zero k d h l e =
+      let a = and_parts (kind_of r == n) (are_consecutive (suc n) rs) h in
       let f = eqb-true (kind_of r) n a.0 in
       first r rs n k a.1 (omega arith) (omega arith)
-  placed (r ∷ rs) n (suc j) k d h l e =
-      let a = and_parts (kind_of r == n) (stand_from (suc n) rs) h in
+  at_index (r ∷ rs) n (suc j) k d h l e =
+      let a = and_parts (kind_of r == n) (are_consecutive (suc n) rs) h in
       let f = eqb-true (kind_of r) n a.0 in
-      placed rs (suc n) j k d a.1 (omega arith) (omega arith) ∙ behind_first r rs n k (λ x. omega arith)
+      at_index rs (suc n) j k d a.1 (omega arith) (omega arith) ∙ following_first r rs n k (λ x. omega arith)
 
   -- if the first row's kind is n
-  from_first : (rs : List Row) (d : Row) (n : ℕ) → n ≡ kind_of (get_or rs 0 d) → are_dense rs ≡ true → stand_from n rs ≡ true
+  from_first : (rs : List Row) (d : Row) (n : ℕ) → n ≡ kind_of (get_or rs 0 d) → are_dense rs ≡ true → are_consecutive n rs ≡ true
   from_first [] d n e h = refl
-  from_first (r ∷ rs) d n e h = ap (λ m. stand_from m (r ∷ rs)) e ∙ ap (λ b. b && stand_from (suc (kind_of r)) rs) (eq-eqb (kind_of r) (kind_of r) refl) ∙ h
+  from_first (r ∷ rs) d n e h = ap (λ m. are_consecutive m (r ∷ rs)) e ∙ ap (λ b. b && are_consecutive (suc (kind_of r)) rs) (eq-eqb (kind_of r) (kind_of r) refl) ∙ h
 
   pub line_outside : (rs : List Row) (d : Row) (n k : ℕ) → n ≡ kind_of (get_or rs 0 d) → are_dense rs ≡ true → (n ≤ k → n + length rs ≤ k) → None ≡ line_at (build tables info rs) k
   line_outside rs d n k e h l = outside rs n k (from_first rs d n e h) l
 
-  pub line_placed : (rs : List Row) (d : Row) (n k : ℕ) → n ≡ kind_of (get_or rs 0 d) → are_dense rs ≡ true → n ≤ k → k - n < length rs → line_of tables info (get_or rs (k - n) d) ≡ line_at (build tables info rs) k
-  line_placed rs d n k e h m l = placed rs n (k - n) k d (from_first rs d n e h) l (omega arith)
+  pub line_at_index : (rs : List Row) (d : Row) (n k : ℕ) → n ≡ kind_of (get_or rs 0 d) → are_dense rs ≡ true → n ≤ k → k - n < length rs → line_of tables info (get_or rs (k - n) d) ≡ line_at (build tables info rs) k
+  line_at_index rs d n k e h m l = at_index rs n (k - n) k d (from_first rs d n e h) l (omega arith)
 
 -- a property of each list, and of the empty one, is one of the list at any index
 pub all_at : {A : Type 0} (f : A → Bool) (xs : List A) (n : ℕ) (d : A) → list_all f xs ≡ true → f d ≡ true → f (get_or xs n d) ≡ true

@@ -6,9 +6,9 @@ use Rattle.attribute_tables_grammar.specs.Lists as lists
 use Rattle.attribute_tables_grammar.specs.LookUps.{Line}
 use Rattle.attribute_tables_grammar.specs.Tables.{Payload, Payload.plain, Payload.peer, Payload.list, Table, Table.end, Table.row}
 use Rattle.link_tables.specs.declared.rows.Shape.{Shape}
-use Rattle.link_tables.specs.declared.rows.Shape.TheVariants.{Exact, Either, AtMost, NonzeroByte, OneByte, TruthOfFour, Presence, Text, Raw, Never, FixedRecord, IdAndTruth, Resized}
+use Rattle.link_tables.specs.declared.rows.Shape.TheVariants.{Exact, Either, AtMost, NonzeroByte, OneByte, BooleanOfFour, Presence, Text, Raw, Never, FixedRecord, IdAndBoolean, Resized}
 use Rattle.link_tables.specs.declared.rows.Form.{Form}
-use Rattle.link_tables.specs.declared.rows.Form.TheVariants.{Any, NonEmpty, OfKindOne, Ports, FirstAlone}
+use Rattle.link_tables.specs.declared.rows.Form.TheVariants.{Any, NonEmpty, OfKindOne, Ports, FirstOnly}
 use Rattle.link_tables.specs.declared.rows.Held.{Held}
 use Rattle.link_tables.specs.declared.rows.Held.TheVariants.{Plain, Peer, List as HeldList, LinkInfo}
 use Rattle.link_tables.specs.declared.rows.Row.{Row}
@@ -21,13 +21,13 @@ shape_of (Either m n) = shapes.either m n
 shape_of (AtMost n) = shapes.at_most n
 shape_of NonzeroByte = shapes.nonzero_byte
 shape_of OneByte = shapes.one_byte
-shape_of TruthOfFour = shapes.truth_of_four
+shape_of BooleanOfFour = shapes.boolean_of_four
 shape_of Presence = shapes.presence
 shape_of Text = shapes.text
 shape_of Raw = shapes.raw
 shape_of Never = shapes.never
 shape_of (FixedRecord m n) = shapes.fixed_record m n
-shape_of IdAndTruth = shapes.id_and_truth
+shape_of IdAndBoolean = shapes.id_and_boolean
 shape_of (Resized n) = shapes.resized n
 
 -- The grammar's list kind for a list kind in code.
@@ -36,7 +36,7 @@ form_of Any = lists.any
 form_of NonEmpty = lists.non_empty
 form_of OfKindOne = lists.of_kind_one
 form_of Ports = lists.ports
-form_of FirstAlone = lists.first_alone
+form_of FirstOnly = lists.first_only
 
 -- The grammar's payload for a payload in code, given the tables by number and the payload of link info.
 abbrev pub payload_of : (ℕ → Table) → Payload → Held → Payload
@@ -62,14 +62,14 @@ kind_of (Listed k n h) = k
 kind_of (Unlisted k) = k
 
 -- The rows are those of the kinds from n on, without a gap.
-abbrev pub stand_from : ℕ → List Row → Bool
-stand_from n [] = true
-stand_from n (r ∷ rs) = (kind_of r == n) && stand_from (suc n) rs
+abbrev pub are_consecutive : ℕ → List Row → Bool
+are_consecutive n [] = true
+are_consecutive n (r ∷ rs) = (kind_of r == n) && are_consecutive (suc n) rs
 
 -- The rows are those of the kinds from the first row's on, without a gap.
 abbrev pub are_dense : List Row → Bool
 are_dense [] = true
-are_dense (r ∷ rs) = stand_from (suc (kind_of r)) rs
+are_dense (r ∷ rs) = are_consecutive (suc (kind_of r)) rs
 
 -- The rows of several tables, from borrowed slices.
 abbrev pub lists_of : List (Bor (List Row)) → List (List Row)

@@ -322,8 +322,8 @@ macro_rules! netkit {
             3, b"IFLA_NETKIT_POLICY", Exact(4), Number(NETKIT_POLICY);
             4, b"IFLA_NETKIT_PEER_POLICY", Exact(4), Number(NETKIT_POLICY);
             5, b"IFLA_NETKIT_MODE", Exact(4), Number(NETKIT_MODE);
-            6, b"IFLA_NETKIT_SCRUB", TruthOfFour, Number(NETKIT_SCRUB);
-            7, b"IFLA_NETKIT_PEER_SCRUB", TruthOfFour, Number(NETKIT_SCRUB);
+            6, b"IFLA_NETKIT_SCRUB", BooleanOfFour, Number(NETKIT_SCRUB);
+            7, b"IFLA_NETKIT_PEER_SCRUB", BooleanOfFour, Number(NETKIT_SCRUB);
             8, b"IFLA_NETKIT_HEADROOM", Exact(2), Number(PLAIN);
             9, b"IFLA_NETKIT_TAILROOM", Exact(2), Number(PLAIN);
         }

@@ -9,7 +9,7 @@ ghost use Rattle.link_tables.specs.Tables.{held_rule};
 ghost use Rattle.link_tables.specs.declared.kinds.TheConstants.{KINDS, PORT_KINDS};
 
 use crate::names::{NameRow, held_by_name};
-use crate::rows::Form::{Any, FirstAlone};
+use crate::rows::Form::{Any, FirstOnly};
 use crate::rows::Held;
 use crate::rows::Held::List;
 use crate::table::{
@@ -56,8 +56,8 @@ pub const KINDS: [NameRow; 38] = [
     NameRow(7, *b"macvlan\0\0\0\0\0", List(Any, MACVLAN)),
     NameRow(7, *b"macvtap\0\0\0\0\0", List(Any, MACVLAN)),
     NameRow(6, *b"netkit\0\0\0\0\0\0", List(Any, NETKIT)),
-    NameRow(4, *b"veth\0\0\0\0\0\0\0\0", List(FirstAlone, VETH)),
-    NameRow(5, *b"vxcan\0\0\0\0\0\0\0", List(FirstAlone, VXCAN)),
+    NameRow(4, *b"veth\0\0\0\0\0\0\0\0", List(FirstOnly, VETH)),
+    NameRow(5, *b"vxcan\0\0\0\0\0\0\0", List(FirstOnly, VXCAN)),
 ];
 
 /// The payload of port data, by the name of the port kind.

@@ -152,12 +152,12 @@ macro_rules! vf {
             1, b"IFLA_VF_MAC", FixedRecord(36, 36), Fields(VF_MAC);
             2, b"IFLA_VF_VLAN", FixedRecord(12, 12), Fields(VF_VLAN);
             3, b"IFLA_VF_TX_RATE", FixedRecord(8, 8), Fields(VF_TX_RATE);
-            4, b"IFLA_VF_SPOOFCHK", IdAndTruth, Fields(VF_SETTING);
+            4, b"IFLA_VF_SPOOFCHK", IdAndBoolean, Fields(VF_SETTING);
             5, b"IFLA_VF_LINK_STATE", FixedRecord(8, 8), Fields(VF_LINK_STATE);
             6, b"IFLA_VF_RATE", FixedRecord(12, 12), Fields(VF_RATE);
-            7, b"IFLA_VF_RSS_QUERY_EN", IdAndTruth, Fields(VF_SETTING);
+            7, b"IFLA_VF_RSS_QUERY_EN", IdAndBoolean, Fields(VF_SETTING);
             8 -> b"IFLA_VF_STATS", List(Any, VF_STATS);
-            9, b"IFLA_VF_TRUST", IdAndTruth, Fields(VF_SETTING);
+            9, b"IFLA_VF_TRUST", IdAndBoolean, Fields(VF_SETTING);
             10; 11;
             12 -> b"IFLA_VF_VLAN_LIST", List(Any, VF_VLANS);
             13, b"IFLA_VF_BROADCAST", FixedRecord(32, 32), Fields(VF_BROADCAST);

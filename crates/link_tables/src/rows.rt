@@ -21,7 +21,7 @@ pub enum Shape {
     /// A boolean of one byte: true if and only if it is 1.
     OneByte,
     /// A boolean of 4 bytes: false if and only if the number is 0.
-    TruthOfFour,
+    BooleanOfFour,
     /// A flag that is set by being present, whatever its bytes.
     Presence,
     /// UTF-8, with or without a last NUL.
@@ -32,7 +32,7 @@ pub enum Shape {
     /// At least m bytes, of which the first m count; written as n bytes.
     FixedRecord(u16, u16),
     /// 4 bytes, and a boolean of 4 bytes.
-    IdAndTruth,
+    IdAndBoolean,
     /// Any number of bytes, cut or filled up with zeros to n.
     Resized(u16),
 }
@@ -48,7 +48,7 @@ pub enum Form {
     /// At least one attribute; those of kind 1 are kept, and if there is none, nothing is written.
     Ports,
     /// One attribute, followed by any bytes.
-    FirstAlone,
+    FirstOnly,
 }
 
 /// The payload of a row: bytes, a peer, a list of a table's attributes, or link info.
@@ -94,9 +94,9 @@ pub fn look_up(rows: &[Row], kind: u16) -> Row
     if kind < first {
         return Row::Unlisted(kind);
     }
-    let place = (kind - first) as usize;
-    if place < rows.len() {
-        rows[place]
+    let index = (kind - first) as usize;
+    if index < rows.len() {
+        rows[index]
     } else {
         Row::Unlisted(kind)
     }

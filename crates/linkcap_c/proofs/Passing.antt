@@ -9,12 +9,12 @@ use Rattle.link_capture_grammar.specs.Body.{link_body}
 use Rattle.link_capture_grammar.specs.declared.fault.CaptureFault.{CaptureFault}
 use Rattle.link_capture_grammar.specs.declared.fault.FaultKind.{FaultKind}
 use Rattle.link_capture_grammar.specs.declared.fault.FaultKind.TheVariants.{Cut}
-use Rattle.link_capture_grammar.specs.Captures.{first_frame, first_frame_under, first_fault, fault_after_under, texts, texts_after_under, raised, reach, reach_by, IsLegal}
-use Rattle.link_capture_grammar.specs.Laws.{CapturesGoByFrames, FramesStandAlone, JoinedFaults, JoinedLegal, JoinedTexts}
+use Rattle.link_capture_grammar.specs.Captures.{first_frame, first_frame_under, first_fault, fault_after_under, texts, texts_after_under, shifted, reach, reach_by, IsLegal}
+use Rattle.link_capture_grammar.specs.Laws.{CapturesUnfoldByFrames, FramesAreIndependent, JoinedFaults, JoinedLegal, JoinedTexts}
 use Rattle.link_lines.specs.declared.options.LineOptions.{LineOptions}
-use Rattle.link_lines_texts.specs.Laws.{LinesAreJoined, LinesGoByFrames}
+use Rattle.link_lines_texts.specs.Laws.{LinesAreJoined, LinesUnfoldByFrames}
 use Rattle.link_lines.specs.Options.{choice_of}
-use Rattle.linkcap_c.specs.Pieces.{Form, form_of, IsUsed, IsEnded, IsFaulty, IsWhole, GoesOn, Fails, Stops}
+use Rattle.linkcap_c.specs.Pieces.{Form, form_of, IsUsed, IsEnded, IsFaulty, IsWhole, Continues, Fails, Stops}
 use Rattle.linkcap_c.specs.declared.pieces.Stop.{Stop}
 
 -- of nothing
@@ -35,7 +35,7 @@ pub record IsForm (limit : ℕ) (form : Form) : Type 0 where
   pub none : form [] ≡ []
   pub joined : (s t : List ℕ) → form (texts limit s ++ t) ≡ form (texts limit s) ++ form t
 
-pub is_form : LinesGoByFrames → LinesAreJoined → (limit : ℕ) → limit < 2 ^ 32 → (o : Option LineOptions) → IsForm limit (form_of o)
+pub is_form : LinesUnfoldByFrames → LinesAreJoined → (limit : ℕ) → limit < 2 ^ 32 → (o : Option LineOptions) → IsForm limit (form_of o)
 is_form steps joins limit l None = record { none = refl; joined = λ s t. refl }
 is_form steps joins limit l (Some o) = record { none = steps.none (choice_of o) [] refl; joined = λ s t. joins (choice_of o) limit s t l }
 
@@ -79,7 +79,7 @@ pub held_none : (form : Form) (limit : ℕ) (last : Bool) (c init : List ℕ) �
 held_none form limit last c init f = record { walked = used_none form limit last c f; room = omega arith; length = refl; held = ap (λ x. x ++ init) (sym (ap form (texts_nil limit) ∙ f.none)) }
 
 -- a frame further
-module _ (go : CapturesGoByFrames link_body) (legals : JoinedLegal link_body) (joins : JoinedTexts link_body) (form : Form) (limit : ℕ) (shaped : IsForm limit form) where
+module _ (go : CapturesUnfoldByFrames link_body) (legals : JoinedLegal link_body) (joins : JoinedTexts link_body) (form : Form) (limit : ℕ) (shaped : IsForm limit form) where
   front : (c : List ℕ) (used read n : ℕ) → read ≡ min (nla_align n) (length (drop used c)) → take (used + read) c ≡ take used c ++ take (nla_align n) (drop used c)
   front c used read n e =
       take-add used read c ∙ ap (λ x. take used c ++ x) (ap (λ k. take k (drop used c)) e ∙ take_less (nla_align n) (drop used c) (le_or_le (nla_align n) (length (drop used c))))
@@ -89,8 +89,8 @@ module _ (go : CapturesGoByFrames link_body) (legals : JoinedLegal link_body) (j
       ap (first_fault limit) (front c used read n e)
       ∙ (legals limit (take used c) (take (nla_align n) (drop used c)) u.legal (ap (λ k. k % 4) (length_front used c u.inside) ∙ starts form limit last c used written u l)).1 (go.one_legal limit (drop used c) (n, text) h)
 
-  pub one_text : (last : Bool) (c : List ℕ) (used written read n : ℕ) (text : List ℕ) → IsUsed form limit last c used written → used < length c → first_frame limit (drop used c) ≡ Ok (n, text) → read ≡ min (nla_align n) (length (drop used c)) → form (texts limit (take (used + read) c)) ≡ form (texts limit (take used c)) ++ form text
-  one_text last c used written read n text u l h e =
+  pub same_implies_equal_text : (last : Bool) (c : List ℕ) (used written read n : ℕ) (text : List ℕ) → IsUsed form limit last c used written → used < length c → first_frame limit (drop used c) ≡ Ok (n, text) → read ≡ min (nla_align n) (length (drop used c)) → form (texts limit (take (used + read) c)) ≡ form (texts limit (take used c)) ++ form text
+  same_implies_equal_text last c used written read n text u l h e =
       ap (λ x. form (texts limit x)) (front c used read n e)
       ∙ ap form (joins limit (take used c) (take (nla_align n) (drop used c)) u.legal (ap (λ k. k % 4) (length_front used c u.inside) ∙ starts form limit last c used written u l)
       ∙ ap (λ x. texts limit (take used c) ++ x) (go.one_frame_text limit (drop used c) (n, text) h))
@@ -105,7 +105,7 @@ module _ (go : CapturesGoByFrames link_body) (legals : JoinedLegal link_body) (j
         inside = omega (arith, e, d, u.inside);
         legal = one_legal last c used written read n text u l h e;
         padded = padded_one last (length c) used read n s p (reaches (length c) used read (nla_align n) e' u.inside);
-        written = ap (λ k. k + wrote) u.written ∙ ap (λ k. length (form (texts limit (take used c))) + k) w ∙ sym (length-append (form (texts limit (take used c))) (form text)) ∙ ap length (sym (one_text last c used written read n text u l h e));
+        written = ap (λ k. k + wrote) u.written ∙ ap (λ k. length (form (texts limit (take used c))) + k) w ∙ sym (length-append (form (texts limit (take used c))) (form text)) ∙ ap length (sym (same_implies_equal_text last c used written read n text u l h e));
       }
     where
       padded_one : (last : Bool) (size used read n : ℕ) → used % 4 ≡ 0 → (last ≡ false → read ≡ nla_align n) → (read ≡ nla_align n) ⊎ (used + read ≡ size) → ((used + read) % 4 ≡ 0) ⊎ ((last ≡ true) × (used + read ≡ size))
@@ -113,13 +113,13 @@ module _ (go : CapturesGoByFrames link_body) (legals : JoinedLegal link_body) (j
       padded_one true size used read n s p (inr h) = inr (refl, h)
       padded_one false size used read n s p h = inl (let z = p refl in omega (arith, z, s))
 
-  pub held_one : (last : Bool) (c init out rest place new : List ℕ) (used size read wrote n : ℕ) (text : List ℕ) → Held form limit last c init out used size → used < length c → rest ≡ drop used c → place ≡ drop size out → first_frame limit rest ≡ Ok (n, text) → wrote ≡ length (form text) → read ≡ min (nla_align n) (length rest) → new ≡ form text ++ drop wrote place → (last ≡ false → read ≡ nla_align n) → wrote ≤ length place → Held form limit last c init (put_mid size (length out - size) out new) (used + read) (size + wrote)
-  held_one last c init out rest place new used size read wrote n text h l r p f w e t a b =
+  pub held_one : (last : Bool) (c init out rest space new : List ℕ) (used size read wrote n : ℕ) (text : List ℕ) → Held form limit last c init out used size → used < length c → rest ≡ drop used c → space ≡ drop size out → first_frame limit rest ≡ Ok (n, text) → wrote ≡ length (form text) → read ≡ min (nla_align n) (length rest) → new ≡ form text ++ drop wrote space → (last ≡ false → read ≡ nla_align n) → wrote ≤ length space → Held form limit last c init (put_mid size (length out - size) out new) (used + read) (size + wrote)
+  held_one last c init out rest space new used size read wrote n text h l r p f w e t a b =
       let f' = ap (first_frame limit) (sym r) ∙ f in
       let e' = e ∙ ap (λ x. min (nla_align n) (length x)) r in
       let u = used_one last c used size read wrote n text h.walked l f' e' a w in
       let held = written_behind size wrote (form (texts limit (take used c))) (form text) init out new (sym h.walked.written) h.held (t ∙ ap (λ x. form text ++ drop wrote x) p)
-      ∙ ap (λ x. x ++ drop (size + wrote) init) (sym (one_text last c used size read n text h.walked l f' e')) in
+      ∙ ap (λ x. x ++ drop (size + wrote) init) (sym (same_implies_equal_text last c used size read n text h.walked l f' e')) in
       let room : size + wrote ≤ length init = omega (arith, b, ap length p, length-drop size out, h.length, h.room) in
       record {
         walked = u;
@@ -139,12 +139,12 @@ stops_there form limit last rest left room free stop r e h = subst (λ n. Stops 
 -- after a whole capture
 module _ (faults : JoinedFaults link_body) (joins : JoinedTexts link_body) where
   -- the frame that has a fault, whatever follows
-  there : FramesStandAlone link_body → (limit : ℕ) (last : Bool) (rest more : List ℕ) (kind : FaultKind) → (last ≡ true → more ≡ []) → IsFaulty limit last rest kind → first_frame limit (rest ++ more) ≡ Err kind
+  there : FramesAreIndependent link_body → (limit : ℕ) (last : Bool) (rest more : List ℕ) (kind : FaultKind) → (last ≡ true → more ≡ []) → IsFaulty limit last rest kind → first_frame limit (rest ++ more) ≡ Err kind
   there frames limit true rest more kind m bad = ap (first_frame limit) (ap (λ x. rest ++ x) (m refl) ∙ append-nil rest) ∙ bad.is
   there frames limit false rest more kind m bad =
       frames.unchanged_by_more limit rest more (λ e. bad.for_good refl (let z : Err kind ≡ Err Cut = sym bad.is ∙ e in cc)) ∙ bad.is
 
-  pub fails : CapturesGoByFrames link_body → FramesStandAlone link_body → (form : Form) (limit : ℕ) → IsForm limit form → (last : Bool) (c : List ℕ) (used written : ℕ) (before more : List ℕ) (kind : FaultKind) → IsUsed form limit last c used written → IsWhole limit before → (last ≡ true → more ≡ []) → IsFaulty limit last (drop used c) kind → Fails form limit kind used c before more
+  pub fails : CapturesUnfoldByFrames link_body → FramesAreIndependent link_body → (form : Form) (limit : ℕ) → IsForm limit form → (last : Bool) (c : List ℕ) (used written : ℕ) (before more : List ℕ) (kind : FaultKind) → IsUsed form limit last c used written → IsWhole limit before → (last ≡ true → more ≡ []) → IsFaulty limit last (drop used c) kind → Fails form limit kind used c before more
   fails go frames form limit shaped last c used written before more kind u b m bad =
       let l : used < length c = omega (arith, bad.more, length-drop used c) in
       let n = length_front used c u.inside in
@@ -155,20 +155,20 @@ module _ (faults : JoinedFaults link_body) (joins : JoinedTexts link_body) where
       let at : length before + (length (take used c) + 0) ≡ length before + used = omega (arith, n) in
       record {
         fault = faults limit before (c ++ more) b.legal b.padded
-            ∙ ap (λ x. raised (length before) (first_fault limit x)) split
-            ∙ ap (raised (length before)) (faults limit (take used c) (drop used c ++ more) u.legal start ∙ ap (raised (length (take used c))) (go.front_fault limit (drop used c ++ more) kind some bad_there))
+            ∙ ap (λ x. shifted (length before) (first_fault limit x)) split
+            ∙ ap (shifted (length before)) (faults limit (take used c) (drop used c ++ more) u.legal start ∙ ap (shifted (length (take used c))) (go.first_frame_fault limit (drop used c ++ more) kind some bad_there))
             ∙ ap (λ k. Some (record { kind = kind; offset = k })) at;
         written = ap form (joins limit before (c ++ more) b.legal b.padded
             ∙ ap (λ x. texts limit before ++ x) (ap (texts limit) split
             ∙ joins limit (take used c) (drop used c ++ more) u.legal start
-            ∙ ap (λ x. texts limit (take used c) ++ x) (go.front_texts limit (drop used c ++ more) kind bad_there)
+            ∙ ap (λ x. texts limit (take used c) ++ x) (go.first_frame_texts limit (drop used c ++ more) kind bad_there)
             ∙ append-nil (texts limit (take used c))))
             ∙ shaped.joined before (texts limit (take used c));
       }
 
 -- what was used is legal after a whole capture, and its text is written independently of it
-pub goes_on : JoinedLegal link_body → JoinedTexts link_body → (form : Form) (limit : ℕ) → IsForm limit form → (last : Bool) (c : List ℕ) (used written : ℕ) (before : List ℕ) → IsUsed form limit last c used written → IsWhole limit before → GoesOn form limit last (take used c) before
-goes_on legals joins form limit shaped last c used written before u b =
+pub continues : JoinedLegal link_body → JoinedTexts link_body → (form : Form) (limit : ℕ) → IsForm limit form → (last : Bool) (c : List ℕ) (used written : ℕ) (before : List ℕ) → IsUsed form limit last c used written → IsWhole limit before → Continues form limit last (take used c) before
+continues legals joins form limit shaped last c used written before u b =
     let legal = (legals limit before (take used c) b.legal b.padded).1 u.legal in
     record {
       legal = legal;
@@ -184,7 +184,7 @@ goes_on legals joins form limit shaped last c used written before u b =
     padded f (inr h) = absurd (let z : true ≡ false = sym h.0 ∙ f in cc)
 
 -- the bytes before the first fault are legal, and have all texts
-module _ (go : CapturesGoByFrames link_body) where
+module _ (go : CapturesUnfoldByFrames link_body) where
   reached : (limit : ℕ) (c : List ℕ) (fault : CaptureFault) → first_fault limit c ≡ Some fault → take (reach limit c) (c ++ []) ≡ take fault.offset c
   reached limit c fault h = ap (take (reach limit c)) (append-nil c) ∙ ap (λ n. take n c) (ap (reach_by (length c)) h)
 

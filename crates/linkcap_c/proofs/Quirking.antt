@@ -6,16 +6,16 @@ use Rattle.std.proofs.Math.Seq.{set-append_seam}
 use Rattle.std.proofs.Math.ListN.{set}
 use Rattle.link_capture_grammar.specs.declared.fault.CaptureFault.{CaptureFault}
 use Rattle.link_capture_grammar.specs.Captures.{first_fault}
-use Rattle.link_capture_spellings.specs.declared.placed.PlacedSpelling.{PlacedSpelling}
-use Rattle.link_capture_spellings.specs.Spellings.{SpellingsLeft, answers_left, spellings, told_then}
+use Rattle.link_capture_quirks.specs.declared.quirk_at.QuirkAt.{QuirkAt}
+use Rattle.link_capture_quirks.specs.CaptureQuirks.{QuirksLeft, items_left, capture_quirks, quirks_then_fault}
 use Rattle.linkcap_c.specs.declared.quirks.LinkcapQuirk.{LinkcapQuirk}
-use Rattle.linkcap_c.specs.Quirks.{quirk_told, quirks}
+use Rattle.linkcap_c.specs.Quirks.{quirk_of, quirks}
 
 abbrev pub Yielded : Type 0
-Yielded = List (Result PlacedSpelling CaptureFault)
+Yielded = List (Result QuirkAt CaptureFault)
 
 -- the quirks, and the fault at the end
-abbrev pub found : Yielded → List PlacedSpelling
+abbrev pub found : Yielded → List QuirkAt
 found [] = []
 found (Ok x ∷ rest) = x ∷ found rest
 found (Err fault ∷ rest) = []
@@ -25,12 +25,12 @@ ending [] = None
 ending (Ok x ∷ rest) = ending rest
 ending (Err fault ∷ rest) = Some fault
 
-found_then : (xs : List PlacedSpelling) (fault : Option CaptureFault) → found (told_then xs fault) ≡ xs
+found_then : (xs : List QuirkAt) (fault : Option CaptureFault) → found (quirks_then_fault xs fault) ≡ xs
 found_then [] None = refl
 found_then [] (Some fault) = refl
 found_then (x ∷ xs) fault = ap (λ z. x ∷ z) (found_then xs fault)
 
-ending_then : (xs : List PlacedSpelling) (fault : Option CaptureFault) → ending (told_then xs fault) ≡ fault
+ending_then : (xs : List QuirkAt) (fault : Option CaptureFault) → ending (quirks_then_fault xs fault) ≡ fault
 ending_then [] None = refl
 ending_then [] (Some fault) = refl
 ending_then (x ∷ xs) fault = ending_then xs fault
@@ -46,14 +46,14 @@ pub record Counted (limit : ℕ) (c : List ℕ) (left : Yielded) (count : ℕ) :
   pub all : min (count + length (found left)) most ≡ min (length (quirks limit c)) most
   pub fault : ending left ≡ first_fault limit c
 
-pub counted_none : (limit : ℕ) (c : List ℕ) (s : SpellingsLeft) → s.told ≡ spellings limit c → s.fault ≡ first_fault limit c → Counted limit c (answers_left s) 0
+pub counted_none : (limit : ℕ) (c : List ℕ) (s : QuirksLeft) → s.quirks_left ≡ capture_quirks limit c → s.fault ≡ first_fault limit c → Counted limit c (items_left s) 0
 counted_none limit c s e f = record {
   fits = omega arith;
-  all = ap (λ n. min n most) (zero-add (length (found (answers_left s))) ∙ ap length (found_then s.told s.fault ∙ e) ∙ sym (length-map (spellings limit c) quirk_told));
-  fault = ending_then s.told s.fault ∙ f;
+  all = ap (λ n. min n most) (zero-add (length (found (items_left s))) ∙ ap length (found_then s.quirks_left s.fault ∙ e) ∙ sym (length-map (capture_quirks limit c) quirk_of));
+  fault = ending_then s.quirks_left s.fault ∙ f;
 }
 
-pub counted_one : (limit : ℕ) (c : List ℕ) (left rest : Yielded) (x : PlacedSpelling) (count next : ℕ) → Counted limit c left count → left ≡ Ok x ∷ rest → next ≡ min (count + 1) most → Counted limit c rest next
+pub counted_one : (limit : ℕ) (c : List ℕ) (left rest : Yielded) (x : QuirkAt) (count next : ℕ) → Counted limit c left count → left ≡ Ok x ∷ rest → next ≡ min (count + 1) most → Counted limit c rest next
 counted_one limit c left rest x count next w e n =
     let size : length (found left) ≡ suc (length (found rest)) = ap (λ z. length (found z)) e in
     record {
@@ -83,43 +83,43 @@ pub record Written (limit : ℕ) (c : List ℕ) (init out : List LinkcapQuirk) (
   pub done : List LinkcapQuirk
   pub size : length done ≡ written
   pub held : out ≡ done ++ drop written init
-  pub rest : done ++ map quirk_told (found left) ≡ quirks limit c
+  pub rest : done ++ map quirk_of (found left) ≡ quirks limit c
   pub room : length (quirks limit c) ≤ length init
 
-pub written_none : (limit : ℕ) (c : List ℕ) (init : List LinkcapQuirk) (s : SpellingsLeft) → s.told ≡ spellings limit c → length (quirks limit c) ≤ length init → Written limit c init init (answers_left s) 0
+pub written_none : (limit : ℕ) (c : List ℕ) (init : List LinkcapQuirk) (s : QuirksLeft) → s.quirks_left ≡ capture_quirks limit c → length (quirks limit c) ≤ length init → Written limit c init init (items_left s) 0
 written_none limit c init s e h = record {
   done = [];
   size = refl;
   held = refl;
-  rest = ap (map quirk_told) (found_then s.told s.fault ∙ e);
+  rest = ap (map quirk_of) (found_then s.quirks_left s.fault ∙ e);
   room = h;
 }
 
-module _ (limit : ℕ) (c : List ℕ) (init out : List LinkcapQuirk) (left rest : Yielded) (x : PlacedSpelling) (written : ℕ) (w : Written limit c init out left written) (e : left ≡ Ok x ∷ rest) where
-  more : w.done ++ quirk_told x ∷ map quirk_told (found rest) ≡ quirks limit c
-  more = sym (ap (λ z. w.done ++ map quirk_told (found z)) e) ∙ w.rest
+module _ (limit : ℕ) (c : List ℕ) (init out : List LinkcapQuirk) (left rest : Yielded) (x : QuirkAt) (written : ℕ) (w : Written limit c init out left written) (e : left ≡ Ok x ∷ rest) where
+  more : w.done ++ quirk_of x ∷ map quirk_of (found rest) ≡ quirks limit c
+  more = sym (ap (λ z. w.done ++ map quirk_of (found z)) e) ∙ w.rest
 
   pub free : written < length init
-  free = omega (arith, w.room, w.size, ap length more, length-append w.done (quirk_told x ∷ map quirk_told (found rest)))
+  free = omega (arith, w.room, w.size, ap length more, length-append w.done (quirk_of x ∷ map quirk_of (found rest)))
 
   pub inside : written < length out
   inside = omega (arith, free, w.size, ap length w.held, length-append w.done (drop written init), length-drop written init)
 
-  pub written_one : Written limit c init (set out written (quirk_told x)) rest (written + 1)
+  pub written_one : Written limit c init (set out written (quirk_of x)) rest (written + 1)
   written_one =
       let some : 0 < length (drop written init) = omega (arith, free, length-drop written init) in
       record {
-        done = w.done ++ quirk_told x ∷ [];
-        size = length-append w.done (quirk_told x ∷ []) ∙ ap (λ n. n + 1) w.size;
-        held = ap (λ z. set z written (quirk_told x)) w.held
-            ∙ ap (λ n. set (w.done ++ drop written init) n (quirk_told x)) (sym w.size)
-            ∙ put_one w.done (drop written init) (quirk_told x) some
-            ∙ ap (λ z. (w.done ++ quirk_told x ∷ []) ++ z) (drop-drop 1 written init);
-        rest = append_assoc w.done (quirk_told x ∷ []) (map quirk_told (found rest)) ∙ more;
+        done = w.done ++ quirk_of x ∷ [];
+        size = length-append w.done (quirk_of x ∷ []) ∙ ap (λ n. n + 1) w.size;
+        held = ap (λ z. set z written (quirk_of x)) w.held
+            ∙ ap (λ n. set (w.done ++ drop written init) n (quirk_of x)) (sym w.size)
+            ∙ put_one w.done (drop written init) (quirk_of x) some
+            ∙ ap (λ z. (w.done ++ quirk_of x ∷ []) ++ z) (drop-drop 1 written init);
+        rest = append_assoc w.done (quirk_of x ∷ []) (map quirk_of (found rest)) ∙ more;
         room = w.room;
       }
 
 pub written_all : (limit : ℕ) (c : List ℕ) (init out : List LinkcapQuirk) (left : Yielded) (written : ℕ) → Written limit c init out left written → found left ≡ [] → out ≡ quirks limit c ++ drop (length (quirks limit c)) init
 written_all limit c init out left written w e =
-    let all : w.done ≡ quirks limit c = sym (append-nil w.done) ∙ sym (ap (λ z. w.done ++ map quirk_told z) e) ∙ w.rest in
+    let all : w.done ≡ quirks limit c = sym (append-nil w.done) ∙ sym (ap (λ z. w.done ++ map quirk_of z) e) ∙ w.rest in
     w.held ∙ ap (λ n. w.done ++ drop n init) (sym w.size) ∙ ap (λ z. z ++ drop (length z) init) all

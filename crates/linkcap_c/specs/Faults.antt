@@ -27,26 +27,26 @@ abbrev pub side_number : Bool → ℕ
 side_number second = cond second 2 1
 
 -- a fault with this number of its side
-abbrev pub told : ℕ → CaptureFault → LinkcapFault
-told side fault = record { kind = kind_number fault.kind; side = side; offset = fault.offset }
+abbrev pub fault_of : ℕ → CaptureFault → LinkcapFault
+fault_of side fault = record { kind = kind_number fault.kind; side = side; offset = fault.offset }
 
 -- this is one, of a capture that is alone or of one of two
 abbrev pub IsFault : LinkcapFault → Type 0
-IsFault fault = (found : CaptureFault) × ((fault ≡ told 0 found) ⊎ (fault ≡ told 1 found) ⊎ (fault ≡ told 2 found))
+IsFault fault = (found : CaptureFault) × ((fault ≡ fault_of 0 found) ⊎ (fault ≡ fault_of 1 found) ⊎ (fault ≡ fault_of 2 found))
 
 -- the words of a fault of the second of two captures, or of the first
 abbrev pub words_of_side : Bool → CaptureFault → List ℕ
 words_of_side second fault = side_text (record { second = second; fault = fault })
 
 -- This is the first fault of a capture, with this number of its side.
-abbrev pub TellsFault : ℕ → ℕ → List ℕ → LinkcapFault → Type 0
-TellsFault side limit c fault = option_map (told side) (first_fault limit c) ≡ Some fault
+abbrev pub ReportsFault : ℕ → ℕ → List ℕ → LinkcapFault → Type 0
+ReportsFault side limit c fault = option_map (fault_of side) (first_fault limit c) ≡ Some fault
 
 -- Out of memory is reported at an offset where a frame starts, and the capture is legal up to there.
-abbrev pub TellsMemory : ℕ → List ℕ → LinkcapFault → Type 0
-TellsMemory limit c fault = (fault.kind ≡ kind_number Memory) × (fault.side ≡ 0) × StopsAt limit c fault.offset
+abbrev pub ReportsMemory : ℕ → List ℕ → LinkcapFault → Type 0
+ReportsMemory limit c fault = (fault.kind ≡ kind_number Memory) × (fault.side ≡ 0) × StopsAt limit c fault.offset
 
 -- The number for an offset: 2^64 - 1 if there is none.
-abbrev pub place_number : Option ℕ → ℕ
-place_number None = 2 ^ 64 - 1
-place_number (Some place) = place
+abbrev pub offset_number : Option ℕ → ℕ
+offset_number None = 2 ^ 64 - 1
+offset_number (Some offset) = offset

@@ -58,14 +58,14 @@ pub record IsFaulty (limit : ℕ) (last : Bool) (rest : List ℕ) (kind : FaultK
   pub for_good : last ≡ false → kind ≢ Cut
 
 -- What is written of the first frame's text has `wanted` bytes.
-abbrev pub Wants : Form → ℕ → List ℕ → ℕ → Type 0
-Wants form limit rest wanted = (text : List ℕ) × HasText limit rest text × (wanted ≡ length (form text))
+abbrev pub Needs : Form → ℕ → List ℕ → ℕ → Type 0
+Needs form limit rest wanted = (text : List ℕ) × HasText limit rest text × (wanted ≡ length (form text))
 
 -- Why writing stopped before these bytes, when the buffer had a capacity of `room` bytes left.
 abbrev pub Stops : Form → ℕ → Bool → List ℕ → ℕ → Stop → Type 0
 Stops form limit last rest room Ended = IsEnded limit last rest
 Stops form limit last rest room (Fault kind) = IsFaulty limit last rest kind
-Stops form limit last rest room (Room wanted) = (room < wanted) × Wants form limit rest wanted
+Stops form limit last rest room (Room wanted) = (room < wanted) × Needs form limit rest wanted
 Stops form limit last rest room Memory = IsAccepted limit rest
 
 -- a legal capture whose frames all have their padding
@@ -75,7 +75,7 @@ pub record IsWhole (limit : ℕ) (s : List ℕ) : Type 0 where
 
 -- After each whole capture, the used bytes of the piece are legal, their text is written independently of the capture's, and
 -- the result is whole if more is to come.
-pub record GoesOn (form : Form) (limit : ℕ) (last : Bool) (used before : List ℕ) : Type 0 where
+pub record Continues (form : Form) (limit : ℕ) (last : Bool) (used before : List ℕ) : Type 0 where
   pub legal : IsLegal limit (before ++ used)
   pub written : form (texts limit (before ++ used)) ≡ form (texts limit before) ++ form (texts limit used)
   pub whole : last ≡ false → IsWhole limit (before ++ used)

@@ -4,15 +4,15 @@ ghost use Rattle.std.specs.Prelude.{◌≡◌, ◌<◌, ◌≤◌, ◌↔◌, �
 ghost use Rattle.link_capture_grammar.specs.Captures.{texts, IsLegal};
 ghost use Rattle.link_capture_grammar.specs.Same.{SameCapture};
 ghost use Rattle.link_capture_numbers.specs.Cleared.{numbers_cleared};
-ghost use Rattle.linkcap_c.specs.Answers.{KeepsFault};
+ghost use Rattle.linkcap_c.specs.Statuses.{KeepsFault};
 ghost use Rattle.linkcap_c.specs.Apart.{SameButNumbers};
-ghost use Rattle.linkcap_c.specs.Faults.{TellsFault};
+ghost use Rattle.linkcap_c.specs.Faults.{ReportsFault};
 
 use crate::numbers::same_but_numbers;
 use crate::statuses::{DIFFERENT, FAULT, OK, WRONG, is_limit};
 use crate::faults::{LinkcapFault, of_two};
 use link_capture_checks::{SideFault, check, same};
-use link_capture_grammar::laws::texts_tell_meanings;
+use link_capture_grammar::laws::texts_determine_meanings;
 use link_capture_numbers::laws::cleared_captures_have_cleared_texts;
 
 /// Whether two captures mean the same under a limit; else the first fault of the first one, or of the second where the
@@ -30,13 +30,13 @@ pub extern "C" fn linkcap_same(
     ensures different { result ≡ 1 → SameCapture limit first.now second.now → ⊥ }
     ensures texts { (result ≡ 0) ⊎ (result ≡ 1)
         → (result ≡ 0) ↔ (texts limit first.now ≡ texts limit second.now) }
-    ensures first_side { result ≡ 2 → fault.new.side ≡ 1 → TellsFault 1 limit first.now fault.new }
+    ensures first_side { result ≡ 2 → fault.new.side ≡ 1 → ReportsFault 1 limit first.now fault.new }
     ensures second_side { result ≡ 2 → fault.new.side ≡ 2
-        → IsLegal limit first.now × TellsFault 2 limit second.now fault.new }
+        → IsLegal limit first.now × ReportsFault 2 limit second.now fault.new }
     ensures side { result ≡ 2 → (fault.new.side ≡ 1) ⊎ (fault.new.side ≡ 2) }
     ensures kept { KeepsFault result fault.old fault.new }
     ensures limit { (result ≡ 3) ↔ (limit < 16) }
-    ensures answers { result ≤ 3 }
+    ensures status { result ≤ 3 }
 {
     if !is_limit(limit) {
         return WRONG;
@@ -67,15 +67,15 @@ pub extern "C" fn linkcap_same_ignoring_numbers(
     ensures different { result ≡ 1 → SameButNumbers limit first.now second.now → ⊥ }
     ensures texts { (result ≡ 0) ⊎ (result ≡ 1)
         → (result ≡ 0) ↔ (numbers_cleared (texts limit first.now) ≡ numbers_cleared (texts limit second.now)) }
-    ensures first_side { result ≡ 2 → fault.new.side ≡ 1 → TellsFault 1 limit first.now fault.new }
+    ensures first_side { result ≡ 2 → fault.new.side ≡ 1 → ReportsFault 1 limit first.now fault.new }
     ensures second_side { result ≡ 2 → fault.new.side ≡ 2
-        → IsLegal limit first.now × TellsFault 2 limit second.now fault.new }
+        → IsLegal limit first.now × ReportsFault 2 limit second.now fault.new }
     ensures side { result ≡ 2 → (fault.new.side ≡ 1) ⊎ (fault.new.side ≡ 2) }
     ensures kept { KeepsFault result fault.old fault.new }
     ensures limit { (result ≡ 3) ↔ (limit < 16) }
-    ensures answers { result ≤ 3 }
+    ensures status { result ≤ 3 }
 {
-    texts_tell_meanings();
+    texts_determine_meanings();
     cleared_captures_have_cleared_texts();
     if !is_limit(limit) {
         return WRONG;

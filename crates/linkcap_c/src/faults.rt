@@ -1,7 +1,7 @@
 //! Faults as C has them.
 
 ghost use Rattle.std.specs.Prelude.{◌≡◌, ◌<◌, ◌⊎◌, IfSome, IfNone};
-ghost use Rattle.linkcap_c.specs.Faults.{kind_number, side_number, told};
+ghost use Rattle.linkcap_c.specs.Faults.{kind_number, side_number, fault_of};
 
 use link_capture_checks::SideFault;
 use link_capture_grammar::fault::{CaptureFault, FaultKind};
@@ -40,7 +40,7 @@ fn number(kind: FaultKind) -> u32
 
 /// The fault of a capture that is alone.
 pub(crate) fn of_one(fault: CaptureFault) -> LinkcapFault
-    ensures { result ≡ told 0 fault }
+    ensures { result ≡ fault_of 0 fault }
 {
     LinkcapFault {
         kind: number(fault.kind),
@@ -51,7 +51,7 @@ pub(crate) fn of_one(fault: CaptureFault) -> LinkcapFault
 
 /// The fault of one of two captures.
 pub(crate) fn of_two(found: SideFault) -> LinkcapFault
-    ensures { result ≡ told (side_number found.second) found.fault }
+    ensures { result ≡ fault_of (side_number found.second) found.fault }
 {
     LinkcapFault {
         kind: number(found.fault.kind),

@@ -3,7 +3,7 @@
 ghost use Rattle.std.specs.Prelude.{◌≡◌, ◌+◌, ◌*◌, ◌^◌, ◌⊎◌, length};
 ghost use Rattle.link_capture_grammar.specs.Captures.{texts};
 ghost use Rattle.link_capture_grammar.specs.Numbers.{attributes, frames};
-ghost use Rattle.linkcap_c.specs.Answers.{IsJudgement, Judges, KeepsFault};
+ghost use Rattle.linkcap_c.specs.Statuses.{IsJudgingStatus, Judges, KeepsFault};
 
 use crate::statuses::{FAULT, OK, WRONG, is_limit};
 use crate::faults::{LinkcapFault, of_one};
@@ -29,7 +29,7 @@ pub struct LinkcapSizes {
 pub extern "C" fn linkcap_check(capture: &[u8], limit: u32, fault: &mut LinkcapFault) -> u32
     ensures judged { Judges limit capture.now result fault.new }
     ensures kept { KeepsFault result fault.old fault.new }
-    ensures answers { IsJudgement result }
+    ensures status { IsJudgingStatus result }
 {
     if !is_limit(limit) {
         return WRONG;
@@ -58,7 +58,7 @@ pub extern "C" fn linkcap_measure(
         ≡ length (texts limit capture.now) }
     ensures unmeasured { (result ≡ 2) ⊎ (result ≡ 3) → sizes.new ≡ sizes.old }
     ensures kept { KeepsFault result fault.old fault.new }
-    ensures answers { IsJudgement result }
+    ensures status { IsJudgingStatus result }
 {
     if !is_limit(limit) {
         return WRONG;

@@ -4,15 +4,15 @@ ghost use Rattle.std.specs.Prelude.{◌≡◌, ◌≢◌, ◌+◌, ◌<◌, ◌�
 ghost use Rattle.netlink_packet_core_grammar.specs.Attributes.{nla_align};
 ghost use Rattle.link_capture_grammar.specs.declared.fault.FaultKind.{FaultKind};
 ghost use Rattle.link_capture_grammar.specs.Captures.{first_fault, first_frame};
-ghost use Rattle.linkcap_c.specs.Answers.{KeepsFault};
+ghost use Rattle.linkcap_c.specs.Statuses.{KeepsFault};
 ghost use Rattle.linkcap_c.specs.Messages.{IsFollowed, IsMessage};
-ghost use Rattle.linkcap_c.specs.Faults.{told};
+ghost use Rattle.linkcap_c.specs.Faults.{fault_of};
 
 use crate::statuses::{FAULT, NONE, OK, WRONG, is_limit};
 use crate::faults::{LinkcapFault, of_one};
 use link_capture_checks::measure_frame;
 use link_capture_grammar::fault::CaptureFault;
-use link_capture_grammar::laws::{captures_are_counted, captures_go_by_frames};
+use link_capture_grammar::laws::{captures_are_counted, captures_unfold_by_frames};
 use netlink_packet_core::{NetlinkBuffer, nla_align};
 
 /// One message of a capture.
@@ -40,21 +40,21 @@ pub extern "C" fn linkcap_next_message(
     ensures next { result ≡ 0 → message.new.next ≡ min (offset + nla_align message.new.size) (length capture.now) }
     ensures inside { (result ≡ 0) ⊎ (result ≡ 2) → offset < length capture.now }
     ensures fault { result ≡ 2 → (kind : FaultKind)
-        × (fault.new ≡ told 0 (record { kind = kind; offset = offset }))
+        × (fault.new ≡ fault_of 0 (record { kind = kind; offset = offset }))
         × (first_frame limit (drop offset capture.now) ≡ Err kind) }
     ensures ended { result ≡ 6 → (16 ≤ limit) × (length capture.now ≤ offset) }
     ensures limit { (result ≡ 3) ↔ (limit < 16) }
     ensures kept { KeepsFault result fault.old fault.new }
     ensures unwritten { result ≢ 0 → message.new ≡ message.old }
-    ensures answers { (result ≡ 0) ⊎ (result ≡ 2) ⊎ (result ≡ 3) ⊎ (result ≡ 6) }
+    ensures status { (result ≡ 0) ⊎ (result ≡ 2) ⊎ (result ≡ 3) ⊎ (result ≡ 6) }
     // The messages from here on are this one and those from the next offset on.
-    ensures goes_on { result ≡ 0 → IsFollowed limit capture.now offset message.new.next }
+    ensures continues { result ≡ 0 → IsFollowed limit capture.now offset message.new.next }
     // A fault is the first one from here on.
-    ensures fails { result ≡ 2 → (kind : FaultKind) × (fault.new ≡ told 0 (record { kind = kind; offset = offset }))
+    ensures fails { result ≡ 2 → (kind : FaultKind) × (fault.new ≡ fault_of 0 (record { kind = kind; offset = offset }))
         × (first_fault limit (drop offset capture.now) ≡ Some (record { kind = kind; offset = 0 })) }
 {
     captures_are_counted();
-    captures_go_by_frames();
+    captures_unfold_by_frames();
     if !is_limit(limit) {
         return WRONG;
     }

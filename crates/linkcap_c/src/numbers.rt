@@ -11,7 +11,7 @@ ghost use Rattle.link_capture_numbers.specs.Cleared.{numbers_cleared};
 ghost use Rattle.linkcap_c.specs.Apart.{body_without_numbers, error_cleared, SameButNumbers};
 
 use link_capture_checks::frame_body;
-use link_capture_grammar::laws::sameness_goes_by_frames;
+use link_capture_grammar::laws::sameness_unfolds_by_frames;
 use link_capture_grammar::link_types::{RTM_NEWLINK, RTM_SETLINK};
 use link_capture_numbers::laws::cleared_captures_have_cleared_texts;
 use link_message_checks::same as same_link;
@@ -69,7 +69,7 @@ fn same_frame(left: &[u8], right: &[u8], limit: u32) -> bool
 }
 
 /// The bytes after the first frame and its padding.
-fn behind(bytes: &[u8]) -> &[u8]
+fn rest_after_frame(bytes: &[u8]) -> &[u8]
     requires { IsFrame bytes.now }
     ensures { result.now ≡ drop (nla_align (frame_length bytes.now)) bytes.now }
 {
@@ -84,15 +84,15 @@ pub(crate) fn same_but_numbers(left: &[u8], right: &[u8], limit: u32) -> bool
     ensures { (result ≡ true) ↔ SameButNumbers limit left.now right.now }
 {
     cleared_captures_have_cleared_texts();
-    sameness_goes_by_frames();
+    sameness_unfolds_by_frames();
     let mut left = left;
     let mut right = right;
     'frames: while !left.is_empty() {
         if right.is_empty() || !same_frame(left, right, limit) {
             return false;
         }
-        left = behind(left);
-        right = behind(right);
+        left = rest_after_frame(left);
+        right = rest_after_frame(right);
     }
     right.is_empty()
 }

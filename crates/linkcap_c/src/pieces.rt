@@ -5,15 +5,15 @@ ghost use Rattle.std.specs.Prelude.{Ok, IfOk, IfErr, OnErr};
 ghost use Rattle.netlink_packet_core_grammar.specs.Attributes.{nla_align};
 ghost use Rattle.link_capture_grammar.specs.declared.fault.FaultKind.{FaultKind};
 ghost use Rattle.link_capture_grammar.specs.Captures.{first_frame, texts};
-ghost use Rattle.linkcap_c.specs.Pieces.{form_of, IsUsed, IsFaulty, Stops, IsWhole, GoesOn, Fails};
+ghost use Rattle.linkcap_c.specs.Pieces.{form_of, IsUsed, IsFaulty, Stops, IsWhole, Continues, Fails};
 
 use link_capture_checks::push_frame;
 use link_capture_grammar::fault::FaultKind;
 use link_capture_grammar::laws::{
-    captures_go_by_frames, frames_stand_alone, joined_captures_are_legal,
+    captures_unfold_by_frames, frames_are_independent, joined_captures_are_legal,
     joined_captures_have_joined_texts, joined_captures_have_the_faults_of_the_second,
 };
-use link_lines::laws::{lines_are_joined, lines_go_by_frames};
+use link_lines::laws::{lines_are_joined, lines_unfold_by_frames};
 use link_lines::{LineOptions, push_lines};
 use netlink_packet_core::nla_align;
 use std::alloc::Global;
@@ -135,10 +135,10 @@ fn write_frames(
     ensures stops { Stops (form_of form.entry) limit last (drop result.used bytes.now)
         (length out.old - result.written) result.stop }
 {
-    captures_go_by_frames();
+    captures_unfold_by_frames();
     joined_captures_are_legal();
     joined_captures_have_joined_texts();
-    lines_go_by_frames();
+    lines_unfold_by_frames();
     lines_are_joined();
     let mut text = Vec::new(alloc);
     let mut lines = Vec::new(alloc);
@@ -190,19 +190,19 @@ pub(crate) fn write_piece(
     ensures stops { Stops (form_of form.entry) limit last (drop result.used bytes.now)
         (length out.old - result.written) result.stop }
     // What the pieces write one after the other is what the whole writes.
-    ensures goes_on { (before : List ℕ) → IsWhole limit before
-        → GoesOn (form_of form.entry) limit last (take result.used bytes.now) before }
+    ensures continues { (before : List ℕ) → IsWhole limit before
+        → Continues (form_of form.entry) limit last (take result.used bytes.now) before }
     // And the first fault is the whole's.
     ensures fails { (before more : List ℕ) (kind : FaultKind) → IsWhole limit before
         → (last ≡ true → more ≡ []) → IsFaulty limit last (drop result.used bytes.now) kind
         → Fails (form_of form.entry) limit kind result.used bytes.now before more }
 {
-    captures_go_by_frames();
-    frames_stand_alone();
+    captures_unfold_by_frames();
+    frames_are_independent();
     joined_captures_are_legal();
     joined_captures_have_joined_texts();
     joined_captures_have_the_faults_of_the_second();
-    lines_go_by_frames();
+    lines_unfold_by_frames();
     lines_are_joined();
     write_frames(alloc, bytes, last, limit, form, out)
 }

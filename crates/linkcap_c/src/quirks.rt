@@ -2,17 +2,17 @@
 
 ghost use Rattle.std.specs.Prelude.{◌≡◌, ◌≤◌, ◌<◌, ◌-◌, ◌^◌, ◌++◌, ◌↔◌, ◌⊎◌, length, drop, min, IfSome, IfNone};
 ghost use Rattle.link_capture_grammar.specs.Captures.{first_fault};
-ghost use Rattle.link_capture_spellings.specs.declared.placed.PlacedSpelling.{PlacedSpelling};
-ghost use Rattle.link_capture_spellings.specs.SpellingWords.{placed_text};
-ghost use Rattle.linkcap_c.specs.Answers.{Judges, KeepsFault};
-ghost use Rattle.linkcap_c.specs.Buffers.{HandsOver};
-ghost use Rattle.linkcap_c.specs.Quirks.{quirk_number, quirk_told, quirks, IsQuirk};
+ghost use Rattle.link_capture_quirks.specs.declared.quirk_at.QuirkAt.{QuirkAt};
+ghost use Rattle.link_capture_quirks.specs.QuirkTexts.{quirk_text};
+ghost use Rattle.linkcap_c.specs.Statuses.{Judges, KeepsFault};
+ghost use Rattle.linkcap_c.specs.Buffers.{IsCopied};
+ghost use Rattle.linkcap_c.specs.Quirks.{quirk_number, quirk_of, quirks, IsQuirk};
 
-use crate::buffers::hand_over;
+use crate::buffers::copy_text;
 use crate::statuses::{FAULT, NO_ROOM, OK, WRONG, is_limit};
 use crate::faults::{LinkcapFault, of_one};
 use link_capture_grammar::fault::CaptureFault;
-use link_capture_spellings::{PlacedSpelling, Spelling, spelling};
+use link_capture_quirks::{QuirkAt, Quirk, quirks};
 
 /// An encoding that some kernels treat differently from its normal text.
 #[repr(C)]
@@ -20,55 +20,55 @@ use link_capture_spellings::{PlacedSpelling, Spelling, spelling};
 pub struct LinkcapQuirk {
     /// Where the attribute that has it starts, or the header's byte, in bytes from the capture's start.
     pub offset: u64,
-    /// From 1 to 12, in the order of `Spelling`.
+    /// From 1 to 12, in the order of `Quirk`.
     pub kind: u32,
 }
 
 /// The number of an encoding.
-fn number(found: Spelling) -> u32
+fn number(found: Quirk) -> u32
     ensures { result ≡ quirk_number found }
 {
     match found {
-        Spelling::NestedPortSettings => 1,
-        Spelling::ResizedSettings => 2,
-        Spelling::PathDiscoveryOverOne => 3,
-        Spelling::LaterPeer => 4,
-        Spelling::LongAlias => 5,
-        Spelling::NameWithoutNul => 6,
-        Spelling::FlagWithPayload => 7,
-        Spelling::TruthOverOne => 8,
-        Spelling::StrayNestedBit => 9,
-        Spelling::ForeignFunction => 10,
-        Spelling::HeaderByte => 11,
-        Spelling::ShortMap => 12,
+        Quirk::NestedPortSettings => 1,
+        Quirk::ResizedSettings => 2,
+        Quirk::PathDiscoveryOverOne => 3,
+        Quirk::TrailingPeer => 4,
+        Quirk::LongAlias => 5,
+        Quirk::NameWithoutNul => 6,
+        Quirk::FlagWithPayload => 7,
+        Quirk::BooleanOverOne => 8,
+        Quirk::StrayNestedBit => 9,
+        Quirk::UnexpectedFunction => 10,
+        Quirk::HeaderByte => 11,
+        Quirk::ShortMap => 12,
     }
 }
 
 /// The encoding with a number.
-fn spelling_of(number: u32) -> Option<Spelling>
+fn quirk_numbered(number: u32) -> Option<Quirk>
     ensures some { IfSome result (λ found. quirk_number found ≡ number) }
     ensures none { IfNone result ((number ≡ 0) ⊎ (12 < number)) }
 {
     match number {
-        1 => Some(Spelling::NestedPortSettings),
-        2 => Some(Spelling::ResizedSettings),
-        3 => Some(Spelling::PathDiscoveryOverOne),
-        4 => Some(Spelling::LaterPeer),
-        5 => Some(Spelling::LongAlias),
-        6 => Some(Spelling::NameWithoutNul),
-        7 => Some(Spelling::FlagWithPayload),
-        8 => Some(Spelling::TruthOverOne),
-        9 => Some(Spelling::StrayNestedBit),
-        10 => Some(Spelling::ForeignFunction),
-        11 => Some(Spelling::HeaderByte),
-        12 => Some(Spelling::ShortMap),
+        1 => Some(Quirk::NestedPortSettings),
+        2 => Some(Quirk::ResizedSettings),
+        3 => Some(Quirk::PathDiscoveryOverOne),
+        4 => Some(Quirk::TrailingPeer),
+        5 => Some(Quirk::LongAlias),
+        6 => Some(Quirk::NameWithoutNul),
+        7 => Some(Quirk::FlagWithPayload),
+        8 => Some(Quirk::BooleanOverOne),
+        9 => Some(Quirk::StrayNestedBit),
+        10 => Some(Quirk::UnexpectedFunction),
+        11 => Some(Quirk::HeaderByte),
+        12 => Some(Quirk::ShortMap),
         _ => None,
     }
 }
 
 /// A quirk as C has it.
-fn of_placed(found: PlacedSpelling) -> LinkcapQuirk
-    ensures { result ≡ quirk_told found }
+fn of_placed(found: QuirkAt) -> LinkcapQuirk
+    ensures { result ≡ quirk_of found }
 {
     LinkcapQuirk {
         offset: found.offset,
@@ -81,7 +81,7 @@ fn count_quirks(capture: &[u8], limit: u32) -> (u64, Option<CaptureFault>)
     ensures count { result.0 ≡ min (length (quirks limit capture.now)) (2 ^ 64 - 1) }
     ensures fault { result.1 ≡ first_fault limit capture.now }
 {
-    let mut left = spelling(capture, limit);
+    let mut left = quirks(capture, limit);
     let mut count = 0u64;
     'quirks: loop {
         match left.next() {
@@ -98,7 +98,7 @@ fn write_quirks(capture: &[u8], limit: u32, out: &mut [LinkcapQuirk])
     ensures { out.new ≡ quirks limit capture.now
         ++ drop (length (quirks limit capture.now)) out.old }
 {
-    let mut left = spelling(capture, limit);
+    let mut left = quirks(capture, limit);
     let mut written = 0;
     'quirks: loop {
         match left.next() {
@@ -130,7 +130,7 @@ pub extern "C" fn linkcap_quirks(
     ensures kept { (result ≡ 3) ⊎ (result ≡ 4) → out.new ≡ out.old }
     ensures kept_count { result ≡ 3 → count.new ≡ count.old }
     ensures kept_fault { KeepsFault result fault.old fault.new }
-    ensures answers { (result ≡ 0) ⊎ ((2 ≤ result) × (result ≤ 4)) }
+    ensures status { (result ≡ 0) ⊎ ((2 ≤ result) × (result ≤ 4)) }
 {
     if !is_limit(limit) {
         return WRONG;
@@ -153,20 +153,20 @@ pub extern "C" fn linkcap_quirks(
 /// Writes the words of a quirk and its offset to the start of `out`.
 #[unsafe(no_mangle)]
 pub extern "C" fn linkcap_quirk_text(quirk: &LinkcapQuirk, out: &mut [u8], size: &mut u64) -> u32
-    ensures text { (found : PlacedSpelling) → quirk.now ≡ quirk_told found
-        → HandsOver 0 (placed_text found) result size.new out.old out.new }
+    ensures text { (found : QuirkAt) → quirk.now ≡ quirk_of found
+        → IsCopied 0 (quirk_text found) result size.new out.old out.new }
     ensures wrong { result ≡ 3 → IsQuirk quirk.now → ⊥ }
     ensures right { (result ≡ 0) ⊎ (result ≡ 4) → IsQuirk quirk.now }
     ensures kept { result ≡ 3 → (out.new ≡ out.old) × (size.new ≡ size.old) }
     ensures short { (result ≡ 0) ⊎ (result ≡ 4) → size.new ≤ 127 }
-    ensures answers { (result ≡ 0) ⊎ (result ≡ 3) ⊎ (result ≡ 4) }
+    ensures status { (result ≡ 0) ⊎ (result ≡ 3) ⊎ (result ≡ 4) }
 {
-    let Some(found) = spelling_of(quirk.kind) else {
+    let Some(found) = quirk_numbered(quirk.kind) else {
         return WRONG;
     };
-    let placed = PlacedSpelling {
+    let quirk_at = QuirkAt {
         quirk: found,
         offset: quirk.offset,
     };
-    hand_over(placed.text().as_str().as_bytes(), OK, out, size)
+    copy_text(quirk_at.text().as_str().as_bytes(), OK, out, size)
 }

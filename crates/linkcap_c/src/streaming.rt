@@ -4,11 +4,11 @@ ghost use Rattle.std.specs.Prelude.{◌≡◌, ◌≢◌, ◌+◌, ◌<◌, ◌�
 ghost use Rattle.link_capture_grammar.specs.declared.fault.FaultKind.{FaultKind};
 ghost use Rattle.link_capture_grammar.specs.Captures.{texts};
 ghost use Rattle.link_lines.specs.Captures.{lines};
-ghost use Rattle.linkcap_c.specs.Answers.{IsAnswer, KeepsFault};
+ghost use Rattle.linkcap_c.specs.Statuses.{IsWritingStatus, KeepsFault};
 ghost use Rattle.linkcap_c.specs.Buffers.{Holds};
-ghost use Rattle.linkcap_c.specs.Pieces.{as_text, as_lines, form_of, IsUsed, IsAccepted, IsEnded, IsFaulty, Wants, IsWhole, GoesOn, Fails};
+ghost use Rattle.linkcap_c.specs.Pieces.{as_text, as_lines, form_of, IsUsed, IsAccepted, IsEnded, IsFaulty, Needs, IsWhole, Continues, Fails};
 ghost use Rattle.linkcap_c.specs.Choices.{asked};
-ghost use Rattle.linkcap_c.specs.Faults.{kind_number, told};
+ghost use Rattle.linkcap_c.specs.Faults.{kind_number, fault_of};
 
 use crate::choices::line_options;
 use crate::pieces::{Stop, write_piece};
@@ -47,22 +47,22 @@ fn write_some(
         progress.new.written out.old out.new }
     ensures ended { result ≡ 0 → IsEnded limit last (drop progress.new.used piece.now) }
     ensures fault { result ≡ 2 → (kind : FaultKind)
-        × (fault.new ≡ told 0 (record { kind = kind; offset = progress.new.used }))
+        × (fault.new ≡ fault_of 0 (record { kind = kind; offset = progress.new.used }))
         × IsFaulty limit last (drop progress.new.used piece.now) kind }
     ensures limit { (result ≡ 3) ↔ (limit < 16) }
     ensures room { result ≡ 4
         → (length out.old < progress.new.written + progress.new.wanted)
-        × Wants (form_of form.entry) limit (drop progress.new.used piece.now) progress.new.wanted }
+        × Needs (form_of form.entry) limit (drop progress.new.used piece.now) progress.new.wanted }
     ensures nothing_wanted { (result ≡ 0) ⊎ (result ≡ 2) ⊎ (result ≡ 5) → progress.new.wanted ≡ 0 }
     ensures memory { result ≡ 5 → (fault.new.kind ≡ 8) × (fault.new.side ≡ 0)
         × (fault.new.offset ≡ progress.new.used)
         × IsAccepted limit (drop progress.new.used piece.now) }
     ensures kept { KeepsFault result fault.old fault.new }
     ensures unwritten { result ≡ 3 → (out.new ≡ out.old) × (progress.new ≡ progress.old) }
-    ensures answers { IsAnswer result }
+    ensures status { IsWritingStatus result }
     // What the pieces write one after the other is what the whole writes.
-    ensures goes_on { result ≢ 3 → (before : List ℕ) → IsWhole limit before
-        → GoesOn (form_of form.entry) limit last (take progress.new.used piece.now) before }
+    ensures continues { result ≢ 3 → (before : List ℕ) → IsWhole limit before
+        → Continues (form_of form.entry) limit last (take progress.new.used piece.now) before }
     // And the first fault is the whole's.
     ensures fails { result ≡ 2 → (before more : List ℕ) → IsWhole limit before
         → (last ≡ true → more ≡ []) → (kind : FaultKind) × (fault.new.kind ≡ kind_number kind)
@@ -117,22 +117,22 @@ pub extern "C" fn linkcap_normalize_some(
         progress.new.written out.old out.new }
     ensures ended { result ≡ 0 → IsEnded limit last (drop progress.new.used piece.now) }
     ensures fault { result ≡ 2 → (kind : FaultKind)
-        × (fault.new ≡ told 0 (record { kind = kind; offset = progress.new.used }))
+        × (fault.new ≡ fault_of 0 (record { kind = kind; offset = progress.new.used }))
         × IsFaulty limit last (drop progress.new.used piece.now) kind }
     ensures limit { (result ≡ 3) ↔ (limit < 16) }
     ensures room { result ≡ 4
         → (length out.old < progress.new.written + progress.new.wanted)
-        × Wants as_text limit (drop progress.new.used piece.now) progress.new.wanted }
+        × Needs as_text limit (drop progress.new.used piece.now) progress.new.wanted }
     ensures nothing_wanted { (result ≡ 0) ⊎ (result ≡ 2) ⊎ (result ≡ 5) → progress.new.wanted ≡ 0 }
     ensures memory { result ≡ 5 → (fault.new.kind ≡ 8) × (fault.new.side ≡ 0)
         × (fault.new.offset ≡ progress.new.used)
         × IsAccepted limit (drop progress.new.used piece.now) }
     ensures kept { KeepsFault result fault.old fault.new }
     ensures unwritten { result ≡ 3 → (out.new ≡ out.old) × (progress.new ≡ progress.old) }
-    ensures answers { IsAnswer result }
+    ensures status { IsWritingStatus result }
     // What the pieces write one after the other is what the whole writes.
-    ensures goes_on { result ≢ 3 → (before : List ℕ) → IsWhole limit before
-        → GoesOn as_text limit last (take progress.new.used piece.now) before }
+    ensures continues { result ≢ 3 → (before : List ℕ) → IsWhole limit before
+        → Continues as_text limit last (take progress.new.used piece.now) before }
     // And the first fault is the whole's.
     ensures fails { result ≡ 2 → (before more : List ℕ) → IsWhole limit before
         → (last ≡ true → more ≡ []) → (kind : FaultKind) × (fault.new.kind ≡ kind_number kind)
@@ -161,22 +161,22 @@ pub extern "C" fn linkcap_show_some(
         progress.new.written out.old out.new }
     ensures ended { result ≡ 0 → IsEnded limit last (drop progress.new.used piece.now) }
     ensures fault { result ≡ 2 → (kind : FaultKind)
-        × (fault.new ≡ told 0 (record { kind = kind; offset = progress.new.used }))
+        × (fault.new ≡ fault_of 0 (record { kind = kind; offset = progress.new.used }))
         × IsFaulty limit last (drop progress.new.used piece.now) kind }
     ensures limit { (result ≡ 3) ↔ (limit < 16) }
     ensures room { result ≡ 4
         → (length out.old < progress.new.written + progress.new.wanted)
-        × Wants (as_lines (asked without_numbers only.now)) limit (drop progress.new.used piece.now) progress.new.wanted }
+        × Needs (as_lines (asked without_numbers only.now)) limit (drop progress.new.used piece.now) progress.new.wanted }
     ensures nothing_wanted { (result ≡ 0) ⊎ (result ≡ 2) ⊎ (result ≡ 5) → progress.new.wanted ≡ 0 }
     ensures memory { result ≡ 5 → (fault.new.kind ≡ 8) × (fault.new.side ≡ 0)
         × (fault.new.offset ≡ progress.new.used)
         × IsAccepted limit (drop progress.new.used piece.now) }
     ensures kept { KeepsFault result fault.old fault.new }
     ensures unwritten { result ≡ 3 → (out.new ≡ out.old) × (progress.new ≡ progress.old) }
-    ensures answers { IsAnswer result }
+    ensures status { IsWritingStatus result }
     // What the pieces write one after the other is what the whole writes.
-    ensures goes_on { result ≢ 3 → (before : List ℕ) → IsWhole limit before
-        → GoesOn (as_lines (asked without_numbers only.now)) limit last (take progress.new.used piece.now) before }
+    ensures continues { result ≢ 3 → (before : List ℕ) → IsWhole limit before
+        → Continues (as_lines (asked without_numbers only.now)) limit last (take progress.new.used piece.now) before }
     // And the first fault is the whole's.
     ensures fails { result ≡ 2 → (before more : List ℕ) → IsWhole limit before
         → (last ≡ true → more ≡ []) → (kind : FaultKind) × (fault.new.kind ≡ kind_number kind)

@@ -3,10 +3,10 @@
 ghost use Rattle.std.specs.Prelude.{◌≡◌, ◌≢◌, ◌≤◌, ◌⊎◌, true, false};
 ghost use Rattle.link_capture_grammar.specs.declared.fault.CaptureFault.{CaptureFault};
 ghost use Rattle.link_capture_grammar.specs.Faults.{fault_text};
-ghost use Rattle.linkcap_c.specs.Buffers.{HandsOver};
-ghost use Rattle.linkcap_c.specs.Faults.{IsFault, told, words_of_side};
+ghost use Rattle.linkcap_c.specs.Buffers.{IsCopied};
+ghost use Rattle.linkcap_c.specs.Faults.{IsFault, fault_of, words_of_side};
 
-use crate::buffers::hand_over;
+use crate::buffers::copy_text;
 use crate::statuses::{OK, WRONG};
 use crate::faults::{LinkcapFault, kind_of};
 use link_capture_checks::SideFault;
@@ -28,17 +28,17 @@ fn of_side(fault: CaptureFault, second: bool) -> SideFault
 /// Writes the text of a fault and its offset to the start of `out`, after the name of its side if it has one.
 #[unsafe(no_mangle)]
 pub extern "C" fn linkcap_fault_text(fault: &LinkcapFault, out: &mut [u8], size: &mut u64) -> u32
-    ensures alone { (found : CaptureFault) → fault.now ≡ told 0 found
-        → HandsOver 0 (fault_text found) result size.new out.old out.new }
-    ensures first { (found : CaptureFault) → fault.now ≡ told 1 found
-        → HandsOver 0 (words_of_side false found) result size.new out.old out.new }
-    ensures second { (found : CaptureFault) → fault.now ≡ told 2 found
-        → HandsOver 0 (words_of_side true found) result size.new out.old out.new }
+    ensures alone { (found : CaptureFault) → fault.now ≡ fault_of 0 found
+        → IsCopied 0 (fault_text found) result size.new out.old out.new }
+    ensures first { (found : CaptureFault) → fault.now ≡ fault_of 1 found
+        → IsCopied 0 (words_of_side false found) result size.new out.old out.new }
+    ensures second { (found : CaptureFault) → fault.now ≡ fault_of 2 found
+        → IsCopied 0 (words_of_side true found) result size.new out.old out.new }
     ensures wrong { result ≡ 3 → IsFault fault.now → ⊥ }
     ensures right { result ≢ 3 → IsFault fault.now }
     ensures kept { result ≡ 3 → (out.new ≡ out.old) × (size.new ≡ size.old) }
     ensures short { (result ≡ 0) ⊎ (result ≡ 4) → size.new ≤ 127 }
-    ensures answers { (result ≡ 0) ⊎ (result ≡ 3) ⊎ (result ≡ 4) }
+    ensures status { (result ≡ 0) ⊎ (result ≡ 3) ⊎ (result ≡ 4) }
 {
     let Some(kind) = kind_of(fault.kind) else {
         return WRONG;
@@ -48,14 +48,14 @@ pub extern "C" fn linkcap_fault_text(fault: &LinkcapFault, out: &mut [u8], size:
         offset: fault.offset,
     };
     match fault.side {
-        0 => hand_over(found.text().as_str().as_bytes(), OK, out, size),
-        1 => hand_over(
+        0 => copy_text(found.text().as_str().as_bytes(), OK, out, size),
+        1 => copy_text(
             of_side(found, false).text().as_str().as_bytes(),
             OK,
             out,
             size,
         ),
-        2 => hand_over(
+        2 => copy_text(
             of_side(found, true).text().as_str().as_bytes(),
             OK,
             out,

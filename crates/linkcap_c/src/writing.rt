@@ -4,24 +4,24 @@ ghost use Rattle.std.specs.Prelude.{◌≡◌, ◌≢◌, ◌*◌, ◌%◌, ◌<
 ghost use Rattle.link_capture_grammar.specs.Captures.{texts, IsLegal};
 ghost use Rattle.link_capture_grammar.specs.Same.{SameCapture};
 ghost use Rattle.link_capture_reader.specs.Joined.{IsJoined};
-ghost use Rattle.link_capture_reader.specs.Readers.{IsPlaceOf};
-ghost use Rattle.link_lines.specs.Meanings.{GoesByMeaning};
-ghost use Rattle.link_lines.specs.Outcomes.{WantsMemoryAt};
+ghost use Rattle.link_capture_reader.specs.Readers.{IsFrameOffsetOf};
+ghost use Rattle.link_lines.specs.Meanings.{DependsOnMeaning};
+ghost use Rattle.link_lines.specs.Outcomes.{NeedsMemoryAt};
 ghost use Rattle.link_lines.specs.Captures.{everything, lines};
 ghost use Rattle.link_lines.specs.Options.{choice_of};
-ghost use Rattle.linkcap_c.specs.Answers.{IsAnswer, Judges, KeepsFault, KeepsSize, Writes};
-ghost use Rattle.linkcap_c.specs.Buffers.{told_length};
+ghost use Rattle.linkcap_c.specs.Statuses.{IsWritingStatus, Judges, KeepsFault, KeepsSize, Writes};
+ghost use Rattle.linkcap_c.specs.Buffers.{reported_length};
 ghost use Rattle.linkcap_c.specs.Choices.{asked};
 ghost use Rattle.linkcap_c.specs.Pieces.{IsAccepted};
-ghost use Rattle.linkcap_c.specs.Faults.{TellsMemory, told};
+ghost use Rattle.linkcap_c.specs.Faults.{ReportsMemory, fault_of};
 
 use crate::choices::line_options;
-use crate::buffers::hand_over;
+use crate::buffers::copy_text;
 use crate::statuses::{FAULT, NO_MEMORY, NO_ROOM, OK, WRONG, is_limit};
 use crate::faults::{LinkcapFault, of_one};
 use link_capture_checks::{measure, normal_len};
 use link_capture_grammar::fault::{CaptureFault, FaultKind};
-use link_capture_grammar::laws::{captures_go_by_frames, faults_stand_at_frames};
+use link_capture_grammar::laws::{captures_unfold_by_frames, faults_are_at_frames};
 use link_capture_reader::normalize_bytes;
 use link_lines::{LineOptions, show_bytes};
 use std::alloc::Global;
@@ -30,8 +30,8 @@ use std::alloc::Global;
 fn texts_len(bytes: &[u8], limit: u32) -> u128
     ensures { result ≡ length (texts limit bytes.now) }
 {
-    captures_go_by_frames();
-    faults_stand_at_frames();
+    captures_unfold_by_frames();
+    faults_are_at_frames();
     match measure(bytes, limit) {
         Ok(found) => found.text_len,
         Err(fault) => match normal_len(&bytes[..fault.offset as usize], limit) {
@@ -46,7 +46,7 @@ fn texts_len(bytes: &[u8], limit: u32) -> u128
 fn lacking_memory(bytes: &[u8], limit: u32, room: usize, size: &mut u64) -> u32
     ensures room { (result ≡ 4) ↔ (room < length (texts limit bytes.now)) }
     ensures memory { (result ≡ 4) ⊎ (result ≡ 5) }
-    ensures size { result ≡ 4 → size.new ≡ told_length (texts limit bytes.now) }
+    ensures size { result ≡ 4 → size.new ≡ reported_length (texts limit bytes.now) }
     ensures kept { result ≡ 5 → size.new ≡ size.old }
 {
     let wanted = texts_len(bytes, limit);
@@ -61,7 +61,7 @@ fn lacking_memory(bytes: &[u8], limit: u32, room: usize, size: &mut u64) -> u32
 /// Reports a fault along with a status, unless that is `NO_ROOM`.
 fn report(status: u32, found: CaptureFault, fault: &mut LinkcapFault) -> u32
     ensures status { result ≡ status }
-    ensures reported { status ≢ 4 → fault.new ≡ told 0 found }
+    ensures reported { status ≢ 4 → fault.new ≡ fault_of 0 found }
     ensures kept { status ≡ 4 → fault.new ≡ fault.old }
 {
     if status != NO_ROOM {
@@ -83,15 +83,15 @@ pub extern "C" fn linkcap_normalize(
 ) -> u32
     ensures judged { Judges limit capture.now result fault.new }
     ensures written { Writes (texts limit capture.now) result size.new out.old out.new }
-    ensures place { result ≡ 2 → IsPlaceOf capture.now fault.new.offset }
-    ensures memory { result ≡ 5 → TellsMemory limit capture.now fault.new }
+    ensures offset { result ≡ 2 → IsFrameOffsetOf capture.now fault.new.offset }
+    ensures memory { result ≡ 5 → ReportsMemory limit capture.now fault.new }
     ensures kept_fault { KeepsFault result fault.old fault.new }
     ensures kept_size { KeepsSize result size.old size.new }
-    ensures answers { IsAnswer result }
+    ensures status { IsWritingStatus result }
     // A buffer that is too small is reported first.
     ensures room { 16 ≤ limit
         → (result ≡ 4) ↔ (length out.old < length (texts limit capture.now)) }
-    ensures wanted { result ≡ 4 → size.new ≡ told_length (texts limit capture.now) }
+    ensures wanted { result ≡ 4 → size.new ≡ reported_length (texts limit capture.now) }
     // Only the text of an accepted frame can run out of memory.
     ensures cause { result ≡ 5 → IsAccepted limit (drop fault.new.offset capture.now) }
     // A normal text is legal, and its own normal text.
@@ -111,12 +111,12 @@ pub extern "C" fn linkcap_normalize(
     }
     let mut text = Vec::new(alloc);
     match normalize_bytes(capture, limit, &mut text) {
-        Ok(()) => hand_over(text.as_slice(), OK, out, size),
+        Ok(()) => copy_text(text.as_slice(), OK, out, size),
         Err(found) => {
             let status = if found.kind == FaultKind::Memory {
                 lacking_memory(capture, limit, out.len(), size)
             } else {
-                hand_over(text.as_slice(), FAULT, out, size)
+                copy_text(text.as_slice(), FAULT, out, size)
             };
             report(status, found, fault)
         }
@@ -135,26 +135,26 @@ fn show_as(
 ) -> u32
     ensures judged { Judges limit capture.now result fault.new }
     ensures written { Writes (lines (choice_of options.entry) limit capture.now) result size.new out.old out.new }
-    ensures place { result ≡ 2 → IsPlaceOf capture.now fault.new.offset }
-    ensures memory { result ≡ 5 → TellsMemory limit capture.now fault.new }
+    ensures offset { result ≡ 2 → IsFrameOffsetOf capture.now fault.new.offset }
+    ensures memory { result ≡ 5 → ReportsMemory limit capture.now fault.new }
     ensures kept_fault { KeepsFault result fault.old fault.new }
     ensures kept_size { KeepsSize result size.old size.new }
-    ensures answers { IsAnswer result }
+    ensures status { IsWritingStatus result }
     ensures wanted { result ≡ 4 → size.new ≡ length (lines (choice_of options.entry) limit capture.now) }
-    ensures cause { result ≡ 5 → WantsMemoryAt limit capture.now fault.new.offset }
-    ensures shown { 16 ≤ limit → GoesByMeaning (choice_of options.entry) limit capture.now }
+    ensures cause { result ≡ 5 → NeedsMemoryAt limit capture.now fault.new.offset }
+    ensures shown { 16 ≤ limit → DependsOnMeaning (choice_of options.entry) limit capture.now }
 {
     if !is_limit(limit) {
         return WRONG;
     }
     let mut shown = Vec::new(alloc);
     match show_bytes(alloc, capture, limit, options, &mut shown) {
-        Ok(()) => hand_over(shown.as_slice(), OK, out, size),
+        Ok(()) => copy_text(shown.as_slice(), OK, out, size),
         Err(found) => {
             let status = if found.kind == FaultKind::Memory {
                 NO_MEMORY
             } else {
-                hand_over(shown.as_slice(), FAULT, out, size)
+                copy_text(shown.as_slice(), FAULT, out, size)
             };
             report(status, found, fault)
         }
@@ -174,14 +174,14 @@ pub extern "C" fn linkcap_show(
 ) -> u32
     ensures judged { Judges limit capture.now result fault.new }
     ensures written { Writes (lines everything limit capture.now) result size.new out.old out.new }
-    ensures place { result ≡ 2 → IsPlaceOf capture.now fault.new.offset }
-    ensures memory { result ≡ 5 → TellsMemory limit capture.now fault.new }
+    ensures offset { result ≡ 2 → IsFrameOffsetOf capture.now fault.new.offset }
+    ensures memory { result ≡ 5 → ReportsMemory limit capture.now fault.new }
     ensures kept_fault { KeepsFault result fault.old fault.new }
     ensures kept_size { KeepsSize result size.old size.new }
-    ensures answers { IsAnswer result }
+    ensures status { IsWritingStatus result }
     ensures wanted { result ≡ 4 → size.new ≡ length (lines everything limit capture.now) }
-    ensures cause { result ≡ 5 → WantsMemoryAt limit capture.now fault.new.offset }
-    ensures shown { 16 ≤ limit → GoesByMeaning everything limit capture.now }
+    ensures cause { result ≡ 5 → NeedsMemoryAt limit capture.now fault.new.offset }
+    ensures shown { 16 ≤ limit → DependsOnMeaning everything limit capture.now }
 {
     show_as(
         alloc,
@@ -209,14 +209,14 @@ pub extern "C" fn linkcap_show_with(
 ) -> u32
     ensures judged { Judges limit capture.now result fault.new }
     ensures written { Writes (lines (asked without_numbers only.now) limit capture.now) result size.new out.old out.new }
-    ensures place { result ≡ 2 → IsPlaceOf capture.now fault.new.offset }
-    ensures memory { result ≡ 5 → TellsMemory limit capture.now fault.new }
+    ensures offset { result ≡ 2 → IsFrameOffsetOf capture.now fault.new.offset }
+    ensures memory { result ≡ 5 → ReportsMemory limit capture.now fault.new }
     ensures kept_fault { KeepsFault result fault.old fault.new }
     ensures kept_size { KeepsSize result size.old size.new }
-    ensures answers { IsAnswer result }
+    ensures status { IsWritingStatus result }
     ensures wanted { result ≡ 4 → size.new ≡ length (lines (asked without_numbers only.now) limit capture.now) }
-    ensures cause { result ≡ 5 → WantsMemoryAt limit capture.now fault.new.offset }
-    ensures shown { 16 ≤ limit → GoesByMeaning (asked without_numbers only.now) limit capture.now }
+    ensures cause { result ≡ 5 → NeedsMemoryAt limit capture.now fault.new.offset }
+    ensures shown { 16 ≤ limit → DependsOnMeaning (asked without_numbers only.now) limit capture.now }
 {
     let options = line_options(without_numbers, only);
     show_as(alloc, capture, limit, options, out, size, fault)

@@ -6,9 +6,9 @@ use Rattle.link_capture_grammar.specs.Faults.{fault_text}
 use Rattle.link_capture_checks.specs.declared.sameness.SideFault.{SideFault}
 use Rattle.link_capture_checks.specs.Sides.{side_text}
 use Rattle.link_capture_commands.specs.Commands.{IsCommand, status_of, status_of_same}
-use Rattle.link_capture_reader.specs.Devices.{Rises, TellsItsEnd}
+use Rattle.link_capture_reader.specs.Devices.{Rises, ReportsItsEnd}
 use Rattle.link_capture_reader.specs.Outcomes.{Normalizes}
-use Rattle.link_capture_reader.specs.States.{IsTold, SinkState, SourceState, Tells}
+use Rattle.link_capture_reader.specs.States.{IsReported, SinkState, SourceState, IsReportedOrCut}
 use Rattle.link_capture_commands.specs.declared.command.Command.{Command}
 use Rattle.link_capture_commands.specs.declared.command.Command.TheVariants.{Norm, Same}
 
@@ -18,23 +18,23 @@ pub record Run : Type 0 where
   pub left : SourceState
   pub held : SinkState
   pub holds : SinkState
-  pub told : SinkState
-  pub tells : SinkState
+  pub errors_before : SinkState
+  pub errors_after : SinkState
 
 -- The states of a run, by the devices before and after it.
 abbrev pub run_of : {S K E : Type 0} → (S → SourceState) → (K → SinkState) → (E → SinkState) → S → S → K → K → E → E → Run
-run_of source sink errors from left held holds told tells = record {
+run_of source sink errors from left held holds errors_before errors_after = record {
   from = source from;
   left = source left;
   held = sink held;
   holds = sink holds;
-  told = errors told;
-  tells = errors tells;
+  errors_before = errors errors_before;
+  errors_after = errors errors_after;
 }
 
 -- A run with a usage error: the usage line is reported, with status 3.
-abbrev pub UsageAnswer : SinkState → SinkState → ℕ → Type 0
-UsageAnswer told tells status = Tells told tells (codes "usage: linkcap norm [LIMIT] or linkcap same FILE FILE [LIMIT]" ++ 10 ∷ []) × (status ≡ 3)
+abbrev pub UsageRun : SinkState → SinkState → ℕ → Type 0
+UsageRun errors_before errors_after status = IsReportedOrCut errors_before errors_after (codes "usage: linkcap norm [LIMIT] or linkcap same FILE FILE [LIMIT]" ++ 10 ∷ []) × (status ≡ 3)
 
 -- The error message for a normalised capture: a line with the fault, or nothing.
 abbrev pub norm_line : Result ⊤ CaptureFault → List ℕ
@@ -42,12 +42,12 @@ norm_line (Ok x) = []
 norm_line (Err fault) = fault_text fault ++ 10 ∷ []
 
 -- A run of `norm`: the source's capture was normalised to the sink, and the fault is reported, with this status.
-abbrev pub NormAnswer : Run → ℕ → ℕ → Type 0
-NormAnswer r limit status =
+abbrev pub NormRun : Run → ℕ → ℕ → Type 0
+NormRun r limit status =
     (outcome : Result ⊤ CaptureFault)
-    × Normalizes r.from.to_come r.left.to_come r.held.holds r.holds.holds (TellsItsEnd r.from.ends_told r.left.ends_told r.left.to_come)
+    × Normalizes r.from.to_come r.left.to_come r.held.holds r.holds.holds (ReportsItsEnd r.from.ends_reported r.left.ends_reported r.left.to_come)
     (Rises r.from.failures r.left.failures) (Rises r.held.failures r.holds.failures) limit outcome
-    × Tells r.told r.tells (norm_line outcome) × (status ≡ status_of outcome)
+    × IsReportedOrCut r.errors_before r.errors_after (norm_line outcome) × (status ≡ status_of outcome)
 
 -- The output for two captures: a line that says whether they mean the same, or nothing after a fault.
 abbrev pub same_line : Result Bool SideFault → List ℕ
@@ -64,28 +64,28 @@ same_error false (Ok is_same) = fault_text (record { kind = Write; offset = 0 })
 
 -- The result of a comparison is printed as its line, if that is possible; a fault, or that printing failed, is
 -- reported, with this status.
-abbrev pub SameTold : SinkState → SinkState → SinkState → SinkState → Result Bool SideFault → ℕ → Type 0
-SameTold held holds told tells outcome status =
-    (printed : Bool) × IsTold held holds (same_line outcome) printed × Tells told tells (same_error printed outcome) × (status ≡ cond printed (status_of_same outcome) 2)
+abbrev pub SameReported : SinkState → SinkState → SinkState → SinkState → Result Bool SideFault → ℕ → Type 0
+SameReported held holds errors_before errors_after outcome status =
+    (printed : Bool) × IsReported held holds (same_line outcome) printed × IsReportedOrCut errors_before errors_after (same_error printed outcome) × (status ≡ cond printed (status_of_same outcome) 2)
 
 -- A run of `same`: two captures were compared, and the result is printed or reported, with this status.
-abbrev pub SameAnswer : (Result Bool SideFault → Type 0) → SinkState → SinkState → SinkState → SinkState → ℕ → Type 0
-SameAnswer Compared held holds told tells status = (outcome : Result Bool SideFault) × Compared outcome × SameTold held holds told tells outcome status
+abbrev pub SameRun : (Result Bool SideFault → Type 0) → SinkState → SinkState → SinkState → SinkState → ℕ → Type 0
+SameRun Compared held holds errors_before errors_after status = (outcome : Result Bool SideFault) × Compared outcome × SameReported held holds errors_before errors_after outcome status
 
 -- The arguments ask for this command, or for none.
-abbrev pub Asks : List (List ℕ) → Option Command → Type 0
-Asks words None = (command : Command) → IsCommand words command → ⊥
-Asks words (Some command) = IsCommand words command
+abbrev pub AsksFor : List (List ℕ) → Option Command → Type 0
+AsksFor arguments None = (command : Command) → IsCommand arguments command → ⊥
+AsksFor arguments (Some command) = IsCommand arguments command
 
 -- What holds after a run of this command. Without a command nothing is opened, read or printed; for a normal text no
 -- file is opened; and when two files are compared, the source isn't read.
-abbrev pub Does : Type 0 → Type 0 → Type 0 → Run → (List ℕ → List ℕ → ℕ → Result Bool SideFault → Type 0) → ℕ → Option Command → Type 0
-Does unopened unread unwritten r Compared status None = unopened × unread × unwritten × UsageAnswer r.told r.tells status
-Does unopened unread unwritten r Compared status (Some (Norm limit)) = unopened × NormAnswer r limit status
-Does unopened unread unwritten r Compared status (Some (Same first second limit)) =
-    unread × SameAnswer (Compared first.now second.now limit) r.held r.holds r.told r.tells status
+abbrev pub RunsCommand : Type 0 → Type 0 → Type 0 → Run → (List ℕ → List ℕ → ℕ → Result Bool SideFault → Type 0) → ℕ → Option Command → Type 0
+RunsCommand unopened unread unwritten r Compared status None = unopened × unread × unwritten × UsageRun r.errors_before r.errors_after status
+RunsCommand unopened unread unwritten r Compared status (Some (Norm limit)) = unopened × NormRun r limit status
+RunsCommand unopened unread unwritten r Compared status (Some (Same first second limit)) =
+    unread × SameRun (Compared first.now second.now limit) r.held r.holds r.errors_before r.errors_after status
 
 -- What holds after a run with these arguments: they ask for a command, and a run of it was done.
-abbrev pub Answers : List (List ℕ) → Type 0 → Type 0 → Type 0 → Run → (List ℕ → List ℕ → ℕ → Result Bool SideFault → Type 0) → ℕ → Type 0
-Answers words unopened unread unwritten r Compared status =
-    (asked : Option Command) × Asks words asked × Does unopened unread unwritten r Compared status asked
+abbrev pub RunsAsAsked : List (List ℕ) → Type 0 → Type 0 → Type 0 → Run → (List ℕ → List ℕ → ℕ → Result Bool SideFault → Type 0) → ℕ → Type 0
+RunsAsAsked arguments unopened unread unwritten r Compared status =
+    (asked : Option Command) × AsksFor arguments asked × RunsCommand unopened unread unwritten r Compared status asked

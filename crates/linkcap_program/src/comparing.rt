@@ -4,14 +4,14 @@ ghost use Rattle.std.specs.Prelude.{◌≡◌, Ok, IfOk, IfErr, OnOk};
 ghost use Rattle.std.specs.Process.{exit_status};
 ghost use Rattle.link_capture_reader.specs.States.{sink_state};
 ghost use Rattle.linkcap_program.specs.Comparisons.{Holds, IsUnread, CannotRead, Compares, opened};
-ghost use Rattle.linkcap_program.specs.Runs.{SameAnswer, SameTold, same_line};
+ghost use Rattle.linkcap_program.specs.Runs.{SameRun, SameReported, same_line};
 
 use super::files::FileSystem;
 use super::lines::line;
 use link_capture_checks::{SideFault, same};
 use link_capture_commands::status_same;
 use link_capture_grammar::fault::{CaptureFault, FaultKind};
-use link_capture_reader::{Sink, read_all, tell};
+use link_capture_reader::{Sink, read_all, report_text};
 use std::alloc::Global;
 use std::process::ExitCode;
 
@@ -94,20 +94,20 @@ fn report<K: Sink, E: Sink>(
     errors: &mut E,
     outcome: Result<bool, SideFault>,
 ) -> ExitCode
-    ensures { SameTold (sink_state K.holds K.failures sink.old)
+    ensures { SameReported (sink_state K.holds K.failures sink.old)
         (sink_state K.holds K.failures sink.new) (sink_state E.holds E.failures errors.old)
         (sink_state E.holds E.failures errors.new) outcome (exit_status result) }
 {
     match outcome {
         Ok(is_same) => {
-            if tell(sink, line_of(is_same)) {
+            if report_text(sink, line_of(is_same)) {
                 return ExitCode::from(status_same(&outcome));
             }
-            tell(errors, line(NOT_PRINTED.text().as_str()).as_str());
+            report_text(errors, line(NOT_PRINTED.text().as_str()).as_str());
             ExitCode::from(2)
         }
         Err(fault) => {
-            tell(errors, line(fault.text().as_str()).as_str());
+            report_text(errors, line(fault.text().as_str()).as_str());
             ExitCode::from(status_same(&outcome))
         }
     }
@@ -115,7 +115,7 @@ fn report<K: Sink, E: Sink>(
 
 /// Prints a line that says whether the captures in two files mean the same, and reports a fault on
 /// the error writer. Returns the exit status.
-pub fn answer_same<F: FileSystem, K: Sink, E: Sink>(
+pub fn run_same<F: FileSystem, K: Sink, E: Sink>(
     alloc: Global,
     files: &mut F,
     sink: &mut K,
@@ -124,7 +124,7 @@ pub fn answer_same<F: FileSystem, K: Sink, E: Sink>(
     second: &str,
     limit: u32,
 ) -> ExitCode
-    ensures { SameAnswer (Compares (IsUnread F.File.to_come F.File.failures)
+    ensures { SameRun (Compares (IsUnread F.File.to_come F.File.failures)
         (F.contents files.old first.now) (F.contents files.old second.now)
         (F.counts files.old) (F.counts files.new) limit) (sink_state K.holds K.failures sink.old)
         (sink_state K.holds K.failures sink.new) (sink_state E.holds E.failures errors.old)

@@ -6,7 +6,7 @@
 ghost use Rattle.std.specs.Prelude.{◌≡◌, map, string_bytes};
 ghost use Rattle.std.specs.Process.{exit_status};
 ghost use Rattle.link_capture_reader.specs.States.{sink_state, source_state};
-ghost use Rattle.linkcap_program.specs.Runs.{Answers, UsageAnswer, run_of};
+ghost use Rattle.linkcap_program.specs.Runs.{RunsAsAsked, UsageRun, run_of};
 ghost use Rattle.linkcap_program.specs.Comparisons.{Compares, IsUnread};
 
 mod comparing;
@@ -14,12 +14,12 @@ mod files;
 mod lines;
 mod normalizing;
 
-pub use comparing::{answer_same, compare};
+pub use comparing::{run_same, compare};
 pub use files::FileSystem;
 use files::HostFiles;
-use link_capture_commands::{Command, read_words, words};
-use link_capture_reader::{ReadSource, Sink, Source, WriteSink, tell};
-pub use normalizing::answer_norm;
+use link_capture_commands::{Command, read_words, arguments};
+use link_capture_reader::{ReadSource, Sink, Source, WriteSink, report_text};
+pub use normalizing::run_norm;
 use std::alloc::Global;
 use std::io;
 use std::process::ExitCode;
@@ -28,56 +28,56 @@ use std::process::ExitCode;
 const USAGE: &str = "usage: linkcap norm [LIMIT] or linkcap same FILE FILE [LIMIT]\n";
 
 /// Reports on the error writer how the program is used. Returns the exit status.
-fn answer_usage<E: Sink>(errors: &mut E) -> ExitCode
-    ensures { UsageAnswer (sink_state E.holds E.failures errors.old)
+fn run_usage<E: Sink>(errors: &mut E) -> ExitCode
+    ensures { UsageRun (sink_state E.holds E.failures errors.old)
         (sink_state E.holds E.failures errors.new) (exit_status result) }
 {
-    tell(errors, USAGE);
+    report_text(errors, USAGE);
     ExitCode::from(3)
 }
 
 /// Runs the program: does what the arguments ask for, reports faults on the error writer, and
 /// returns the exit status. If the arguments are a usage error, nothing is opened, read or printed;
 /// for a normal text no file is opened; to compare two files, the source isn't read.
-pub fn answer<F: FileSystem, S: Source, K: Sink, E: Sink>(
+pub fn run<F: FileSystem, S: Source, K: Sink, E: Sink>(
     alloc: Global,
-    words: &[String],
+    arguments: &[String],
     files: &mut F,
     source: &mut S,
     sink: &mut K,
     errors: &mut E,
 ) -> ExitCode
-    ensures { Answers (map string_bytes words.now)
+    ensures { RunsAsAsked (map string_bytes arguments.now)
         (files.new ≡ files.old) (source.new ≡ source.old) (sink.new ≡ sink.old)
-        (run_of (source_state S.to_come S.failures S.ends_told) (sink_state K.holds K.failures)
+        (run_of (source_state S.to_come S.failures S.ends_reported) (sink_state K.holds K.failures)
         (sink_state E.holds E.failures) source.old source.new sink.old sink.new errors.old errors.new)
         (λ first second. Compares (IsUnread F.File.to_come F.File.failures)
         (F.contents files.old first) (F.contents files.old second)
         (F.counts files.old) (F.counts files.new)) (exit_status result) }
 {
-    match read_words(words) {
-        None => answer_usage(errors),
-        Some(Command::Norm { limit }) => answer_norm(alloc, source, sink, errors, limit),
+    match read_words(arguments) {
+        None => run_usage(errors),
+        Some(Command::Norm { limit }) => run_norm(alloc, source, sink, errors, limit),
         Some(
             Command::Same {
                 first,
                 second,
                 limit,
             },
-        ) => answer_same(alloc, files, sink, errors, first, second, limit),
+        ) => run_same(alloc, files, sink, errors, first, second, limit),
     }
 }
 
 /// Runs the program on the process's standard input, output and error, files and arguments, which
 /// it only passes.
 pub fn outcome(rt: &HostRuntime) -> ExitCode {
-    let words = words(rt).unwrap_or(Vec::new(rt.alloc()));
+    let arguments = arguments(rt).unwrap_or(Vec::new(rt.alloc()));
     let mut source = ReadSource::new(rt.reader());
     let mut sink = WriteSink::new(io::writer(rt));
     let mut errors = WriteSink::new(rt.stderr());
-    answer(
+    run(
         rt.alloc(),
-        words.as_slice(),
+        arguments.as_slice(),
         &mut HostFiles::new(rt),
         &mut source,
         &mut sink,

@@ -3,26 +3,26 @@
 ghost use Rattle.std.specs.Prelude.{◌≡◌, ◌≤◌};
 ghost use Rattle.std.specs.Process.{exit_status};
 ghost use Rattle.link_capture_commands.specs.Commands.{status_of};
-ghost use Rattle.link_capture_reader.specs.States.{Tells, sink_state, source_state};
-ghost use Rattle.linkcap_program.specs.Runs.{NormAnswer, norm_line, run_of};
+ghost use Rattle.link_capture_reader.specs.States.{IsReportedOrCut, sink_state, source_state};
+ghost use Rattle.linkcap_program.specs.Runs.{NormRun, norm_line, run_of};
 
 use super::lines::line;
 use link_capture_commands::status_norm;
 use link_capture_grammar::fault::CaptureFault;
-use link_capture_reader::{Sink, Source, normalize, tell};
+use link_capture_reader::{Sink, Source, normalize, report_text};
 use std::alloc::Global;
 use std::process::ExitCode;
 
 /// Reports a fault in a line, and writes nothing if there is none. Returns the exit status.
 fn report<E: Sink>(errors: &mut E, outcome: Result<(), CaptureFault>) -> ExitCode
     ensures status { exit_status result ≡ status_of outcome }
-    ensures told { Tells (sink_state E.holds E.failures errors.old)
+    ensures fault_reported { IsReportedOrCut (sink_state E.holds E.failures errors.old)
         (sink_state E.holds E.failures errors.new) (norm_line outcome) }
 {
     match outcome {
         Ok(()) => ExitCode::from(status_norm(&outcome)),
         Err(fault) => {
-            tell(errors, line(fault.text().as_str()).as_str());
+            report_text(errors, line(fault.text().as_str()).as_str());
             ExitCode::from(status_norm(&outcome))
         }
     }
@@ -30,7 +30,7 @@ fn report<E: Sink>(errors: &mut E, outcome: Result<(), CaptureFault>) -> ExitCod
 
 /// Writes the normal text of a source's capture, as its frames come, and reports the fault. If a
 /// write fails, that is the fault that is reported. Returns the exit status.
-pub fn answer_norm<S: Source, K: Sink, E: Sink>(
+pub fn run_norm<S: Source, K: Sink, E: Sink>(
     alloc: Global,
     source: &mut S,
     sink: &mut K,
@@ -38,7 +38,7 @@ pub fn answer_norm<S: Source, K: Sink, E: Sink>(
     limit: u32,
 ) -> ExitCode
     requires { 16 ≤ limit }
-    ensures { NormAnswer (run_of (source_state S.to_come S.failures S.ends_told)
+    ensures { NormRun (run_of (source_state S.to_come S.failures S.ends_reported)
         (sink_state K.holds K.failures) (sink_state E.holds E.failures)
         source.old source.new sink.old sink.new errors.old errors.new) limit (exit_status result) }
 {

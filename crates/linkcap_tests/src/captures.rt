@@ -1,6 +1,6 @@
 //! Captures and the results of normalising them.
 
-use super::devices::{Giver, Plan};
+use super::devices::{LimitedReader, Plan};
 use hex::{decode, encode};
 use link_capture::{
     CaptureFault, Measure, ReadSource, VecSink, clear_numbers, measure, normalize, normalize_bytes,
@@ -34,7 +34,7 @@ fn normalized_in_pieces(
     size: usize,
 ) -> Result<String, Fail> {
     let bytes = decode(alloc, capture).map_err(|_| Fail::from("not hex"))?;
-    let mut source = ReadSource::new(Giver {
+    let mut source = ReadSource::new(LimitedReader {
         rest: bytes.as_slice(),
         plan: Plan::steady(size),
     });
@@ -48,7 +48,7 @@ struct Case {
     name: &'static str,
     capture: &'static str,
     limit: u32,
-    wanted: &'static str,
+    expected: &'static str,
 }
 
 /// A veth whose peer has the name `lo` without a NUL, and its normal text.
@@ -77,14 +77,14 @@ const WORKED: [Case; 18] = [
         name: "no bytes are legal and have no text",
         capture: "",
         limit: 1000,
-        wanted: "",
+        expected: "",
     },
     Case {
         name: "a canonical request is its own normal text",
         capture: "3000000012000103340ef95a000000000000000000000000000000000000000008001d0009000000\
             070003006c6f0000",
         limit: 1000,
-        wanted: "3000000012000103340ef95a000000000000000000000000000000000000000008001d0009000000\
+        expected: "3000000012000103340ef95a000000000000000000000000000000000000000008001d0009000000\
             070003006c6f0000",
     },
     Case {
@@ -92,7 +92,7 @@ const WORKED: [Case; 18] = [
         capture: "3000000012000103340ef95a000000000000000000000000000000000000000008001d0009000000\
             070003806c6f00ff",
         limit: 1000,
-        wanted: "3000000012000103340ef95a000000000000000000000000000000000000000008001d0009000000\
+        expected: "3000000012000103340ef95a000000000000000000000000000000000000000008001d0009000000\
             070003006c6f0000",
     },
     Case {
@@ -100,88 +100,88 @@ const WORKED: [Case; 18] = [
         capture: "2e00000012000103340ef95a000000000000000000000000000000000000000008001d0009000000\
             060003006c6f",
         limit: 1000,
-        wanted: "3000000012000103340ef95a000000000000000000000000000000000000000008001d0009000000\
+        expected: "3000000012000103340ef95a000000000000000000000000000000000000000008001d0009000000\
             070003006c6f0000",
     },
     Case {
         name: "the body of a noop is dropped",
         capture: "14000000010000000100000000000000aabbccdd",
         limit: 1000,
-        wanted: "10000000010000000100000000000000",
+        expected: "10000000010000000100000000000000",
     },
     Case {
         name: "an empty done gains its code and a short length stops",
         capture: "1000000003000200010000000000000008000000030000000000000000000000",
         limit: 1000,
-        wanted: "1400000003000200010000000000000000000000 length under 16 at 16",
+        expected: "1400000003000200010000000000000000000000 length under 16 at 16",
     },
     Case {
         name: "a text may be over the limit where its frame is not",
         capture: "10000000030002000100000000000000",
         limit: 16,
-        wanted: " normal text over the limit at 0",
+        expected: " normal text over the limit at 0",
     },
     Case {
         name: "a header over the limit is not cut",
         capture: "e9030000140000000000000000000000",
         limit: 1000,
-        wanted: " frame over the limit at 0",
+        expected: " frame over the limit at 0",
     },
     Case {
         name: "a cut frame has no text",
         capture: "3000000012000103340ef95a000000000000000000000000000000000000",
         limit: 1000,
-        wanted: " cut frame at 0",
+        expected: " cut frame at 0",
     },
     Case {
         name: "an unknown type is kept and padded",
         capture: "1100000014000000000000000000000061",
         limit: 1000,
-        wanted: "1100000014000000000000000000000061000000",
+        expected: "1100000014000000000000000000000061000000",
     },
     Case {
         name: "a raw kind keeps both flag bits",
         capture: "2800000010000000000000000000000000000000000000000000000000000000050046c001000000",
         limit: 1000,
-        wanted: "2800000010000000000000000000000000000000000000000000000000000000050046c001000000",
+        expected: "2800000010000000000000000000000000000000000000000000000000000000050046c001000000",
     },
     Case {
         name: "the second byte and an unnamed layer type are renewed",
         capture: "2000000010000000000000000000000000050900000000000000000000000000",
         limit: 1000,
-        wanted: "200000001000000000000000000000000000ffff000000000000000000000000",
+        expected: "200000001000000000000000000000000000ffff000000000000000000000000",
     },
     Case {
         name: "a done body of two bytes is refused",
         capture: "120000000300000000000000000000000000",
         limit: 1000,
-        wanted: " refused body at 0",
+        expected: " refused body at 0",
     },
     Case {
         name: "a peer is written as a link is",
         capture: VETH,
         limit: 1000,
-        wanted: VETH_TEXT,
+        expected: VETH_TEXT,
     },
     Case {
         name: "a peer inside a peer is kept as bytes",
         capture: VETH_TWICE,
         limit: 1000,
-        wanted: VETH_TWICE_TEXT,
+        expected: VETH_TWICE_TEXT,
     },
     Case {
         name: "a peer of 15 bytes is refused",
         capture: "47000000100000000000000000000000000000000000000000000000000000002700120009000100\
             76657468000000001700020013000100000000000000000000000000000000",
         limit: 1000,
-        wanted: " refused body at 0",
+        expected: " refused body at 0",
     },
     Case {
         name: "a peer with a list of ports that has no port is refused",
         capture: "50000000100000000000000000000000000000000000000000000000000000003000120009000100\
             7665746800000000200002001c000100000000000000000000000000000000000800180004000700",
         limit: 1000,
-        wanted: " refused body at 0",
+        expected: " refused body at 0",
     },
     Case {
         name: "two frames are written one after the other",
@@ -189,7 +189,7 @@ const WORKED: [Case; 18] = [
             070003006c6f00003000000012000103340ef95a0000000000000000000000000000000000000000\
             08001d0009000000070003006c6f0000",
         limit: 1000,
-        wanted: "3000000012000103340ef95a000000000000000000000000000000000000000008001d0009000000\
+        expected: "3000000012000103340ef95a000000000000000000000000000000000000000008001d0009000000\
             070003006c6f00003000000012000103340ef95a0000000000000000000000000000000000000000\
             08001d0009000000070003006c6f0000",
     },
@@ -199,11 +199,11 @@ const WORKED: [Case; 18] = [
 fn worked_captures(rt: HostRuntime) -> Result<(), Fail> {
     for case in &WORKED {
         let text = normalized(rt.alloc(), case.capture, case.limit)?;
-        assert!(rt; text.as_str() == case.wanted, "{}", case.name);
+        assert!(rt; text.as_str() == case.expected, "{}", case.name);
         for size in [1, 7, 100, 65536] {
             let text = normalized_in_pieces(rt.alloc(), case.capture, case.limit, size)?;
             assert!(rt;
-                text.as_str() == case.wanted,
+                text.as_str() == case.expected,
                 "{} in pieces of {size}",
                 case.name
             );
@@ -221,12 +221,12 @@ fn peers_are_measured_and_compared(rt: HostRuntime) -> Result<(), Fail> {
     ] {
         let capture = decode(rt.alloc(), capture).map_err(|_| Fail::from("not hex"))?;
         let text = decode(rt.alloc(), text).map_err(|_| Fail::from("not hex"))?;
-        let wanted = Measure {
+        let expected = Measure {
             frames: 1,
             attributes,
             text_len,
         };
-        assert!(rt; measure(capture.as_slice(), 1000) == Ok(wanted));
+        assert!(rt; measure(capture.as_slice(), 1000) == Ok(expected));
         assert!(rt; same(capture.as_slice(), text.as_slice(), 1000) == Ok(true));
     }
     Ok(())
@@ -244,10 +244,10 @@ fn numbers_are_zero_in_every_message(rt: HostRuntime) -> Result<(), Fail> {
         16, 0, 0, 0, 18, 0, 5, 0, 8, 0, 0, 0, 10, 0, 0, 0,
     ];
     clear_numbers(&mut capture);
-    let wanted = [
+    let expected = [
         16, 0, 0, 0, 18, 0, 1, 3, 0, 0, 0, 0, 0, 0, 0, 0, 36, 0, 0, 0, 2, 0, 0, 0, 0, 0, 0, 0, 0,
         0, 0, 0, 239, 255, 255, 255, 16, 0, 0, 0, 18, 0, 5, 0, 0, 0, 0, 0, 0, 0, 0, 0,
     ];
-    assert!(rt; capture == wanted);
+    assert!(rt; capture == expected);
     Ok(())
 }

@@ -39,12 +39,12 @@ impl Plan {
 
 /// A reader of the bytes `rest`.
 #[derive(Drop)]
-pub(crate) struct Giver<'a> {
+pub(crate) struct LimitedReader<'a> {
     pub rest: &'a [u8],
     pub plan: Plan,
 }
 
-impl Read for Giver<'_> {
+impl Read for LimitedReader<'_> {
     fn read(&mut self, buf: &mut [u8]) -> io::Result<usize> {
         let size = self.plan.next()?;
         let count = self.rest.len().min(size).min(buf.len());
@@ -56,12 +56,12 @@ impl Read for Giver<'_> {
 
 /// A writer that keeps the bytes in `taken`.
 #[derive(Drop)]
-pub(crate) struct Taker {
+pub(crate) struct LimitedWriter {
     pub taken: Vec<u8>,
     pub plan: Plan,
 }
 
-impl Write for Taker {
+impl Write for LimitedWriter {
     fn write(&mut self, buf: &[u8]) -> io::Result<usize> {
         let size = self.plan.next()?;
         let count = buf.len().min(size);

@@ -62,8 +62,8 @@ pub(crate) fn is_displayed<T: Display>(alloc: Global, value: &T, text: &str) -> 
 }
 
 /// Returns a result as a text: `ok`, or the display of its fault.
-pub(crate) fn shown(alloc: Global, answer: &Result<(), CaptureFault>) -> Result<String, Fail> {
-    Ok(match answer {
+pub(crate) fn shown(alloc: Global, outcome: &Result<(), CaptureFault>) -> Result<String, Fail> {
+    Ok(match outcome {
         Ok(()) => "ok".to_string(alloc)?,
         Err(fault) => format!(in alloc; "{fault}")?,
     })

@@ -15,7 +15,7 @@ mod messages;
 #[cfg(test)]
 mod program;
 #[cfg(test)]
-mod program_words;
+mod program_arguments;
 #[cfg(test)]
 mod readers;
 #[cfg(test)]

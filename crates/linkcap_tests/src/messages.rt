@@ -69,7 +69,7 @@ fn message(alloc: Global, case: usize) -> Result<LinkMessage, Fail> {
 #[test]
 fn messages_are_readable_where_they_read_back(rt: HostRuntime) -> Result<(), Fail> {
     let alloc = rt.alloc();
-    let wanted = [
+    let expected = [
         Some(NotReadable::Unfit),
         None,
         Some(NotReadable::ReadsOtherwise),
@@ -81,18 +81,18 @@ fn messages_are_readable_where_they_read_back(rt: HostRuntime) -> Result<(), Fai
         Some(NotReadable::ReadsOtherwise),
         Some(NotReadable::ReadsOtherwise),
     ];
-    for (case, wanted) in wanted.iter().enumerate() {
+    for (case, expected) in expected.iter().enumerate() {
         let (back, outcome) = match ReadableLink::new(alloc, message(alloc, case)?) {
             Ok(link) => (link.into_message(), None),
             Err((back, why)) => (back, Some(why)),
         };
-        assert!(rt; outcome == *wanted && back == message(alloc, case)?);
+        assert!(rt; outcome == *expected && back == message(alloc, case)?);
     }
     Ok(())
 }
 
 #[test]
-fn refusals_have_their_words(rt: HostRuntime) -> Result<(), Fail> {
+fn refusals_have_their_texts(rt: HostRuntime) -> Result<(), Fail> {
     let cases = [
         (RouteFault::Refused, "refused body"),
         (RouteFault::EmptyPorts, "ports with foreign entries alone"),
@@ -132,7 +132,7 @@ const CAPTURES: [(&str, &str); 4] = [
 ];
 
 /// Returns the type of a message, or the fault.
-fn word_of(
+fn message_label(
     alloc: Global,
     message: Result<NetlinkMessage<RouteLink>, CaptureFault>,
 ) -> Result<String, Fail> {
@@ -146,14 +146,14 @@ fn word_of(
 }
 
 /// Returns the types of the messages of a capture, with the fault.
-fn words_of(alloc: Global, capture: &[u8]) -> Result<String, Fail> {
+fn message_labels(alloc: Global, capture: &[u8]) -> Result<String, Fail> {
     let mut messages = Messages::new(alloc, capture, 1000);
-    let mut told = String::new(alloc);
+    let mut labels = String::new(alloc);
     while let Some(message) = messages.next() {
-        told.push_str(word_of(alloc, message)?.as_str())?;
+        labels.push_str(message_label(alloc, message)?.as_str())?;
     }
     match messages.next() {
-        None => Ok(told),
+        None => Ok(labels),
         Some(_) => Err(Fail::from("a message behind the last")),
     }
 }
@@ -161,13 +161,13 @@ fn words_of(alloc: Global, capture: &[u8]) -> Result<String, Fail> {
 #[test]
 fn messages_come_one_after_another(rt: HostRuntime) -> Result<(), Fail> {
     let alloc = rt.alloc();
-    for (rest, wanted) in &CAPTURES {
+    for (rest, expected) in &CAPTURES {
         let capture = format!(in alloc;
             "3000000012000103340ef95a0000000000000000000000000000\
             00000000000008001d0009000000070003806c6f00ff1100000014000000000000000000000061{rest}"
         )?;
         let bytes = decode(alloc, capture.as_str()).map_err(|_| Fail::from("not hex"))?;
-        assert!(rt; words_of(alloc, bytes.as_slice())?.as_str() == *wanted);
+        assert!(rt; message_labels(alloc, bytes.as_slice())?.as_str() == *expected);
     }
     Ok(())
 }

@@ -2,11 +2,11 @@
 
 ghost use Rattle.std.specs.Prelude.{None};
 
-use super::devices::{Giver, Plan, Taker};
-use super::program_words::strings;
+use super::devices::{LimitedReader, Plan, LimitedWriter};
+use super::program_arguments::strings;
 use super::runs::{CAPTURE, TEXT};
 use link_capture::{DeviceFailed, ReadSource, WriteSink};
-use linkcap_program::{FileSystem, answer, answer_same};
+use linkcap_program::{FileSystem, run, run_same};
 use std::alloc::Global;
 use std::test::Fail;
 
@@ -25,13 +25,13 @@ const FILES: SampleFiles = SampleFiles {
 };
 
 impl FileSystem for SampleFiles {
-    type File = ReadSource<Giver<'static>>;
+    type File = ReadSource<LimitedReader<'static>>;
 
     ghost contents = { λ _ _. None };
 
     ghost counts = { λ s. record { asked = s.asked; failures = s.failures } };
 
-    fn open(&mut self, name: &str) -> Result<ReadSource<Giver<'static>>, DeviceFailed> {
+    fn open(&mut self, name: &str) -> Result<ReadSource<LimitedReader<'static>>, DeviceFailed> {
         self.asked = self.asked.saturating_add(1);
         let rest: &'static [u8] = match name {
             "capture" => &CAPTURE,
@@ -49,7 +49,7 @@ impl FileSystem for SampleFiles {
             calls: rest.len(),
             fails: name == "broken",
         };
-        Ok(ReadSource::new(Giver { rest, plan }))
+        Ok(ReadSource::new(LimitedReader { rest, plan }))
     }
 }
 
@@ -57,7 +57,7 @@ const USAGE_LINE: &str = "usage: linkcap norm [LIMIT] or linkcap same FILE FILE 
 
 /// Arguments after the program's name, the output for the capture and these files, and the error
 /// message.
-const WORDS: [(&[&str], &[u8], &str); 15] = [
+const ARGUMENTS: [(&[&str], &[u8], &str); 15] = [
     (&["norm"], &TEXT, ""),
     (&["norm", "48"], &TEXT, ""),
     (&["norm", "47"], b"", "frame over the limit at 0\n"),
@@ -88,31 +88,31 @@ const WORDS: [(&[&str], &[u8], &str); 15] = [
 ];
 
 /// Returns the output for the capture and these files, and the error message.
-fn answers(alloc: Global, words: &[String]) -> (Vec<u8>, Vec<u8>) {
+fn run_of_arguments(alloc: Global, arguments: &[String]) -> (Vec<u8>, Vec<u8>) {
     let mut source = ReadSource::new(CAPTURE.as_slice());
     let mut text = Vec::new(alloc);
     let mut sink = WriteSink::new(&mut text);
-    let mut told = Vec::new(alloc);
-    let mut errors = WriteSink::new(&mut told);
-    answer(
+    let mut reported = Vec::new(alloc);
+    let mut errors = WriteSink::new(&mut reported);
+    run(
         alloc,
-        words,
+        arguments,
         &mut FILES,
         &mut source,
         &mut sink,
         &mut errors,
     );
-    (text, told)
+    (text, reported)
 }
 
 #[test]
-fn words_are_followed(rt: HostRuntime) -> Result<(), Fail> {
-    for (words, written, line) in WORDS {
-        let strings = strings(rt.alloc(), words)?;
-        let (text, told) = answers(rt.alloc(), strings.as_slice());
+fn arguments_are_carried_out(rt: HostRuntime) -> Result<(), Fail> {
+    for (arguments, written, line) in ARGUMENTS {
+        let strings = strings(rt.alloc(), arguments)?;
+        let (text, reported) = run_of_arguments(rt.alloc(), strings.as_slice());
         assert!(rt;
-            text.as_slice() == written && told.as_slice() == line.as_bytes(),
-            "{words:?}"
+            text.as_slice() == written && reported.as_slice() == line.as_bytes(),
+            "{arguments:?}"
         );
     }
     Ok(())
@@ -120,8 +120,8 @@ fn words_are_followed(rt: HostRuntime) -> Result<(), Fail> {
 
 /// A result of which the writer takes only a part.
 #[test]
-fn an_answer_that_is_not_printed_is_told(rt: HostRuntime) {
-    let mut writer = Taker {
+fn a_result_that_is_not_printed_is_reported(rt: HostRuntime) {
+    let mut writer = LimitedWriter {
         taken: Vec::new(rt.alloc()),
         plan: Plan {
             size: 2,
@@ -130,9 +130,9 @@ fn an_answer_that_is_not_printed_is_told(rt: HostRuntime) {
         },
     };
     let mut sink = WriteSink::new(&mut writer);
-    let mut told = Vec::new(rt.alloc());
-    let mut errors = WriteSink::new(&mut told);
-    answer_same(
+    let mut reported = Vec::new(rt.alloc());
+    let mut errors = WriteSink::new(&mut reported);
+    run_same(
         rt.alloc(),
         &mut FILES,
         &mut sink,
@@ -142,5 +142,5 @@ fn an_answer_that_is_not_printed_is_told(rt: HostRuntime) {
         1000,
     );
     assert!(rt; writer.taken.as_slice() == b"same".as_slice());
-    assert!(rt; told.as_slice() == b"write failed at 0\n".as_slice());
+    assert!(rt; reported.as_slice() == b"write failed at 0\n".as_slice());
 }

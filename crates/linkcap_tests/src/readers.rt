@@ -8,7 +8,7 @@ use std::test::Fail;
 /// A piece in hex, the result of feeding it, and how many bytes are written and kept then.
 struct Step {
     piece: &'static str,
-    answer: &'static str,
+    fed: &'static str,
     written: usize,
     kept: usize,
 }
@@ -28,13 +28,13 @@ const CASES: [Case; 4] = [
         steps: &[
             Step {
                 piece: "1100000014000000000000000000000061",
-                answer: "ok",
+                fed: "ok",
                 written: 20,
                 kept: 0,
             },
             Step {
                 piece: "ffffff",
-                answer: "ok",
+                fed: "ok",
                 written: 20,
                 kept: 0,
             },
@@ -46,7 +46,7 @@ const CASES: [Case; 4] = [
         name: "a short rest is judged at the end",
         steps: &[Step {
             piece: "3000000012000103",
-            answer: "ok",
+            fed: "ok",
             written: 0,
             kept: 8,
         }],
@@ -58,14 +58,14 @@ const CASES: [Case; 4] = [
         steps: &[
             Step {
                 piece: "e9030000140000000000000000000000",
-                answer: "frame over the limit at 0",
+                fed: "frame over the limit at 0",
                 written: 0,
                 kept: 0,
             },
             Step {
                 piece: "3000000012000103340ef95a000000000000000000000000000000000000000008001d0009\
                     000000070003006c6f0000",
-                answer: "failed before at 0",
+                fed: "failed before at 0",
                 written: 0,
                 kept: 0,
             },
@@ -78,19 +78,19 @@ const CASES: [Case; 4] = [
         steps: &[
             Step {
                 piece: "3000000012000103340ef95a000000000000000000000000000000000000",
-                answer: "ok",
+                fed: "ok",
                 written: 0,
                 kept: 30,
             },
             Step {
                 piece: "000008001d0009000000070003006c6f0000",
-                answer: "ok",
+                fed: "ok",
                 written: 48,
                 kept: 0,
             },
             Step {
                 piece: "3000000012",
-                answer: "ok",
+                fed: "ok",
                 written: 48,
                 kept: 5,
             },
@@ -108,9 +108,9 @@ fn pieces_are_read(rt: HostRuntime) -> Result<(), Fail> {
         let mut out = Vec::new(rt.alloc());
         for step in case.steps {
             let piece = decode(rt.alloc(), step.piece).map_err(|_| Fail::from("not hex"))?;
-            let answer = shown(rt.alloc(), &reader.feed(piece.as_slice(), &mut out))?;
+            let fed = shown(rt.alloc(), &reader.feed(piece.as_slice(), &mut out))?;
             assert!(rt;
-                answer.as_str() == step.answer
+                fed.as_str() == step.fed
                     && (out.len(), reader.kept()) == (step.written, step.kept),
                 "{}",
                 case.name

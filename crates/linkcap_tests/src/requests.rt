@@ -89,7 +89,7 @@ fn what_reads_otherwise_is_not_asked_for(rt: HostRuntime) -> Result<(), Fail> {
 }
 
 #[test]
-fn faults_have_their_words(rt: HostRuntime) -> Result<(), Fail> {
+fn faults_have_their_texts(rt: HostRuntime) -> Result<(), Fail> {
     let cases = [
         (RequestFault::Unfit, "attribute over 65535"),
         (

@@ -2,7 +2,7 @@
 //! that it reports the failure of a device and then neither reads nor writes; these tests check
 //! that.
 
-use super::devices::{Giver, Plan, Taker};
+use super::devices::{LimitedReader, Plan, LimitedWriter};
 use super::fault_texts::shown;
 use link_capture::{
     CaptureFault, FaultKind, ReadSource, WriteSink, normalize, read_all, write_all,
@@ -49,18 +49,18 @@ struct Run {
 
 /// Returns a run of `normalize` under the limit 1000.
 fn norm_between(alloc: Global, capture: &[u8], reads: Plan, writes: Plan) -> Run {
-    let mut reader = Giver {
+    let mut reader = LimitedReader {
         rest: capture,
         plan: reads,
     };
-    let mut writer = Taker {
+    let mut writer = LimitedWriter {
         taken: Vec::new(alloc),
         plan: writes,
     };
     let mut source = ReadSource::new(&mut reader);
     let mut sink = WriteSink::new(&mut writer);
     let outcome = normalize(alloc, &mut source, &mut sink, 1000);
-    let Taker { taken, .. } = writer;
+    let LimitedWriter { taken, .. } = writer;
     Run {
         outcome,
         taken,
@@ -74,7 +74,7 @@ struct Case {
     capture: &'static [u8],
     reads: Plan,
     writes: Plan,
-    answer: &'static str,
+    expected_text: &'static str,
     written: &'static [u8],
 }
 
@@ -90,7 +90,7 @@ const CASES: [Case; 9] = [
         capture: &TEXT,
         reads: STEADY,
         writes: Plan { size: 5, ..STEADY },
-        answer: "ok",
+        expected_text: "ok",
         written: &TEXT,
     },
     Case {
@@ -102,7 +102,7 @@ const CASES: [Case; 9] = [
             calls: 4,
             fails: true,
         },
-        answer: "write failed at 20",
+        expected_text: "write failed at 20",
         written: b"\x30\0\0\0\x12\0\x01\x03\x34\x0e\xf9\x5a\0\0\0\0\0\0\0\0",
     },
     Case {
@@ -114,7 +114,7 @@ const CASES: [Case; 9] = [
             calls: 4,
             fails: false,
         },
-        answer: "write failed at 20",
+        expected_text: "write failed at 20",
         written: b"\x30\0\0\0\x12\0\x01\x03\x34\x0e\xf9\x5a\0\0\0\0\0\0\0\0",
     },
     Case {
@@ -126,7 +126,7 @@ const CASES: [Case; 9] = [
             calls: 0,
             fails: true,
         },
-        answer: "write failed at 0",
+        expected_text: "write failed at 0",
         written: b"",
     },
     Case {
@@ -138,7 +138,7 @@ const CASES: [Case; 9] = [
             calls: 1,
             fails: true,
         },
-        answer: "write failed at 19",
+        expected_text: "write failed at 19",
         written: b"\x14\0\0\0\x03\0\x02\0\x01\0\0\0\0\0\0\0\0\0\0",
     },
     Case {
@@ -146,7 +146,7 @@ const CASES: [Case; 9] = [
         capture: &SHORT,
         reads: STEADY,
         writes: STEADY,
-        answer: "length under 16 at 16",
+        expected_text: "length under 16 at 16",
         written: &SHORT_TEXT,
     },
     Case {
@@ -158,7 +158,7 @@ const CASES: [Case; 9] = [
             fails: true,
         },
         writes: STEADY,
-        answer: "read failed at 30",
+        expected_text: "read failed at 30",
         written: b"",
     },
     Case {
@@ -170,7 +170,7 @@ const CASES: [Case; 9] = [
             fails: true,
         },
         writes: STEADY,
-        answer: "read failed at 58",
+        expected_text: "read failed at 58",
         written: b"\x30\0\0\0\x12\0\x01\x03\x34\x0e\xf9\x5a\0\0\0\0\0\0\0\0\0\0\0\0\0\0\0\0\0\0\0\0\
             \x08\0\x1d\0\x09\0\0\0\x07\0\x03\0lo\0\0",
     },
@@ -187,18 +187,18 @@ const CASES: [Case; 9] = [
             calls: 2,
             fails: true,
         },
-        answer: "write failed at 6",
+        expected_text: "write failed at 6",
         written: b"\x30\0\0\0\x12\0",
     },
 ];
 
 #[test]
-fn devices_are_followed(rt: HostRuntime) -> Result<(), Fail> {
+fn devices_make_the_result(rt: HostRuntime) -> Result<(), Fail> {
     for case in &CASES {
         let run = norm_between(rt.alloc(), case.capture, case.reads, case.writes);
-        let answer = shown(rt.alloc(), &run.outcome)?;
+        let expected_text = shown(rt.alloc(), &run.outcome)?;
         assert!(rt;
-            answer.as_str() == case.answer && run.taken.as_slice() == case.written,
+            expected_text.as_str() == case.expected_text && run.taken.as_slice() == case.written,
             "{}",
             case.name
         );
@@ -237,7 +237,7 @@ fn pieces_make_no_difference(rt: HostRuntime) {
 
 /// Returns the expected result of a run whose source fails, or reports its end, after the first
 /// `read` bytes of the capture.
-fn answer_behind(read: usize, fails: bool) -> Result<(), CaptureFault> {
+fn run_result_after(read: usize, fails: bool) -> Result<(), CaptureFault> {
     let (kind, offset) = match read {
         _ if fails => (FaultKind::Read, read),
         0 | 48 | 64 => return Ok(()),
@@ -261,7 +261,7 @@ fn text_of(read: usize) -> &'static [u8] {
 
 /// Returns whether a run over the capture has this result after the first `read` bytes, and has
 /// written the texts of the frames there.
-fn is_run_behind(
+fn is_run_after(
     alloc: Global,
     reads: Plan,
     read: usize,
@@ -275,14 +275,14 @@ fn is_run_behind(
 
 /// Returns whether `read_all` returns the first `read` bytes of the capture, or the fault of a
 /// source that fails there.
-fn is_all_behind(alloc: Global, reads: Plan, read: usize, fails: bool) -> bool {
-    let mut source = ReadSource::new(Giver {
+fn is_all_after(alloc: Global, reads: Plan, read: usize, fails: bool) -> bool {
+    let mut source = ReadSource::new(LimitedReader {
         rest: &CAPTURE,
         plan: reads,
     });
     match read_all(alloc, &mut source) {
         Ok(bytes) => !fails && Some(bytes.as_slice()) == CAPTURE.get(..read),
-        fault => fault.err() == answer_behind(read, fails).err(),
+        fault => fault.err() == run_result_after(read, fails).err(),
     }
 }
 
@@ -296,13 +296,13 @@ fn a_run_ends_with_its_source(rt: HostRuntime) {
                 // The call after the last byte may be a later one, which reports the end.
                 let fails_there = fails && size.saturating_mul(calls.saturating_sub(1)) < 64;
                 let plan = Plan { size, calls, fails };
-                let wanted = answer_behind(read, fails_there);
+                let expected = run_result_after(read, fails_there);
                 assert!(rt;
-                    is_run_behind(rt.alloc(), plan, read, wanted),
+                    is_run_after(rt.alloc(), plan, read, expected),
                     "{calls} reads of {size} bytes"
                 );
                 assert!(rt;
-                    is_all_behind(rt.alloc(), plan, read, fails_there),
+                    is_all_after(rt.alloc(), plan, read, fails_there),
                     "all of {calls} reads of {size} bytes"
                 );
             }
@@ -341,7 +341,7 @@ fn a_run_ends_with_its_sink(rt: HostRuntime) {
 #[test]
 fn large_captures_are_read_and_written(rt: HostRuntime) -> Result<(), Fail> {
     let capture = vec![in rt.alloc(); 0u8; 1_000_100]?;
-    let mut source = ReadSource::new(Giver {
+    let mut source = ReadSource::new(LimitedReader {
         rest: capture.as_slice(),
         plan: Plan::steady(1),
     });

@@ -2,7 +2,7 @@
 //! code.
 
 use bitflags::Flags;
-use examples::{Finding, Interfaces, NotStored, Store, hold_against, learn_all};
+use examples::{Finding, Interfaces, NotStored, Store, compare_with_golden, learn_all};
 use link_capture::{CaptureFault, FaultKind};
 use std::collections::BTreeMap;
 use std::test::Fail;
@@ -40,10 +40,10 @@ const CUT_FAULT: CaptureFault = CaptureFault {
 };
 
 #[test]
-fn captures_that_mean_the_same_have_one_place(rt: HostRuntime) -> Result<(), Fail> {
+fn captures_that_mean_the_same_share_a_value(rt: HostRuntime) -> Result<(), Fail> {
     let alloc = rt.alloc();
     let mut store = Store::new(alloc, 1000);
-    let told = [
+    let learned = [
         store.get(alloc, &ASKED) == Ok(None),
         store.insert(alloc, &ASKED, 1u32) == Ok(None),
         store.get(alloc, &ALIKE) == Ok(Some(&1)),
@@ -54,7 +54,7 @@ fn captures_that_mean_the_same_have_one_place(rt: HostRuntime) -> Result<(), Fai
         store.get(alloc, &ALIKE) == Ok(Some(&2)),
         store.get(alloc, &OTHER) == Ok(Some(&3)),
     ];
-    assert_eq!(rt; told, [true; 9]);
+    assert_eq!(rt; learned, [true; 9]);
     Ok(())
 }
 
@@ -66,13 +66,13 @@ fn a_capture_with_a_fault_is_not_stored(rt: HostRuntime) -> Result<(), Fail> {
         fault: CUT_FAULT,
         value: 2,
     };
-    let told = [
+    let learned = [
         store.insert(alloc, &ASKED, 1u32) == Ok(None),
         store.insert(alloc, &CUT, 2) == Err(refused),
         store.get(alloc, &CUT) == Err(CUT_FAULT),
         store.get(alloc, &ASKED) == Ok(Some(&1)),
     ];
-    assert_eq!(rt; told, [true; 4]);
+    assert_eq!(rt; learned, [true; 4]);
     Ok(())
 }
 
@@ -84,22 +84,22 @@ fn a_small_limit_leaves_the_empty_capture(rt: HostRuntime) -> Result<(), Fail> {
         kind: FaultKind::OverLimit,
         offset: 0,
     };
-    let told = [
+    let learned = [
         store.insert(alloc, &[], 1u32) == Ok(None),
         store.get(alloc, &[]) == Ok(Some(&1)),
         store.get(alloc, &ASKED) == Err(fault),
     ];
-    assert_eq!(rt; told, [true; 3]);
+    assert_eq!(rt; learned, [true; 3]);
     Ok(())
 }
 
 #[test]
-fn captures_are_held_against_a_golden_file(rt: HostRuntime) -> Result<(), Fail> {
+fn captures_are_compared_with_a_golden_file(rt: HostRuntime) -> Result<(), Fail> {
     let found = [
-        hold_against(&ASKED, &ALIKE, 1000) == Finding::Golden,
-        hold_against(&ASKED, &OTHER, 1000) == Finding::Changed,
-        hold_against(&ASKED, &CUT, 1000) == Finding::Fault(CUT_FAULT),
-        hold_against(&CUT, &ASKED, 1000) == Finding::GoldenFault(CUT_FAULT),
+        compare_with_golden(&ASKED, &ALIKE, 1000) == Finding::Golden,
+        compare_with_golden(&ASKED, &OTHER, 1000) == Finding::Changed,
+        compare_with_golden(&ASKED, &CUT, 1000) == Finding::Fault(CUT_FAULT),
+        compare_with_golden(&CUT, &ASKED, 1000) == Finding::GoldenFault(CUT_FAULT),
     ];
     assert_eq!(rt; found, [true; 4]);
     Ok(())
@@ -133,7 +133,7 @@ fn interfaces_are_kept(rt: HostRuntime) -> Result<(), Fail> {
         kind: FaultKind::Cut,
         offset: 180,
     };
-    let told = [
+    let learned = [
         learn_all(alloc, &LINKS, 1000, &mut interfaces) == Err(fault),
         interfaces.len() == 2,
         holds(&interfaces, 1, "lo", 0x49),
@@ -142,6 +142,6 @@ fn interfaces_are_kept(rt: HostRuntime) -> Result<(), Fail> {
         interfaces.len() == 3,
         holds(&interfaces, 2, "eth0", 0x1003),
     ];
-    assert_eq!(rt; told, [true; 7]);
+    assert_eq!(rt; learned, [true; 7]);
     Ok(())
 }

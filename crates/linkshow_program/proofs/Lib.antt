@@ -1,4 +1,4 @@
-pub mod Asking
+pub mod ArgumentsAsked
 pub mod Typing
-pub mod Telling
-pub mod Noting
+pub mod Reporting
+pub mod NotesWritten

@@ -27,16 +27,16 @@ pub record Run : Type 0 where
   pub left : SourceState
   pub held : SinkState
   pub holds : SinkState
-  pub told : SinkState
-  pub tells : SinkState
+  pub reported : SinkState
+  pub reported_after : SinkState
 
 -- The states of the devices before and after a run, as their traits describe them.
 abbrev pub run_of : {S K E : Type 0} → (S → SourceState) → (K → SinkState) → (E → SinkState) → S → S → K → K → E → E → Run
-run_of source sink errors from left held holds told tells = record {
+run_of source sink errors from left held holds reported reported_after = record {
   from = source from;
   left = source left;
   held = sink held;
   holds = sink holds;
-  told = errors told;
-  tells = errors tells;
+  reported = errors reported;
+  reported_after = errors reported_after;
 }

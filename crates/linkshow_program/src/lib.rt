@@ -7,7 +7,7 @@ ghost use Rattle.std.specs.Process.{exit_status};
 ghost use Rattle.link_capture_reader.specs.Devices.{risen};
 ghost use Rattle.link_capture_reader.specs.States.{sink_state, source_state};
 ghost use Rattle.linkshow_program.specs.Devices.{opening, run_of};
-ghost use Rattle.linkshow_program.specs.Runs.{Answers, CaptureAnswer, FileAnswer, UsageAnswer, chosen};
+ghost use Rattle.linkshow_program.specs.Runs.{RunsAsAsked, CaptureRun, FileRun, UsageRun, chosen};
 
 mod files;
 mod lines;
@@ -17,35 +17,35 @@ mod refusals;
 mod showing;
 mod texts;
 mod types;
-mod words;
+mod arguments;
 
 pub use files::Files;
 use files::HostFiles;
-use link_capture_commands::words;
-use link_capture_reader::{ReadSource, Sink, Source, WriteSink, tell};
-pub use notes::answer_notes;
+use link_capture_commands::arguments;
+use link_capture_reader::{ReadSource, Sink, Source, WriteSink, report_text};
+pub use notes::run_notes;
 use printing::print;
-pub use showing::answer_show;
-use showing::tell_unopened;
+pub use showing::run_show;
+use showing::report_unopened;
 use std::alloc::Global;
 use std::io;
 use std::process::ExitCode;
 use texts::{HELP, USAGE, VERSION};
 pub use types::{TYPE_WORDS, Types};
-pub use words::{Asked, Options, read_words};
+pub use arguments::{Asked, Options, read_words};
 
 /// Writes the usage line to the error writer, and returns the status of a usage error.
-fn answer_usage<E: Sink>(errors: &mut E) -> ExitCode
-    ensures { UsageAnswer (sink_state E.holds E.failures errors.old)
+fn run_usage<E: Sink>(errors: &mut E) -> ExitCode
+    ensures { UsageRun (sink_state E.holds E.failures errors.old)
         (sink_state E.holds E.failures errors.new) (exit_status result) }
 {
-    tell(errors, USAGE);
+    report_text(errors, USAGE);
     ExitCode::from(3)
 }
 
 /// Writes the lines of a capture, and, if the options ask for them, notes of encoding quirks before
 /// these.
-fn answer_capture<S: Source, K: Sink, E: Sink>(
+fn run_capture<S: Source, K: Sink, E: Sink>(
     alloc: Global,
     source: &mut S,
     sink: &mut K,
@@ -53,22 +53,22 @@ fn answer_capture<S: Source, K: Sink, E: Sink>(
     options: &Options<'_>,
 ) -> ExitCode
     requires { 16 ≤ options.now.limit }
-    ensures { CaptureAnswer options.now.kernels (chosen options.now) (run_of
-        (source_state S.to_come S.failures S.ends_told) (sink_state K.holds K.failures)
+    ensures { CaptureRun options.now.kernels (chosen options.now) (run_of
+        (source_state S.to_come S.failures S.ends_reported) (sink_state K.holds K.failures)
         (sink_state E.holds E.failures) source.old source.new sink.old sink.new
         errors.old errors.new) (sink.new ≡ sink.old)
         (option_map (λ name. name.now) options.now.file) options.now.limit (exit_status result) }
 {
     if options.kernels {
-        answer_notes(alloc, source, sink, errors, options)
+        run_notes(alloc, source, sink, errors, options)
     } else {
-        answer_show(alloc, source, sink, errors, options)
+        run_show(alloc, source, sink, errors, options)
     }
 }
 
-/// Opens a file by its name, and writes the lines of its capture as `answer_capture` does. If it
+/// Opens a file by its name, and writes the lines of its capture as `run_capture` does. If it
 /// can't be opened, this is reported.
-fn answer_file<F: Files, K: Sink, E: Sink>(
+fn run_file<F: Files, K: Sink, E: Sink>(
     alloc: Global,
     files: &mut F,
     sink: &mut K,
@@ -79,7 +79,7 @@ fn answer_file<F: Files, K: Sink, E: Sink>(
     requires low { 16 ≤ options.now.limit }
     requires name { option_map (λ name. name.now) options.now.file ≡ Some name.now }
     ensures asked { F.asked files.new ≡ risen (F.asked files.old) }
-    ensures answer { FileAnswer (source_state F.File.to_come F.File.failures F.File.ends_told)
+    ensures run { FileRun (source_state F.File.to_come F.File.failures F.File.ends_reported)
         (F.contents files.old name.now) (F.refusal files.new) name.now
         (sink_state K.holds K.failures sink.old) (sink_state K.holds K.failures sink.new)
         (sink_state E.holds E.failures errors.old) (sink_state E.holds E.failures errors.new)
@@ -87,9 +87,9 @@ fn answer_file<F: Files, K: Sink, E: Sink>(
         (exit_status result) }
 {
     match files.open(name) {
-        Ok(mut file) => answer_capture(alloc, &mut file, sink, errors, options),
+        Ok(mut file) => run_capture(alloc, &mut file, sink, errors, options),
         Err(kind) => {
-            tell_unopened(errors, name, kind);
+            report_unopened(errors, name, kind);
             ExitCode::from(2)
         }
     }
@@ -99,28 +99,28 @@ fn answer_file<F: Files, K: Sink, E: Sink>(
 /// arguments ask, and reports any error on the error writer. If the arguments ask for help or the
 /// version, or are invalid, no file is opened and nothing is read; if they name a file, the source
 /// isn't read.
-pub fn answer<F: Files, S: Source, K: Sink, E: Sink>(
+pub fn run<F: Files, S: Source, K: Sink, E: Sink>(
     alloc: Global,
-    words: &[String],
+    arguments: &[String],
     files: &mut F,
     source: &mut S,
     sink: &mut K,
     errors: &mut E,
 ) -> ExitCode
-    ensures { Answers (map string_bytes words.now)
+    ensures { RunsAsAsked (map string_bytes arguments.now)
         (files.new ≡ files.old) (source.new ≡ source.old) (sink.new ≡ sink.old) (run_of
-        (source_state S.to_come S.failures S.ends_told) (sink_state K.holds K.failures)
+        (source_state S.to_come S.failures S.ends_reported) (sink_state K.holds K.failures)
         (sink_state E.holds E.failures) source.old source.new sink.old sink.new
         errors.old errors.new) (opening F.contents F.asked F.refusal files.old files.new)
-        (source_state F.File.to_come F.File.failures F.File.ends_told) (exit_status result) }
+        (source_state F.File.to_come F.File.failures F.File.ends_reported) (exit_status result) }
 {
-    match read_words(words) {
-        None => answer_usage(errors),
+    match read_words(arguments) {
+        None => run_usage(errors),
         Some(Asked::Help) => print(sink, errors, HELP),
         Some(Asked::Version) => print(sink, errors, VERSION),
         Some(Asked::Show(options)) => match options.file {
-            Some(name) => answer_file(alloc, files, sink, errors, name, &options),
-            None => answer_capture(alloc, source, sink, errors, &options),
+            Some(name) => run_file(alloc, files, sink, errors, name, &options),
+            None => run_capture(alloc, source, sink, errors, &options),
         },
     }
 }
@@ -131,14 +131,14 @@ pub fn answer<F: Files, S: Source, K: Sink, E: Sink>(
 /// If an argument isn't UTF-8, or an allocation for the arguments fails, a single empty argument is
 /// passed, which is a usage error.
 pub fn outcome(rt: &HostRuntime) -> ExitCode {
-    let wrong = [String::new(rt.alloc())];
-    let words = words(rt);
+    let invalid_arguments = [String::new(rt.alloc())];
+    let arguments = arguments(rt);
     let mut source = ReadSource::new(rt.reader());
     let mut sink = WriteSink::new(io::writer(rt));
     let mut errors = WriteSink::new(rt.stderr());
-    answer(
+    run(
         rt.alloc(),
-        words.as_ref().map_or(&wrong, |words| words.as_slice()),
+        arguments.as_ref().map_or(&invalid_arguments, |arguments| arguments.as_slice()),
         &mut HostFiles::new(rt),
         &mut source,
         &mut sink,

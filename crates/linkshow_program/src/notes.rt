@@ -2,33 +2,33 @@
 
 ghost use Rattle.std.specs.Prelude.{◌≡◌, ◌≤◌, option_map};
 ghost use Rattle.std.specs.Process.{exit_status};
-ghost use Rattle.link_capture_spellings.specs.Spellings.{spellings};
-ghost use Rattle.link_capture_reader.specs.States.{Tells, sink_state, source_state};
+ghost use Rattle.link_capture_quirks.specs.CaptureQuirks.{capture_quirks};
+ghost use Rattle.link_capture_reader.specs.States.{IsReportedOrCut, sink_state, source_state};
 ghost use Rattle.linkshow_program.specs.Devices.{run_of};
-ghost use Rattle.linkshow_program.specs.Runs.{chosen, notes_text, NotesAnswer};
+ghost use Rattle.linkshow_program.specs.Runs.{chosen, notes_text, NotesRun};
 
 use super::lines::note;
 use super::showing::{line_options, report};
-use crate::words::Options;
-use link_capture_reader::{FirstBytes, Sink, SliceSource, Source, read_all_keeping_first, tell};
-use link_capture_spellings::spelling;
+use crate::arguments::Options;
+use link_capture_reader::{FirstBytes, Sink, SliceSource, Source, read_all_keeping_first, report_text};
+use link_capture_quirks::quirks;
 use link_lines::{ShowFault, show};
 use std::alloc::Global;
 use std::process::ExitCode;
 
 /// Writes a note for each encoding quirk of a capture, up to the first fault. After a failure of
 /// the sink the rest isn't written.
-fn tell_notes<E: Sink>(errors: &mut E, bytes: &[u8], limit: u32)
-    ensures { Tells (sink_state E.holds E.failures errors.old)
+fn report_notes<E: Sink>(errors: &mut E, bytes: &[u8], limit: u32)
+    ensures { IsReportedOrCut (sink_state E.holds E.failures errors.old)
         (sink_state E.holds E.failures errors.new)
-        (notes_text (spellings limit bytes.now)) }
+        (notes_text (capture_quirks limit bytes.now)) }
 {
-    let mut left = spelling(bytes, limit);
+    let mut left = quirks(bytes, limit);
     'notes: loop {
         let Some(Ok(found)) = left.next() else {
             return;
         };
-        if !tell(errors, note(found.text().as_str()).as_str()) {
+        if !report_text(errors, note(found.text().as_str()).as_str()) {
             return;
         }
     }
@@ -38,7 +38,7 @@ fn tell_notes<E: Sink>(errors: &mut E, bytes: &[u8], limit: u32)
 /// what went wrong. Returns the program's status.
 ///
 /// If reading fails, or an allocation for what is read, this is reported before any note or line.
-pub fn answer_notes<S: Source, K: Sink, E: Sink>(
+pub fn run_notes<S: Source, K: Sink, E: Sink>(
     alloc: Global,
     source: &mut S,
     sink: &mut K,
@@ -46,8 +46,8 @@ pub fn answer_notes<S: Source, K: Sink, E: Sink>(
     options: &Options<'_>,
 ) -> ExitCode
     requires { 16 ≤ options.now.limit }
-    ensures { NotesAnswer (chosen options.now) (run_of
-        (source_state S.to_come S.failures S.ends_told) (sink_state K.holds K.failures)
+    ensures { NotesRun (chosen options.now) (run_of
+        (source_state S.to_come S.failures S.ends_reported) (sink_state K.holds K.failures)
         (sink_state E.holds E.failures) source.old source.new sink.old sink.new
         errors.old errors.new) (sink.new ≡ sink.old) (option_map (λ name. name.now) options.now.file) options.now.limit
         (exit_status result) }
@@ -55,7 +55,7 @@ pub fn answer_notes<S: Source, K: Sink, E: Sink>(
     let mut first = FirstBytes::new();
     match read_all_keeping_first(alloc, source, &mut first) {
         Ok(bytes) => {
-            tell_notes(errors, bytes.as_slice(), options.limit);
+            report_notes(errors, bytes.as_slice(), options.limit);
             let mut whole = SliceSource::new(bytes.as_slice());
             let outcome = show(
                 alloc,

@@ -3,11 +3,11 @@
 ghost use Rattle.std.specs.Prelude.{◌≡◌};
 ghost use Rattle.std.specs.Process.{exit_status};
 ghost use Rattle.link_capture_reader.specs.States.{sink_state};
-ghost use Rattle.linkshow_program.specs.Runs.{PrintAnswer};
+ghost use Rattle.linkshow_program.specs.Runs.{PrintRun};
 
-use super::lines::tell_all;
+use super::lines::report_texts;
 use link_capture_grammar::fault::{CaptureFault, FaultKind};
-use link_capture_reader::{Sink, tell};
+use link_capture_reader::{Sink, report_text};
 use std::process::ExitCode;
 
 /// The fault that is reported if a text can't be printed.
@@ -18,13 +18,13 @@ const NOT_PRINTED: CaptureFault = CaptureFault {
 
 /// Prints a text, or reports that it can't be printed. Returns the program's status.
 pub(crate) fn print<K: Sink, E: Sink>(sink: &mut K, errors: &mut E, text: &str) -> ExitCode
-    ensures { PrintAnswer (sink_state K.holds K.failures sink.old)
+    ensures { PrintRun (sink_state K.holds K.failures sink.old)
         (sink_state K.holds K.failures sink.new) (sink_state E.holds E.failures errors.old)
         (sink_state E.holds E.failures errors.new) text.now (exit_status result) }
 {
-    if tell(sink, text) {
+    if report_text(sink, text) {
         return ExitCode::from(0);
     }
-    tell_all(errors, &[NOT_PRINTED.text().as_str(), "\n"]);
+    report_texts(errors, &[NOT_PRINTED.text().as_str(), "\n"]);
     ExitCode::from(2)
 }

@@ -4,16 +4,16 @@ ghost use Rattle.std.specs.Prelude.{◌≡◌, ◌≤◌, ◌++◌, option_map};
 ghost use Rattle.std.specs.Process.{exit_status};
 ghost use Rattle.link_lines.specs.Options.{choice_of};
 ghost use Rattle.link_capture_commands.specs.Commands.{status_of};
-ghost use Rattle.link_capture_reader.specs.States.{IsTold, Tells, sink_state, source_state};
+ghost use Rattle.link_capture_reader.specs.States.{IsReported, IsReportedOrCut, sink_state, source_state};
 ghost use Rattle.linkshow_program.specs.Devices.{run_of};
-ghost use Rattle.linkshow_program.specs.Runs.{chosen, fault_told, is_unread, name_told, nothing_read, told_of, ShowAnswer, unopened};
+ghost use Rattle.linkshow_program.specs.Runs.{chosen, fault_report, is_unread, name_report, nothing_read, report_of, ShowRun, unopened};
 
-use super::lines::tell_all;
-use super::refusals::tell_words;
+use super::lines::report_texts;
+use super::refusals::report_fault_message;
 use crate::texts::{advice, cause};
-use crate::words::Options;
+use crate::arguments::Options;
 use link_capture_grammar::fault::FaultKind;
-use link_capture_reader::{Sink, Source, tell};
+use link_capture_reader::{Sink, Source, report_text};
 use link_lines::{FirstBytes, LineOptions, ShowFault, show_keeping_first};
 use std::alloc::Global;
 use std::io::ErrorKind;
@@ -31,13 +31,13 @@ fn is_unread(kind: FaultKind) -> bool
 
 /// Writes the name of a file that couldn't be read, before the text of the fault. Returns whether
 /// all was written.
-fn tell_name<E: Sink>(errors: &mut E, file: Option<&str>, is_unread: bool) -> bool
-    ensures { IsTold (sink_state E.holds E.failures errors.old)
+fn report_name<E: Sink>(errors: &mut E, file: Option<&str>, is_unread: bool) -> bool
+    ensures { IsReported (sink_state E.holds E.failures errors.old)
         (sink_state E.holds E.failures errors.new)
-        (name_told (option_map (λ name. name.now) file.entry) is_unread) result }
+        (name_report (option_map (λ name. name.now) file.entry) is_unread) result }
 {
     match file {
-        Some(name) if is_unread => tell_all(errors, &["linkshow: ", name, ": "]),
+        Some(name) if is_unread => report_texts(errors, &["linkshow: ", name, ": "]),
         _ => true,
     }
 }
@@ -45,29 +45,29 @@ fn tell_name<E: Sink>(errors: &mut E, file: Option<&str>, is_unread: bool) -> bo
 /// Reports a fault in one line, which begins with the file's name if the file couldn't be read,
 /// followed by a line of advice if the capture is a file of another format. Returns whether all was
 /// written.
-fn tell_fault<E: Sink>(errors: &mut E, file: Option<&str>, first: &[u8], found: &ShowFault) -> bool
-    ensures { IsTold (sink_state E.holds E.failures errors.old)
+fn report_fault<E: Sink>(errors: &mut E, file: Option<&str>, first: &[u8], found: &ShowFault) -> bool
+    ensures { IsReported (sink_state E.holds E.failures errors.old)
         (sink_state E.holds E.failures errors.new)
-        (fault_told (option_map (λ name. name.now) file.entry) first.now found.now) result }
+        (fault_report (option_map (λ name. name.now) file.entry) first.now found.now) result }
 {
-    if !tell_name(errors, file, is_unread(found.fault.kind)) {
+    if !report_name(errors, file, is_unread(found.fault.kind)) {
         return false;
     }
-    if !tell_words(errors, found) {
+    if !report_fault_message(errors, found) {
         return false;
     }
-    tell_all(errors, &["\n", advice(first)])
+    report_texts(errors, &["\n", advice(first)])
 }
 
 /// Reports that a file can't be opened, and why. Returns whether all was written.
-pub(crate) fn tell_unopened<E: Sink>(errors: &mut E, name: &str, kind: ErrorKind) -> bool
-    ensures { IsTold (sink_state E.holds E.failures errors.old)
+pub(crate) fn report_unopened<E: Sink>(errors: &mut E, name: &str, kind: ErrorKind) -> bool
+    ensures { IsReported (sink_state E.holds E.failures errors.old)
         (sink_state E.holds E.failures errors.new) (unopened name.now kind) result }
 {
-    if !tell_name(errors, Some(name), true) {
+    if !report_name(errors, Some(name), true) {
         return false;
     }
-    tell_all(errors, &[cause(kind), "\n"])
+    report_texts(errors, &[cause(kind), "\n"])
 }
 
 /// Returns the report on a legal capture that begins with these bytes: `no messages` if it is
@@ -91,17 +91,17 @@ pub(crate) fn report<E: Sink>(
     outcome: Result<(), ShowFault>,
 ) -> ExitCode
     ensures status { exit_status result ≡ status_of outcome }
-    ensures told { Tells (sink_state E.holds E.failures errors.old)
+    ensures reported { IsReportedOrCut (sink_state E.holds E.failures errors.old)
         (sink_state E.holds E.failures errors.new)
-        (told_of (option_map (λ name. name.now) file.entry) first.now outcome) }
+        (report_of (option_map (λ name. name.now) file.entry) first.now outcome) }
 {
     match outcome {
         Ok(()) => {
-            tell(errors, nothing_read(first));
+            report_text(errors, nothing_read(first));
             ExitCode::from(0)
         }
         Err(found) => {
-            tell_fault(errors, file, first, &found);
+            report_fault(errors, file, first, &found);
             ExitCode::from(2)
         }
     }
@@ -119,7 +119,7 @@ pub(crate) fn line_options<'a>(options: &'a Options<'_>) -> LineOptions<'a>
 
 /// Writes the lines of a source, read to its end, and reports what went wrong. Returns the
 /// program's status.
-pub fn answer_show<S: Source, K: Sink, E: Sink>(
+pub fn run_show<S: Source, K: Sink, E: Sink>(
     alloc: Global,
     source: &mut S,
     sink: &mut K,
@@ -127,8 +127,8 @@ pub fn answer_show<S: Source, K: Sink, E: Sink>(
     options: &Options<'_>,
 ) -> ExitCode
     requires { 16 ≤ options.now.limit }
-    ensures { ShowAnswer (chosen options.now) (run_of
-        (source_state S.to_come S.failures S.ends_told) (sink_state K.holds K.failures)
+    ensures { ShowRun (chosen options.now) (run_of
+        (source_state S.to_come S.failures S.ends_reported) (sink_state K.holds K.failures)
         (sink_state E.holds E.failures) source.old source.new sink.old sink.new
         errors.old errors.new) (option_map (λ name. name.now) options.now.file) options.now.limit
         (exit_status result) }

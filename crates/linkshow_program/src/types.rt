@@ -3,7 +3,7 @@
 ghost use Rattle.std.specs.Prelude.{◌≡◌, ◌<◌, ◌≤◌, ◌⊎◌, ◌++◌, ◌∷◌, [], ℕ, length, IfSome, IfNone};
 ghost use Rattle.arrayvec.specs.ArrayVec.{ArrayVec as Items};
 ghost use Rattle.std.specs.Str.Parse.{digits_value};
-ghost use Rattle.linkshow_program.specs.Types.{named_in, words_of, named_type, parts, AreTypeWords, IsTypeNumber, IsTypeWord};
+ghost use Rattle.linkshow_program.specs.Types.{named_in, message_labels, named_type, parts, AreTypeWords, IsTypeNumber, IsTypeWord};
 
 use arrayvec::ArrayVec;
 
@@ -38,7 +38,7 @@ pub const TYPE_WORDS: &[(u16, &str)] = &[
 /// Returns the type with this word, among some. The rows are a parameter, since the prover spells
 /// out a constant inside a loop in each goal.
 fn named_in(rows: &[(u16, &str)], word: &str) -> Option<u16>
-    ensures { result ≡ named_in (words_of (λ w. w.now) rows.now) word.now }
+    ensures { result ≡ named_in (message_labels (λ w. w.now) rows.now) word.now }
 {
     for row in rows {
         if row.1 == word {

@@ -1,6 +1,6 @@
 //! Captures: running out of memory is reported at a frame, and only whole texts are written.
 
-use super::requests::tell_fault;
+use super::requests::report_fault;
 use link_capture::{
     CaptureFault, CaptureReader, FaultKind, SliceSource, VecSink, normalize, normalize_bytes,
     read_all,
@@ -18,8 +18,8 @@ const CAPTURE: [u8; 96] = [
 
 /// Returns whether the texts are those of the whole capture, or those of the frames before a fault
 /// of one of these kinds.
-fn are_texts(out: &[u8], answer: Result<(), CaptureFault>, kinds: &[FaultKind]) -> bool {
-    let Err(CaptureFault { kind, offset }) = answer else {
+fn are_texts(out: &[u8], outcome: Result<(), CaptureFault>, kinds: &[FaultKind]) -> bool {
+    let Err(CaptureFault { kind, offset }) = outcome else {
         return out == CAPTURE.as_slice();
     };
     kinds.contains(&kind)
@@ -31,9 +31,9 @@ fn are_texts(out: &[u8], answer: Result<(), CaptureFault>, kinds: &[FaultKind]) 
 #[test]
 fn a_whole_capture(rt: HostRuntime) -> Result<(), Fail> {
     let mut out = Vec::new(rt.alloc());
-    let answer = normalize_bytes(&CAPTURE, 1000, &mut out);
-    assert!(rt; are_texts(&out, answer, &[FaultKind::Memory]));
-    tell_fault(&rt, rt.alloc(), "normalize_bytes", answer)?;
+    let outcome = normalize_bytes(&CAPTURE, 1000, &mut out);
+    assert!(rt; are_texts(&out, outcome, &[FaultKind::Memory]));
+    report_fault(&rt, rt.alloc(), "normalize_bytes", outcome)?;
     Ok(())
 }
 
@@ -44,17 +44,17 @@ fn a_capture_in_pieces(rt: HostRuntime) -> Result<(), Fail> {
     let mut out = Vec::new(rt.alloc());
     let mut first = Ok(());
     for piece in CAPTURE.chunks(40) {
-        let answer = reader.feed(piece, &mut out);
+        let outcome = reader.feed(piece, &mut out);
         if let Err(CaptureFault { offset, .. }) = first {
             let kind = FaultKind::Failed;
-            assert!(rt; answer == Err(CaptureFault { kind, offset }));
+            assert!(rt; outcome == Err(CaptureFault { kind, offset }));
         } else {
-            first = answer;
+            first = outcome;
         }
     }
     assert!(rt; first.is_err() || reader.finish().is_ok());
     assert!(rt; are_texts(&out, first, &[FaultKind::Memory]));
-    tell_fault(&rt, rt.alloc(), "feed", first)?;
+    report_fault(&rt, rt.alloc(), "feed", first)?;
     Ok(())
 }
 
@@ -63,17 +63,17 @@ fn a_capture_in_pieces(rt: HostRuntime) -> Result<(), Fail> {
 fn a_source_and_a_sink(rt: HostRuntime) -> Result<(), Fail> {
     let mut sink = VecSink::new(rt.alloc());
     let mut source = SliceSource::new(&CAPTURE);
-    let answer = normalize(rt.alloc(), &mut source, &mut sink, 1000);
+    let outcome = normalize(rt.alloc(), &mut source, &mut sink, 1000);
     let kinds = &[FaultKind::Memory, FaultKind::Write];
-    assert!(rt; are_texts(sink.bytes(), answer, kinds));
-    tell_fault(&rt, rt.alloc(), "normalize", answer)?;
+    assert!(rt; are_texts(sink.bytes(), outcome, kinds));
+    report_fault(&rt, rt.alloc(), "normalize", outcome)?;
     Ok(())
 }
 
 /// Running out of memory is reported at the number of bytes read.
 #[test]
 fn all_of_a_source(rt: HostRuntime) -> Result<(), Fail> {
-    let answer = match read_all(rt.alloc(), &mut SliceSource::new(&CAPTURE)) {
+    let outcome = match read_all(rt.alloc(), &mut SliceSource::new(&CAPTURE)) {
         Ok(bytes) => {
             assert!(rt; bytes.as_slice() == CAPTURE.as_slice());
             Ok(())
@@ -83,6 +83,6 @@ fn all_of_a_source(rt: HostRuntime) -> Result<(), Fail> {
             Err(fault)
         }
     };
-    tell_fault(&rt, rt.alloc(), "read_all", answer)?;
+    report_fault(&rt, rt.alloc(), "read_all", outcome)?;
     Ok(())
 }

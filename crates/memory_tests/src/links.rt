@@ -1,7 +1,7 @@
 //! Link messages and link info: running out of memory is reported as such, and never for an input
 //! that is refused.
 
-use super::requests::{is_refused, tell, tell_last};
+use super::requests::{is_refused, report, report_last_request};
 use link_capture::{NotReadable, ReadableLink};
 use link_info::{InfoKind, LinkInfo};
 use link_message::LinkMessage;
@@ -64,7 +64,7 @@ fn is_written_as(message: &LinkMessage, text: &[u8]) -> bool {
 
 /// Returns the result of a read as a text; fails if the value that was read isn't written as
 /// expected.
-fn answer(is_written: Result<bool, DecodeError>) -> Result<&'static str, Fail> {
+fn result_text(is_written: Result<bool, DecodeError>) -> Result<&'static str, Fail> {
     match is_written {
         Ok(true) => Ok("ok"),
         Ok(false) => Err(Fail::from("another text")),
@@ -105,22 +105,22 @@ fn making_readable(alloc: Global, message: LinkMessage) -> Result<Option<NotRead
 fn a_list_of_link_info(rt: HostRuntime) -> Result<(), Fail> {
     // The first allocation may be refused: a listed name needs none.
     assert!(rt; InfoKind::from_name(rt.alloc(), "xfrm").is_ok());
-    let answer = answer(keeps_xfrm(rt.alloc()))?;
-    tell(&rt, rt.alloc(), "parse_list", answer)?;
+    let result_text = result_text(keeps_xfrm(rt.alloc()))?;
+    report(&rt, rt.alloc(), "parse_list", result_text)?;
     Ok(())
 }
 
 #[test]
 fn a_link_message(rt: HostRuntime) -> Result<(), Fail> {
-    let answer = answer(has_text(rt.alloc(), &VXLAN, &VXLAN))?;
-    tell(&rt, rt.alloc(), "LinkMessage::parse", answer)?;
+    let result_text = result_text(has_text(rt.alloc(), &VXLAN, &VXLAN))?;
+    report(&rt, rt.alloc(), "LinkMessage::parse", result_text)?;
     Ok(())
 }
 
 #[test]
 fn a_link_message_with_a_peer(rt: HostRuntime) -> Result<(), Fail> {
-    let answer = answer(has_text(rt.alloc(), &VETH, &VETH_TEXT))?;
-    tell(&rt, rt.alloc(), "LinkMessage::parse", answer)?;
+    let result_text = result_text(has_text(rt.alloc(), &VETH, &VETH_TEXT))?;
+    report(&rt, rt.alloc(), "LinkMessage::parse", result_text)?;
     Ok(())
 }
 
@@ -136,7 +136,7 @@ fn a_readable_link(rt: HostRuntime) -> Result<(), Fail> {
             }
         }
     }
-    tell_last(&rt, rt.alloc())?;
+    report_last_request(&rt, rt.alloc())?;
     Ok(())
 }
 
@@ -147,6 +147,6 @@ fn a_refused_input(rt: HostRuntime) -> Result<(), Fail> {
     for body in [REFUSED_BODY.as_slice(), REFUSED_PEER.as_slice()] {
         assert!(rt; is_refused(LinkMessage::parse(rt.alloc(), body)));
     }
-    tell(&rt, rt.alloc(), "refused input", "refused")?;
+    report(&rt, rt.alloc(), "refused input", "refused")?;
     Ok(())
 }

@@ -1,7 +1,7 @@
 //! Measures and comparisons: none allocates, so they return the same with each allocation refused.
 
 use super::links::{VXLAN, XFRM};
-use super::requests::tell;
+use super::requests::report;
 use link_capture::{CaptureFault, FaultKind, Measure, check, measure, normal_len, same};
 use link_info::{BytesPeer, ListMeasure, check_list, check_list_with, same_list, same_list_with};
 use link_message::BodyMeasure;
@@ -79,7 +79,7 @@ const LEGAL: [(&[u8], [u64; 3]); 12] = [
 ];
 
 /// Captures with a fault, each with its kind and offset.
-const FAULTY: [(&[u8], FaultKind, u64); 3] = [
+const CAPTURES_WITH_A_FAULT: [(&[u8], FaultKind, u64); 3] = [
     // A DONE without a code, followed by a frame whose header has the length 8.
     (
         b"\x10\0\0\0\x03\0\x02\0\x01\0\0\0\0\0\0\0\x08\0\0\0\x03\0\0\0\0\0\0\0\0\0\0\0",
@@ -105,17 +105,17 @@ const FAULTY: [(&[u8], FaultKind, u64); 3] = [
 
 /// The bytes before the settings: the header of a message of 888 bytes, its link header,
 /// IFLA_AF_SPEC, and the family 10 in it.
-const FRONT: [u8; 40] =
+const SETTINGS_PREFIX: [u8; 40] =
     *b"x\x03\0\0\x10\0\0\0\0\0\0\0\0\0\0\0\0\0\0\0\0\0\0\0\0\0\0\0\0\0\0\0X\x03\x1a\0T\x03\x0a\0";
 
 /// The same bytes for a message of 880 bytes.
-const SHORTER_FRONT: [u8; 40] =
+const SHORTER_SETTINGS_PREFIX: [u8; 40] =
     *b"p\x03\0\0\x10\0\0\0\0\0\0\0\0\0\0\0\0\0\0\0\0\0\0\0\0\0\0\0\0\0\0\0P\x03\x1a\0L\x03\x0a\0";
 
 /// Returns these bytes, followed by 212 settings of IPv6 that are absent.
-fn absent_settings(front: &[u8; 40]) -> [u8; 888] {
+fn absent_settings(prefix: &[u8; 40]) -> [u8; 888] {
     let mut bytes = [0u8; 888];
-    bytes[..40].copy_from_slice(front);
+    bytes[..40].copy_from_slice(prefix);
     let mut place = 0u8;
     for byte in bytes[40..].iter_mut() {
         *byte = match place {
@@ -131,14 +131,14 @@ fn absent_settings(front: &[u8; 40]) -> [u8; 888] {
 /// Returns whether a capture has these numbers under a limit, is legal, and means the same as
 /// itself.
 fn is_measured(capture: &[u8], limit: u32, [frames, attributes, size]: [u64; 3]) -> bool {
-    let wanted = Measure {
+    let expected = Measure {
         frames,
         attributes,
         text_len: size as u128,
     };
-    measure(capture, limit) == Ok(wanted)
+    measure(capture, limit) == Ok(expected)
         && check(capture, limit) == Ok(())
-        && normal_len(capture, limit) == Ok(wanted.text_len)
+        && normal_len(capture, limit) == Ok(expected.text_len)
         && same(capture, capture, limit) == Ok(true)
 }
 
@@ -148,30 +148,30 @@ fn captures_are_measured(rt: HostRuntime) -> Result<(), Fail> {
     for (capture, numbers) in LEGAL {
         assert!(rt; is_measured(capture, 1000, numbers));
     }
-    assert!(rt; is_measured(&absent_settings(&FRONT), 1_000_000, [1, 214, 65336]));
-    let shorter = absent_settings(&SHORTER_FRONT);
+    assert!(rt; is_measured(&absent_settings(&SETTINGS_PREFIX), 1_000_000, [1, 214, 65336]));
+    let shorter = absent_settings(&SHORTER_SETTINGS_PREFIX);
     let Some(shorter) = shorter.get(..880) else {
         return Err(Fail::from("fewer than 880 bytes"));
     };
     assert!(rt; is_measured(shorter, 65559, [1, 212, 64720]));
-    for (capture, kind, offset) in FAULTY {
+    for (capture, kind, offset) in CAPTURES_WITH_A_FAULT {
         assert!(rt; measure(capture, 1000) == Err(CaptureFault { kind, offset }));
     }
-    tell(&rt, rt.alloc(), "measure", "as ever")?;
+    report(&rt, rt.alloc(), "measure", "as ever")?;
     Ok(())
 }
 
 /// The body of a link message is counted.
 #[test]
 fn a_body_is_measured(rt: HostRuntime) -> Result<(), Fail> {
-    let wanted = BodyMeasure {
+    let expected = BodyMeasure {
         text_len: 56,
         attributes: 6,
         fits: true,
         empty_ports: false,
     };
-    assert!(rt; link_message::check(&VXLAN)? == wanted && link_message::same(&VXLAN, &VXLAN));
-    tell(&rt, rt.alloc(), "link_message::check", "as ever")?;
+    assert!(rt; link_message::check(&VXLAN)? == expected && link_message::same(&VXLAN, &VXLAN));
+    report(&rt, rt.alloc(), "link_message::check", "as ever")?;
     Ok(())
 }
 
@@ -185,14 +185,14 @@ fn lists_are_measured(rt: HostRuntime) -> Result<(), Fail> {
         (XFRM.as_slice(), 32, 4, true),
         (name.as_slice(), 65536, 1, false),
     ] {
-        let wanted = ListMeasure {
+        let expected = ListMeasure {
             text_len,
             attributes,
             fits,
         };
-        assert!(rt; check_list(list)? == wanted && check_list_with(list, &BytesPeer)? == wanted);
+        assert!(rt; check_list(list)? == expected && check_list_with(list, &BytesPeer)? == expected);
         assert!(rt; same_list(list, list) && same_list_with(list, list, &BytesPeer));
     }
-    tell(&rt, rt.alloc(), "check_list", "as ever")?;
+    report(&rt, rt.alloc(), "check_list", "as ever")?;
     Ok(())
 }

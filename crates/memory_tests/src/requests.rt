@@ -7,7 +7,7 @@ use std::io;
 
 /// Allocates one byte, and prints the result. `tools/refused/run.py` refuses one allocation of a
 /// run: if it is this one, all allocations of the call before were granted.
-pub(crate) fn tell_last(rt: &impl Print, alloc: Global) -> io::Result<()> {
+pub(crate) fn report_last_request(rt: &impl Print, alloc: Global) -> io::Result<()> {
     match Vec::from_elem(alloc, 0u8, 1) {
         Ok(_) => println!(rt; "last request: granted"),
         Err(_) => println!(rt; "last request: refused"),
@@ -15,23 +15,23 @@ pub(crate) fn tell_last(rt: &impl Print, alloc: Global) -> io::Result<()> {
 }
 
 /// Prints the result of a call, followed by that of the last allocation.
-pub(crate) fn tell(rt: &impl Print, alloc: Global, call: &str, answer: &str) -> io::Result<()> {
-    println!(rt; "{call}: {answer}")?;
-    tell_last(rt, alloc)
+pub(crate) fn report(rt: &impl Print, alloc: Global, call: &str, outcome: &str) -> io::Result<()> {
+    println!(rt; "{call}: {outcome}")?;
+    report_last_request(rt, alloc)
 }
 
 /// Prints the result of a call that reads a capture, followed by that of the last allocation.
-pub(crate) fn tell_fault(
+pub(crate) fn report_fault(
     rt: &impl Print,
     alloc: Global,
     call: &str,
-    answer: Result<(), CaptureFault>,
+    outcome: Result<(), CaptureFault>,
 ) -> io::Result<()> {
-    match answer {
+    match outcome {
         Ok(()) => println!(rt; "{call}: ok")?,
         Err(fault) => println!(rt; "{call}: {fault}")?,
     }
-    tell_last(rt, alloc)
+    report_last_request(rt, alloc)
 }
 
 /// Returns whether an input is refused, for another reason than out of memory.

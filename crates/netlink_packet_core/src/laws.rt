@@ -8,16 +8,16 @@ pub use netlink_packet_core_attributes::laws::{
 };
 pub use netlink_packet_core_grammar::laws::{
     attributes_are_cut_in_one_way, attributes_are_the_relation, first_attributes_are_viewed,
-    lists_are_joined, texts_are_cut_again,
+    lists_are_joined, texts_are_cut,
 };
 pub use netlink_packet_core_messages::laws::{
     bodies_end_with_their_frame, bytes_past_a_frame_change_nothing, canonical_frames_are_stable,
     constants_are_of_the_header, cut_frames_are_refused, equal_messages_have_one_text,
-    finalized_messages_tell, finalized_twice_is_once, frames_are_tested, headers_are_written_back,
+    finalized_headers_match, finalized_twice_is_once, frames_are_checked, headers_are_written_back,
     headers_read_back, messages_are_frames, messages_read_back, padding_ends_a_frame,
     read_frames_keep_their_header, short_lengths_are_refused, texts_have_one_message,
 };
-pub use netlink_packet_core_numbers::laws::{numbers_are_told_by_their_bytes, numbers_have_sizes};
+pub use netlink_packet_core_numbers::laws::{numbers_are_determined_by_their_bytes, numbers_have_sizes};
 
 /// The protocol of a number has that number.
 pub fn protocols_keep_their_numbers()

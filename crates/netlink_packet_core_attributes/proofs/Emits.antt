@@ -11,10 +11,10 @@ use Rattle.netlink_packet_core_grammar.specs.Fits.{attribute_fits}
 use Rattle.netlink_packet_core_grammar.specs.Numbers.{u16_at}
 use Rattle.netlink_packet_core_attributes.specs.Lists.{text_by, size_by, all_fit_by}
 
-pub emitted : (at n : ℕ) (front text init buf new : List ℕ) → length front ≡ at → buf ≡ front ++ drop at init → new ≡ text ++ drop n (drop at buf) → put_mid at (length buf - at) buf new ≡ (front ++ text) ++ drop (at + n) init
-emitted at n front text init buf new e b w =
-    let f : take at buf ≡ front = rw b (take_at front (drop at init) at e) in
-    let d : drop at buf ≡ drop at init = rw b (drop_at front (drop at init) at e) in
+pub emitted : (at n : ℕ) (prefix text init buf new : List ℕ) → length prefix ≡ at → buf ≡ prefix ++ drop at init → new ≡ text ++ drop n (drop at buf) → put_mid at (length buf - at) buf new ≡ (prefix ++ text) ++ drop (at + n) init
+emitted at n prefix text init buf new e b w =
+    let f : take at buf ≡ prefix = rw b (take_at prefix (drop at init) at e) in
+    let d : drop at buf ≡ drop at init = rw b (drop_at prefix (drop at init) at e) in
     let z : drop (length buf - at) (drop at buf) ≡ [] = drop_all (length buf - at) (drop at buf) (omega (arith, length-drop at buf)) in
     let x : drop n (drop at init) ≡ drop (at + n) init = drop-drop n at init in
     rw (f, z, w, d, x) (simp (append_assoc, append-nil))
@@ -42,12 +42,12 @@ size_by-more entry xs i v l h =
 pub fits-at : {V : Type 0} (entry : V → Attribute) (inside : V → Bool) (xs : List V) (i : ℕ) (v : V) → i < length xs → v ≡ get_or xs i v → all_fit_by entry inside xs ≡ true → (attribute_fits (entry v) && inside v) ≡ true
 fits-at entry inside xs i v l h a = ap (λ x. attribute_fits (entry x) && inside x) h ∙ true_from_ne_false _ (λ f. let e : true ≡ false = sym a ∙ list_all_at (λ x. attribute_fits (entry x) && inside x) xs i v l f in absurd cc)
 
-pub room-at : {V : Type 0} (entry : V → Attribute) (xs : List V) (i : ℕ) (v : V) → i < length xs → v ≡ get_or xs i v → size_by entry (take i xs) + nla_align (attribute_length (entry v)) ≤ size_by entry xs
-room-at entry xs i v l h =
+pub capacity-at : {V : Type 0} (entry : V → Attribute) (xs : List V) (i : ℕ) (v : V) → i < length xs → v ≡ get_or xs i v → size_by entry (take i xs) + nla_align (attribute_length (entry v)) ≤ size_by entry xs
+capacity-at entry xs i v l h =
     let k : size_by entry (take i xs) + nla_align (attribute_length (entry (get_or xs i v))) ≤ size_by entry xs = sum_by_more_le (λ y. nla_align (attribute_length (entry y))) xs i v l in
     rw (sym h) at k
 
 -- the length in the header of a written attribute is that of the attribute
-pub told_by_header : (e : Attribute) (text : List ℕ) → u16_at 0 (attribute_text e ++ text) ≡ attribute_length e
+pub length_in_header : (e : Attribute) (text : List ℕ) → u16_at 0 (attribute_text e ++ text) ≡ attribute_length e
 unfolding u16_at attribute_text
-told_by_header e text = omega arith
+length_in_header e text = omega arith

@@ -3,7 +3,7 @@ use Rattle.netlink_packet_core_grammar.specs.Laws.{FirstIsViewed, WrittenIsFirst
 use Rattle.netlink_packet_core_grammar.proofs.Attributes.{first_attribute_text}
 use Rattle.netlink_packet_core_grammar.proofs.FirstAttribute.{first_attribute_is, first_attribute_none}
 use Rattle.netlink_packet_core_grammar.proofs.Together.{attributes_are_cut, first_is_within}
-use Rattle.netlink_packet_core_attributes.specs.Laws.{WalkIsTheRelation, ListsAreWalked, OthersEndInAFault, TextsAreWalked, TextsAreReadBack, WalksAreShort, WalksGoBySteps}
+use Rattle.netlink_packet_core_attributes.specs.Laws.{WalkIsTheRelation, ListsAreWalked, OthersEndInAFault, TextsAreWalked, TextsAreReadBack, WalksAreShort, WalksUnfold}
 use Rattle.netlink_packet_core_attributes.proofs.Walks as walks
 use Rattle.netlink_packet_core_attributes.proofs.WalkLaws as laws_of
 
@@ -31,8 +31,8 @@ read_back = laws_of.texts_are_read_back first_is_viewed written_is_first
 pub short : WalksAreShort
 short = laws_of.walks_are_short first_is_within
 
-pub steps : WalksGoBySteps
-steps = walks.walks_go_by_steps first_is_viewed first_is_within
+pub steps : WalksUnfold
+steps = walks.walks_unfold first_is_viewed first_is_within
 
 -- what the laws are proved from
 pub ruleset laws = (relation, walked, others, texts, read_back, short, steps)

@@ -75,11 +75,11 @@ module _ (within : FirstIsWithin) where
 module _ (within : FirstIsWithin) where
   pub texts_are_walked : WrittenIsFirst → TextsAreWalked
   unfolding list_text
-  texts_are_walked front [] bytes = refl
-  texts_are_walked front (e ∷ es) bytes =
+  texts_are_walked prefix [] bytes = refl
+  texts_are_walked prefix (e ∷ es) bytes =
       ap attribute_walk (append_assoc (attribute_text e) (list_text es) bytes)
-      ∙ walk-step within (attribute_text e ++ (list_text es ++ bytes)) e (list_text es ++ bytes) (front e (list_text es ++ bytes))
-      ∙ ap (λ items. Some e ∷ items) (texts_are_walked front es bytes)
+      ∙ walk-step within (attribute_text e ++ (list_text es ++ bytes)) e (list_text es ++ bytes) (prefix e (list_text es ++ bytes))
+      ∙ ap (λ items. Some e ∷ items) (texts_are_walked prefix es bytes)
 
 is_none : FirstIsViewed → (bytes : List ℕ) (x : Attribute × List ℕ) → first_attribute bytes ≡ Some x → (IsAttribute bytes → ⊥) → ⊥
 is_none law bytes x h n = let e : got x ≡ None = sym h ∙ law.none bytes n in cc
@@ -95,9 +95,9 @@ whole law bytes x h = record {
 }
 
 pub texts_are_read_back : FirstIsViewed → WrittenIsFirst → TextsAreReadBack
-texts_are_read_back law front e bytes =
+texts_are_read_back law prefix e bytes =
     let text = attribute_text e ++ bytes in
-    let h = front e bytes in
+    let h = prefix e bytes in
     let is = whole law text (e, bytes) h in
     let same : (viewed_attribute text, after_first text) ≡ (e, bytes) = got_is (viewed_attribute text, after_first text) (e, bytes) (sym (law.whole text is) ∙ h) in
     (is, ap (λ (x : Attribute × List ℕ). x.0) same)

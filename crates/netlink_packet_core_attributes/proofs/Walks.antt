@@ -4,7 +4,7 @@ use Rattle.netlink_packet_core_grammar.specs.Attributes.{Attribute, first_attrib
 use Rattle.netlink_packet_core_grammar.specs.AttributeViews.{viewed_attribute, after_first}
 use Rattle.netlink_packet_core_grammar.specs.Laws.{FirstIsViewed, FirstIsWithin}
 use Rattle.netlink_packet_core_attributes.specs.Walks.{walk_on, walk_within, attribute_walk}
-use Rattle.netlink_packet_core_attributes.specs.Laws.{WalksGoBySteps}
+use Rattle.netlink_packet_core_attributes.specs.Laws.{WalksUnfold}
 
 -- ---- nothing remains, or no attribute
 
@@ -54,8 +54,8 @@ at_end : (bytes : List ℕ) → length bytes ≡ 0 → attribute_walk bytes ≡ 
 at_end [] e = walk-empty
 at_end (b ∷ bytes) e = absurd (omega arith)
 
-pub walks_go_by_steps : FirstIsViewed → FirstIsWithin → WalksGoBySteps
-walks_go_by_steps first law = record {
+pub walks_unfold : FirstIsViewed → FirstIsWithin → WalksUnfold
+walks_unfold first law = record {
   empty = at_end;
   attribute = λ bytes h. walk-step law bytes (viewed_attribute bytes) (after_first bytes) (first.whole bytes h);
   fault = λ bytes l h. walk-stop bytes l (first.none bytes h);

@@ -2,7 +2,7 @@
 use Rattle.std.specs.Prelude.{ℕ, List, [], ◌∷◌, ◌++◌}
 use Rattle.std.specs.Net.Addr.{ipv4_octets, ipv6_octets}
 use Rattle.netlink_packet_core_grammar.specs.Numbers.{le2, le4, le8, be2, be4, be8}
-use Rattle.netlink_packet_core_grammar.specs.Truths.{truth_byte}
+use Rattle.netlink_packet_core_grammar.specs.Booleans.{boolean_byte}
 use Rattle.netlink_packet_core_numbers.specs.Addresses.{ip_octets}
 use Rattle.netlink_packet_core_attributes.specs.declared.payload.Field.{Field}
 
@@ -16,7 +16,7 @@ field_bytes (Field.U64 n) = le8 n
 field_bytes (Field.U16Be n) = be2 n
 field_bytes (Field.U32Be n) = be4 n
 field_bytes (Field.U64Be n) = be8 n
-field_bytes (Field.Bool b) = truth_byte b
+field_bytes (Field.Bool b) = boolean_byte b
 field_bytes (Field.Range r) = be2 r.0 ++ be2 r.1
 field_bytes (Field.U32Pair m n) = le4 m ++ le4 n
 field_bytes (Field.Ipv4 a) = ipv4_octets a

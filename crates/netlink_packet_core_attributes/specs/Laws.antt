@@ -31,7 +31,7 @@ WalksAreShort = (bytes : List ℕ) → 4 * length (attribute_walk bytes) ≤ len
 
 -- The first step of a walk: without bytes it ends; if the bytes begin with a whole attribute, it yields a view of it
 -- and continues after it; otherwise it yields a fault and ends.
-pub record WalksGoBySteps : Type 0 where
+pub record WalksUnfold : Type 0 where
   pub empty : (bytes : List ℕ) → length bytes ≡ 0 → attribute_walk bytes ≡ []
   pub attribute : (bytes : List ℕ) → IsAttribute bytes → attribute_walk bytes ≡ Some (viewed_attribute bytes) ∷ attribute_walk (after_first bytes)
   pub fault : (bytes : List ℕ) → 0 < length bytes → (IsAttribute bytes → ⊥) → attribute_walk bytes ≡ None ∷ []

@@ -9,7 +9,7 @@ use Rattle.netlink_packet_core_grammar.specs.Bytes.{put_at}
 pub with_items_from_is : {Z : Type 0} (v : Vec ℕ Z) (i : ℕ) (w : List ℕ) → i + length w ≤ length v.items → (with_items_from v i w).items ≡ put_at i w v.items
 with_items_from_is v i w h =
     let tail : take i v.items ++ (w ++ drop (length w) (drop i v.items)) ≡ put_at i w v.items = ap (λ r. take i v.items ++ (w ++ r)) (drop-drop (length w) i v.items) in
-    let front = length-take-le i v.items (omega arith) in
+    let prefix = length-take-le i v.items (omega arith) in
     let size = v.ok.0 in
     let whole : length (take i v.items ++ (w ++ drop (length w) (drop i v.items))) ≡ v.len =
     omega (arith, length-append (take i v.items) (w ++ drop (length w) (drop i v.items)), length-append w (drop (length w) (drop i v.items)), length-drop (length w) (drop i v.items), length-drop i v.items) in

@@ -7,7 +7,7 @@ ghost use Rattle.netlink_packet_core_grammar.specs.Numbers.{as_usize};
 ghost use Rattle.netlink_packet_core_numbers.specs.Errors.{is_memory};
 ghost use Rattle.netlink_packet_core_attributes.specs.NlaBuffers.{storage};
 ghost use Rattle.netlink_packet_core_attributes.specs.Fields.{field_bytes};
-ghost use Rattle.netlink_packet_core_attributes.specs.Families.{Gives, accepts, attribute, family_row, may_want_memory};
+ghost use Rattle.netlink_packet_core_attributes.specs.Families.{Gives, accepts, attribute, family_row, may_allocate};
 ghost use Rattle.attribute_tables_grammar.specs.Lists.{rewrite};
 ghost use Rattle.attribute_tables_grammar.specs.LookUps.{has_no_row, holds_no_lists, row_holds_bytes};
 ghost use Rattle.attribute_tables_grammar.specs.Tables.{Table};
@@ -58,7 +58,7 @@ pub trait Family: FieldNla + Sized {
     ghost rows: { Table };
 
     /// The value is the variant of its row.
-    ghost names_row: { Self → Type 0 };
+    ghost is_row_variant: { Self → Type 0 };
 
     /// Reads the payload of a kind without its flag bits; `None` if the kind has no row.
     ///
@@ -74,7 +74,7 @@ pub trait Family: FieldNla + Sized {
             (λ o. IfSome o
             (λ v. Self.field_entry v
             ≡ rewrite (family_row rows kind) (attribute kind payload.now))) }
-        ensures names_row { IfOk result (λ o. IfSome o (λ v. names_row v)) }
+        ensures is_row_variant { IfOk result (λ o. IfSome o (λ v. is_row_variant v)) }
         ensures err { IfErr result
             (λ e. (family_row rows kind).rule.accepted payload.now ≡ is_memory e) }
         ensures memory { IfErr result
@@ -84,7 +84,7 @@ pub trait Family: FieldNla + Sized {
     /// Returns the variant of an attribute whose kind has no row.
     fn other(nla: DefaultNla) -> Self
         ensures entry { Self.field_entry result ≡ nla }
-        ensures names_row { has_no_row rows (proper_kind nla.kind) → names_row result };
+        ensures is_row_variant { has_no_row rows (proper_kind nla.kind) → is_row_variant result };
 
     /// No row holds attributes.
     ghost plain: { holds_no_lists rows ≡ true };
@@ -101,7 +101,7 @@ pub fn read_attribute<F: Family>(alloc: Global, buf: &NlaBuffer<&[u8]>) -> Resul
     requires { IsAttribute (storage buf.now).now }
     ensures ok { OnOk result (IsTrue (accepts F.rows (storage buf.now).now)) }
     ensures value { IfOk result (λ v. Gives F.rows (storage buf.now).now (F.field_entry v)) }
-    ensures names_row { IfOk result (λ v. F.names_row v) }
+    ensures is_row_variant { IfOk result (λ v. F.is_row_variant v) }
     ensures err { IfErr result (λ e. accepts F.rows (storage buf.now).now ≡ is_memory e) }
     ensures memory { IfErr result
         (λ e. is_memory e ≡ true
@@ -121,9 +121,9 @@ impl<'a, F: Family> Parseable<NlaBuffer<&'a [u8]>> for F {
 
     ghost accepts = { λ b. accepts F.rows (storage b).now };
 
-    ghost may_want_memory = { λ b. may_want_memory F.rows (storage b).now };
+    ghost may_allocate = { λ b. may_allocate F.rows (storage b).now };
 
-    ghost gives = { λ b v. Gives F.rows (storage b).now (F.field_entry v) × F.names_row v };
+    ghost gives = { λ b v. Gives F.rows (storage b).now (F.field_entry v) × F.is_row_variant v };
 
     fn parse(alloc: Global, buf: &NlaBuffer<&'a [u8]>) -> Result<Self, DecodeError> {
         read_attribute(alloc, buf)

@@ -3,7 +3,7 @@
 
 ghost use Rattle.netlink_packet_core_attributes.specs.Laws.{WalkIsTheRelation, ListsAreWalked, OthersEndInAFault};
 ghost use Rattle.netlink_packet_core_attributes.specs.Laws.{TextsAreWalked, TextsAreReadBack, WalksAreShort};
-ghost use Rattle.netlink_packet_core_attributes.specs.Laws.{TypedRowsWriteTheKind, WalksGoBySteps};
+ghost use Rattle.netlink_packet_core_attributes.specs.Laws.{TypedRowsWriteTheKind, WalksUnfold};
 
 /// The function that defines the walk computes the relation.
 pub fn walks_are_the_relation()
@@ -38,8 +38,8 @@ pub fn walks_are_short()
 /// Each step of a walk depends only on the remaining bytes: without bytes it ends; if they begin
 /// with a whole attribute, it yields a view of it and continues after it; otherwise it yields a
 /// fault and ends.
-pub fn walks_go_by_steps()
-    ensures { WalksGoBySteps }
+pub fn walks_unfold()
+    ensures { WalksUnfold }
 {}
 
 /// A typed row writes an attribute with the kind without flags, whatever flags it has.

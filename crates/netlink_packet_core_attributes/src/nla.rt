@@ -60,11 +60,11 @@ pub fn length_fits(value_len: usize) -> bool
 #[tactic(auto, using(crate::proofs::Headers::headers))]
 pub fn emit_header(buffer: &mut [u8], kind: u16, value_len: usize)
     requires fits { 4 + value_len ≤ 65535 }
-    requires room { nla_align (4 + value_len) ≤ length buffer.old }
+    requires capacity { nla_align (4 + value_len) ≤ length buffer.old }
     ensures { buffer.new ≡ with_header kind value_len buffer.old }
 {
-    let (front, _) = buffer.split_at_mut(attribute_len(value_len));
-    let (header, rest) = front.split_at_mut(NLA_HEADER_SIZE);
+    let (prefix, _) = buffer.split_at_mut(attribute_len(value_len));
+    let (header, rest) = prefix.split_at_mut(NLA_HEADER_SIZE);
     let (length, kind_bytes) = header.split_at_mut(2);
     length.copy_from_slice(&((NLA_HEADER_SIZE + value_len) as u16).to_le_bytes());
     kind_bytes.copy_from_slice(&kind.to_le_bytes());
@@ -92,7 +92,7 @@ pub trait Nla {
     /// Writes the payload into a buffer of its size.
     fn emit_value(&self, buffer: &mut [u8])
         requires fits { inside_fits self.now ≡ true }
-        requires room { length buffer.old ≡ length (entry self.now).payload }
+        requires capacity { length buffer.old ≡ length (entry self.now).payload }
         ensures { buffer.new ≡ (entry self.now).payload };
 
     /// Returns whether each attribute inside the payload fits its header; true if there is none.
@@ -133,7 +133,7 @@ pub trait Nla {
     /// unchanged.
     fn emit(&self, buffer: &mut [u8])
         requires fits { (attribute_fits (entry self.now) && inside_fits self.now) ≡ true }
-        requires room { nla_align (attribute_length (entry self.now)) ≤ length buffer.old }
+        requires capacity { nla_align (attribute_length (entry self.now)) ≤ length buffer.old }
         ensures { buffer.new
             ≡ attribute_text (entry self.now)
             ++ drop (nla_align (attribute_length (entry self.now))) buffer.old }
@@ -214,7 +214,7 @@ impl<'a> Parseable<NlaBuffer<&'a [u8]>> for DefaultNla {
 
     ghost accepts = { λ _. true };
 
-    ghost may_want_memory = { λ b. nat_lt 0 (length (viewed_payload (storage b).now)) };
+    ghost may_allocate = { λ b. nat_lt 0 (length (viewed_payload (storage b).now)) };
 
     ghost gives = { λ b v. v ≡ viewed_attribute (storage b).now };
 

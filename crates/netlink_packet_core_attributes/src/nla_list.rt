@@ -5,7 +5,7 @@ ghost use Rattle.netlink_packet_core_grammar.specs.Numbers.{as_usize};
 ghost use Rattle.netlink_packet_core_attributes.specs.Lists.{text_by, size_by, all_fit_by};
 ghost use Rattle.netlink_packet_core_attributes.specs.Walks.{attribute_walk, StepsOnWalk};
 
-use super::laws::walks_go_by_steps;
+use super::laws::walks_unfold;
 use super::nla::{Nla, nla_align};
 use super::nla_buffer::NlaBuffer;
 use super::view::read_u16;
@@ -44,7 +44,7 @@ impl<'a> Iterator for NlasIterator<&'a [u8]> {
     ghost remaining = { item_count (λ s. attribute_walk s.now) };
 
     fn next(&mut self) -> Option<Result<NlaBuffer<&'a [u8]>, DecodeError>> {
-        walks_go_by_steps();
+        walks_unfold();
         if self.rest.is_empty() {
             return None;
         }
@@ -97,7 +97,7 @@ pub fn fits_all<N: Nla>(items: &[N]) -> bool
 /// unchanged.
 pub fn emit_all<N: Nla>(items: &[N], buffer: &mut [u8])
     requires fits { all_fit_by N.entry N.inside_fits items.now ≡ true }
-    requires room { size_by N.entry items.now ≤ length buffer.old }
+    requires capacity { size_by N.entry items.now ≤ length buffer.old }
     ensures { buffer.new
         ≡ text_by N.entry items.now ++ drop (size_by N.entry items.now) buffer.old }
 {

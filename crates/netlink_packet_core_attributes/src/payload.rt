@@ -84,11 +84,11 @@ impl<'a> Field<'a> {
             Field::U16Be(number) => fill_u16_be(buffer, number),
             Field::U32Be(number) => fill_u32_be(buffer, number),
             Field::U64Be(number) => fill_u64_be(buffer, number),
-            Field::Bool(truth) => fill_bool(buffer, truth),
+            Field::Bool(boolean) => fill_bool(buffer, boolean),
             Field::Range(range) => fill_range(buffer, range),
             Field::U32Pair(first, second) => {
-                let (front, back) = buffer.split_at_mut(4);
-                fill_u32(front, first);
+                let (prefix, back) = buffer.split_at_mut(4);
+                fill_u32(prefix, first);
                 fill_u32(back, second);
             }
             Field::Ipv4(address) => buffer.copy_from_slice(&address.octets()),

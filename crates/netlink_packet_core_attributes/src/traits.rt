@@ -20,7 +20,7 @@ pub trait Emitable {
     /// Writes the value at the start of a buffer; the rest of the buffer is left unchanged.
     fn emit(&self, buffer: &mut [u8])
         requires ready { can_emit self.now }
-        requires room { length (text self.now) ≤ length buffer.old }
+        requires capacity { length (text self.now) ≤ length buffer.old }
         ensures { buffer.new ≡ text self.now ++ drop (length (text self.now)) buffer.old };
 }
 
@@ -34,7 +34,7 @@ pub trait Parseable<T>: Sized {
 
     /// Whether reading the buffer may run out of memory. It is false for a rejected buffer, except
     /// if the value is a list: an allocation may fail before the rejected attribute is reached.
-    ghost may_want_memory: { T → Bool };
+    ghost may_allocate: { T → Bool };
 
     /// The value is the one that the buffer encodes.
     ghost gives: { T → Self → Type 0 };
@@ -44,13 +44,13 @@ pub trait Parseable<T>: Sized {
     /// # Errors
     ///
     /// Out of memory ([`DecodeError::is_memory`]) if an allocation fails, and only if
-    /// `may_want_memory` holds; any other error only if the buffer isn't accepted.
+    /// `may_allocate` holds; any other error only if the buffer isn't accepted.
     fn parse(alloc: Global, buf: &T) -> Result<Self, DecodeError>
         requires { can_parse buf.now }
         ensures ok { OnOk result (IsTrue (accepts buf.now)) }
         ensures value { IfOk result (λ v. gives buf.now v) }
         ensures err { IfErr result (λ e. is_memory e ≡ false → accepts buf.now ≡ false) }
-        ensures memory { IfErr result (λ e. is_memory e ≡ true → may_want_memory buf.now ≡ true) };
+        ensures memory { IfErr result (λ e. is_memory e ≡ true → may_allocate buf.now ≡ true) };
 }
 
 /// A value that is read from a `T` under a parameter.
@@ -63,7 +63,7 @@ pub trait ParseableParametrized<T, P>: Sized {
 
     /// Whether reading the buffer may run out of memory. It is false for a rejected buffer, except
     /// if the value is a list: an allocation may fail before the rejected attribute is reached.
-    ghost may_want_memory: { T → P → Bool };
+    ghost may_allocate: { T → P → Bool };
 
     /// The value is the one that the buffer encodes under the parameter.
     ghost gives: { T → P → Self → Type 0 };
@@ -73,12 +73,12 @@ pub trait ParseableParametrized<T, P>: Sized {
     /// # Errors
     ///
     /// Out of memory ([`DecodeError::is_memory`]) if an allocation fails, and only if
-    /// `may_want_memory` holds; any other error only if the buffer isn't accepted.
+    /// `may_allocate` holds; any other error only if the buffer isn't accepted.
     fn parse_with_param(alloc: Global, buf: &T, params: P) -> Result<Self, DecodeError>
         requires { can_parse buf.now params }
         ensures ok { OnOk result (IsTrue (accepts buf.now params)) }
         ensures value { IfOk result (λ v. gives buf.now params v) }
         ensures err { IfErr result (λ e. is_memory e ≡ false → accepts buf.now params ≡ false) }
         ensures memory { IfErr result (λ e. is_memory e ≡ true
-            → may_want_memory buf.now params ≡ true) };
+            → may_allocate buf.now params ≡ true) };
 }

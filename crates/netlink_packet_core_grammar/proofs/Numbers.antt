@@ -42,8 +42,8 @@ joined_8 : (a b c d e f g h n p q r s t u : ℕ) → n ≡ a + p * 256 → p ≡
     → a + b * 256 + c * 65536 + d * 16777216 + e * 4294967296 + f * 1099511627776 + g * 281474976710656 + h * 72057594037927936 ≡ n
 joined_8 a b c d e f g h n p q r s t u at_0 at_1 at_2 at_3 at_4 at_5 at_6 = omega arith
 
-turned_8 : (a b c d e f g h : ℕ) → h + g + f + e + d + c + b + a ≡ a + b + c + d + e + f + g + h
-turned_8 a b c d e f g h = omega arith
+reversed_8 : (a b c d e f g h : ℕ) → h + g + f + e + d + c + b + a ≡ a + b + c + d + e + f + g + h
+reversed_8 a b c d e f g h = omega arith
 
 pub from_le2 : (n : ℕ) → from_le_bytes w16 (le2 n) ≡ n
 unfolding le2
@@ -71,7 +71,7 @@ pub from_be8 : (n : ℕ) → from_be_bytes w64 (be8 n) ≡ n
 unfolding be8
 from_be8 n =
     let low : n ≡ n % 256 + n / 256 * 256 = omega arith in
-    turned_8 (n % 256) (n / 256 % 256 * 256) (n / 65536 % 256 * 65536) (n / 16777216 % 256 * 16777216) (n / 4294967296 % 256 * 4294967296) (n / 1099511627776 % 256 * 1099511627776) (n / 281474976710656 % 256 * 281474976710656) (n / 72057594037927936 * 72057594037927936)
+    reversed_8 (n % 256) (n / 256 % 256 * 256) (n / 65536 % 256 * 65536) (n / 16777216 % 256 * 16777216) (n / 4294967296 % 256 * 4294967296) (n / 1099511627776 % 256 * 1099511627776) (n / 281474976710656 % 256 * 281474976710656) (n / 72057594037927936 * 72057594037927936)
     ∙ joined_8 _ _ _ _ _ _ _ _ n _ _ _ _ _ _ low (byte_and_rest n 256) (byte_and_rest n 65536) (byte_and_rest n 16777216) (byte_and_rest n 4294967296) (byte_and_rest n 1099511627776) (byte_and_rest n 281474976710656)
 
 pub u16_at-le2 : (n : ℕ) (c : List ℕ) → u16_at 0 (le2 n ++ c) ≡ n

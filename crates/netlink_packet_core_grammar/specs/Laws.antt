@@ -36,6 +36,6 @@ abbrev pub WrittenIsFirst : Type 0
 WrittenIsFirst = (e : Attribute) (rest : List ℕ) → first_attribute (attribute_text e ++ rest) ≡ Some (e, rest)
 
 -- A number at the start of a byte string doesn't depend on the bytes that follow it.
-pub record NumbersStandAlone : Type 0 where
+pub record NumbersAreIndependent : Type 0 where
   pub two_bytes : (c d : List ℕ) → 2 ≤ length c → u16_at 0 (c ++ d) ≡ u16_at 0 c
   pub four_bytes : (c d : List ℕ) → 4 ≤ length c → u32_at 0 (c ++ d) ≡ u32_at 0 c

@@ -3,7 +3,7 @@ pub mod Bytes
 pub mod Numbers
 pub mod AttributeViews
 pub mod Texts
-pub mod Truths
+pub mod Booleans
 pub mod Frames
 pub mod Fits
 pub mod Laws

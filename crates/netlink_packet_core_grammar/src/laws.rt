@@ -2,7 +2,7 @@
 #![tactic(auto, using(crate::proofs::Together::laws))]
 
 ghost use Rattle.netlink_packet_core_grammar.specs.Laws.{OneCut, AttributesAreCut, Joined, TextIsCut, FirstIsViewed};
-ghost use Rattle.netlink_packet_core_grammar.specs.Laws.{FirstIsWithin, WrittenIsFirst, NumbersStandAlone};
+ghost use Rattle.netlink_packet_core_grammar.specs.Laws.{FirstIsWithin, WrittenIsFirst, NumbersAreIndependent};
 
 /// A byte string is a list of attributes in at most one way.
 pub fn attributes_are_cut_in_one_way()
@@ -20,7 +20,7 @@ pub fn lists_are_joined()
 {}
 
 /// The encoding of attributes is cut into the same attributes, and its length is their size.
-pub fn texts_are_cut_again()
+pub fn texts_are_cut()
     ensures { TextIsCut }
 {}
 
@@ -43,6 +43,6 @@ pub fn written_attributes_come_first()
 {}
 
 /// A number at the start of a byte string doesn't depend on the bytes that follow it.
-pub fn numbers_stand_alone()
-    ensures { NumbersStandAlone }
+pub fn numbers_are_independent()
+    ensures { NumbersAreIndependent }
 {}

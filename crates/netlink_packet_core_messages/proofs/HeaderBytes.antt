@@ -31,12 +31,12 @@ pub written_4_at : (i : ℕ) (c : List ℕ) → AllBytes c → le4 (u32_at i c) 
 unfolding u32_at
 written_4_at i c h = le4_read (get_or c i 0 ∷ get_or c (i + 1) 0 ∷ get_or c (i + 2) 0 ∷ get_or c (i + 3) 0 ∷ []) _ refl (four_bytes _ _ _ _ (h i) (h (i + 1)) (h (i + 2)) (h (i + 3))) refl
 
-places : (c : List ℕ) → AllBytes c → header_text (header_of c) ≡ get_or c 0 0 ∷ get_or c 1 0 ∷ get_or c 2 0 ∷ get_or c 3 0 ∷ get_or c 4 0 ∷ get_or c 5 0 ∷ get_or c 6 0 ∷ get_or c 7 0 ∷ get_or c 8 0 ∷ get_or c 9 0 ∷ get_or c 10 0 ∷ get_or c 11 0 ∷ get_or c 12 0 ∷ get_or c 13 0 ∷ get_or c 14 0 ∷ get_or c 15 0 ∷ []
+offsets : (c : List ℕ) → AllBytes c → header_text (header_of c) ≡ get_or c 0 0 ∷ get_or c 1 0 ∷ get_or c 2 0 ∷ get_or c 3 0 ∷ get_or c 4 0 ∷ get_or c 5 0 ∷ get_or c 6 0 ∷ get_or c 7 0 ∷ get_or c 8 0 ∷ get_or c 9 0 ∷ get_or c 10 0 ∷ get_or c 11 0 ∷ get_or c 12 0 ∷ get_or c 13 0 ∷ get_or c 14 0 ∷ get_or c 15 0 ∷ []
 unfolding header_text header_of
-places c h = rw (written_4_at 0 c h, written_2_at 4 c h, written_2_at 6 c h, written_4_at 8 c h, written_4_at 12 c h) refl
+offsets c h = rw (written_4_at 0 c h, written_2_at 4 c h, written_2_at 6 c h, written_4_at 8 c h, written_4_at 12 c h) refl
 
 pub header_written : (c : List ℕ) → 16 ≤ length c → AllBytes c → header_text (header_of c) ≡ take 16 c
-header_written (a ∷ b ∷ c ∷ d ∷ e ∷ f ∷ g ∷ h ∷ i ∷ j ∷ k ∷ l ∷ m ∷ n ∷ o ∷ p ∷ rest) s t = places (a ∷ b ∷ c ∷ d ∷ e ∷ f ∷ g ∷ h ∷ i ∷ j ∷ k ∷ l ∷ m ∷ n ∷ o ∷ p ∷ rest) t
+header_written (a ∷ b ∷ c ∷ d ∷ e ∷ f ∷ g ∷ h ∷ i ∷ j ∷ k ∷ l ∷ m ∷ n ∷ o ∷ p ∷ rest) s t = offsets (a ∷ b ∷ c ∷ d ∷ e ∷ f ∷ g ∷ h ∷ i ∷ j ∷ k ∷ l ∷ m ∷ n ∷ o ∷ p ∷ rest) t
 header_written c s t = absurd (omega arith)
 
 with_length : (h : NetlinkHeader) (n : ℕ) → header_text (record h { length = n }) ≡ le4 n ++ drop 4 (header_text h)

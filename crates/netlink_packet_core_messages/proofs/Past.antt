@@ -3,7 +3,7 @@ use Rattle.std.proofs.Common.{◌≡◌, ℕ, ◌+◌, ◌-◌, ◌<◌, ◌≤�
 use Rattle.std.proofs.lemmas.List.{get_or-take, get_or_append_left, drop-append-le, drop-take, take_at, length-take-le}
 use Rattle.netlink_packet_core_grammar.specs.Numbers.{u16_at, u32_at}
 use Rattle.netlink_packet_core_grammar.specs.Frames.{IsFrame, frame_length, frame_type, frame_body}
-use Rattle.netlink_packet_core_grammar.specs.Laws.{NumbersStandAlone}
+use Rattle.netlink_packet_core_grammar.specs.Laws.{NumbersAreIndependent}
 use Rattle.netlink_packet_core_messages.specs.Headers.{header_of}
 use Rattle.netlink_packet_core_messages.specs.Messages.{read_message, is_frame}
 use Rattle.netlink_packet_core_messages.proofs.Frames.{is_frame-true, is_frame-false}
@@ -82,6 +82,6 @@ none_read reads c e = rw e refl
 pub cut_refused : {V : Type 0} (reads : ℕ → List ℕ → Option V) (c : List ℕ) (n : ℕ) → IsFrame c → n < frame_length c → read_message reads (take n c) ≡ None
 cut_refused reads c n f h = none_read reads (take n c) (is_frame-false _ (not_whole c n f h))
 
-pub short_refused : NumbersStandAlone → {V : Type 0} (reads : ℕ → List ℕ → Option V) (c rest : List ℕ) → 16 ≤ length c → frame_length c < 16 → read_message reads (c ++ rest) ≡ None
-short_refused alone reads c rest h l =
+pub short_refused : NumbersAreIndependent → {V : Type 0} (reads : ℕ → List ℕ → Option V) (c rest : List ℕ) → 16 ≤ length c → frame_length c < 16 → read_message reads (c ++ rest) ≡ None
+short_refused single reads c rest h l =
     none_read reads (c ++ rest) (is_frame-false _ (λ f. let k = f.covers_header in omega (arith, k)))

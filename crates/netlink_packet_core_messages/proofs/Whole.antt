@@ -34,8 +34,8 @@ read_at : {V : Type 0} (reads : ℕ → List ℕ → Option V) (c b : List ℕ) 
 read_at reads c b t h p e1 e2 e3 e4 e5 = rw (e1, e2, e3, e4, e5) refl
 
 pub message_reads : {A V : Type 0} (e : A → TypedBody) (fits : A → Type 0) (reads : ℕ → List ℕ → Option V) (value : A → V) → ((x : A) → fits x → reads (e x).0 (e x).1 ≡ Some (value x)) → ((x : A) → IsInner (e x).0) → (m : NetlinkMessage A) (rest : List ℕ) → HasCode m.payload → OfInner fits m.payload → IsFinalized e m → read_message reads (message_text e m ++ rest) ≡ Some (message_value value m)
-message_reads e fits reads value back inner m rest c o told =
-    let w = is_frame-true _ (whole m.header (payload_entry e m.payload).1 rest told.tells_length) in
-    let b = body m.header (payload_entry e m.payload).1 rest told.tells_length in
+message_reads e fits reads value back inner m rest c o finalized =
+    let w = is_frame-true _ (whole m.header (payload_entry e m.payload).1 rest finalized.has_length) in
+    let b = body m.header (payload_entry e m.payload).1 rest finalized.has_length in
     rw (append_assoc (header_text m.header) (payload_entry e m.payload).1 rest)
-    (read_at reads (header_text m.header ++ ((payload_entry e m.payload).1 ++ rest)) _ (payload_entry e m.payload).0 m.header (payload_value value m.payload) w (type_at m.header ((payload_entry e m.payload).1 ++ rest) ∙ told.tells_type) b (header_at m.header ((payload_entry e m.payload).1 ++ rest)) (payload_reads e fits reads value back inner m.payload c o))
+    (read_at reads (header_text m.header ++ ((payload_entry e m.payload).1 ++ rest)) _ (payload_entry e m.payload).0 m.header (payload_value value m.payload) w (type_at m.header ((payload_entry e m.payload).1 ++ rest) ∙ finalized.has_type) b (header_at m.header ((payload_entry e m.payload).1 ++ rest)) (payload_reads e fits reads value back inner m.payload c o))

@@ -61,38 +61,38 @@ empty_done_text = refl
 
 -- ---- payloads
 
--- the canonical body of a payload that was read, if `own` is that of an inner message
+-- the canonical body of a payload that was read, if `inner_body` is that of an inner message
 abbrev of_read : {V : Type 0} → TypedBody → TypedBody → Option (NetlinkPayload V) → TypedBody
-of_read other own None = other
-of_read other own (Some p) = payload_entry (λ _. own) p
+of_read other inner_body None = other
+of_read other inner_body (Some p) = payload_entry (λ _. inner_body) p
 
-error_of_read : (V : Type 0) (own : TypedBody) (b : List ℕ) → AllBytes b → of_read {V = V} (2, b) own (option_map Error (read_error b)) ≡ (2, b)
-error_of_read V own (x ∷ y ∷ z ∷ w ∷ b) h =
+error_of_read : (V : Type 0) (inner_body : TypedBody) (b : List ℕ) → AllBytes b → of_read {V = V} (2, b) inner_body (option_map Error (read_error b)) ≡ (2, b)
+error_of_read V inner_body (x ∷ y ∷ z ∷ w ∷ b) h =
     let s : nat_lt (length (x ∷ y ∷ z ∷ w ∷ b)) 4 ≡ false = grind (arith, nat_tests) in
     rw s (ap (λ (x : List ℕ). (2, x)) (error_kept (x ∷ y ∷ z ∷ w ∷ b) (omega arith) h))
-error_of_read V own b h = refl
+error_of_read V inner_body b h = refl
 
-done_of_read : (V : Type 0) (own : TypedBody) (b : List ℕ) → AllBytes b → of_read {V = V} (3, cond (nat_eq (length b) 0) (0 ∷ 0 ∷ 0 ∷ 0 ∷ []) b) own (option_map Done (read_done b)) ≡ (3, cond (nat_eq (length b) 0) (0 ∷ 0 ∷ 0 ∷ 0 ∷ []) b)
-done_of_read V own [] h = ap (λ (x : List ℕ). (3, x)) empty_done_text
-done_of_read V own (x ∷ y ∷ z ∷ w ∷ b) h =
+done_of_read : (V : Type 0) (inner_body : TypedBody) (b : List ℕ) → AllBytes b → of_read {V = V} (3, cond (nat_eq (length b) 0) (0 ∷ 0 ∷ 0 ∷ 0 ∷ []) b) inner_body (option_map Done (read_done b)) ≡ (3, cond (nat_eq (length b) 0) (0 ∷ 0 ∷ 0 ∷ 0 ∷ []) b)
+done_of_read V inner_body [] h = ap (λ (x : List ℕ). (3, x)) empty_done_text
+done_of_read V inner_body (x ∷ y ∷ z ∷ w ∷ b) h =
     let n : nat_eq (length (x ∷ y ∷ z ∷ w ∷ b)) 0 ≡ false = grind (arith, nat_tests) in
     let s : nat_lt (length (x ∷ y ∷ z ∷ w ∷ b)) 4 ≡ false = grind (arith, nat_tests) in
     rw (n, s) (ap (λ (x : List ℕ). (3, x)) (done_kept (x ∷ y ∷ z ∷ w ∷ b) (omega arith) h))
-done_of_read V own b h = refl
+done_of_read V inner_body b h = refl
 
-inner_of_read : {V : Type 0} (own : TypedBody) (o : Option V) → of_read own own (option_map InnerMessage o) ≡ own
-inner_of_read own None = refl
-inner_of_read own (Some v) = refl
+inner_of_read : {V : Type 0} (inner_body : TypedBody) (o : Option V) → of_read inner_body inner_body (option_map InnerMessage o) ≡ inner_body
+inner_of_read inner_body None = refl
+inner_of_read inner_body (Some v) = refl
 
-read_written : {V : Type 0} (reads : ℕ → List ℕ → Option V) (own : List ℕ) (t : ℕ) (b : List ℕ) → AllBytes b → of_read (t, written_body own t b) (t, own) (read_payload reads t b) ≡ (t, written_body own t b)
-read_written reads own zero b h = inner_of_read (0, own) (reads 0 b)
-read_written reads own (suc zero) b h = refl
-read_written reads own (suc (suc zero)) b h = error_of_read _ (2, own) b h
-read_written reads own (suc (suc (suc zero))) b h = done_of_read _ (3, own) b h
-read_written reads own (suc (suc (suc (suc zero)))) b h = refl
-read_written reads own t b h =
+read_written : {V : Type 0} (reads : ℕ → List ℕ → Option V) (inner_body : List ℕ) (t : ℕ) (b : List ℕ) → AllBytes b → of_read (t, written_body inner_body t b) (t, inner_body) (read_payload reads t b) ≡ (t, written_body inner_body t b)
+read_written reads inner_body zero b h = inner_of_read (0, inner_body) (reads 0 b)
+read_written reads inner_body (suc zero) b h = refl
+read_written reads inner_body (suc (suc zero)) b h = error_of_read _ (2, inner_body) b h
+read_written reads inner_body (suc (suc (suc zero))) b h = done_of_read _ (3, inner_body) b h
+read_written reads inner_body (suc (suc (suc (suc zero)))) b h = refl
+read_written reads inner_body t b h =
     let n = not_control t (λ positive. omega arith) in
-    rw (n.0, n.1.0, n.1.1.0, n.1.1.1) (inner_of_read (t, own) (reads t b))
+    rw (n.0, n.1.0, n.1.1.0, n.1.1.1) (inner_of_read (t, inner_body) (reads t b))
 
 -- a control message is not read as an inner message
 
@@ -118,15 +118,15 @@ inner_read reads t b v e =
     let n = not_control t (λ positive. omega arith) in
     inner_is (reads t b) v (rw (n.0, n.1.0, n.1.1.0, n.1.1.1) at e)
 
-entry_by : {A V : Type 0} (value : A → V) (entry : A → TypedBody) (own : TypedBody) (p : NetlinkPayload A) → ((x : A) → payload_value value p ≡ InnerMessage (value x) → entry x ≡ own) → payload_entry entry p ≡ payload_entry (λ _. own) (payload_value value p)
-entry_by value entry own (InnerMessage x) h = h x refl
-entry_by value entry own x h = refl
+entry_by : {A V : Type 0} (value : A → V) (entry : A → TypedBody) (inner_body : TypedBody) (p : NetlinkPayload A) → ((x : A) → payload_value value p ≡ InnerMessage (value x) → entry x ≡ inner_body) → payload_entry entry p ≡ payload_entry (λ _. inner_body) (payload_value value p)
+entry_by value entry inner_body (InnerMessage x) h = h x refl
+entry_by value entry inner_body x h = refl
 
-pub payload_written : {A V : Type 0} (reads : ℕ → List ℕ → Option V) (value : A → V) (entry : A → TypedBody) (own : List ℕ) (t : ℕ) (b : List ℕ) (p : NetlinkPayload A) → AllBytes b → read_payload reads t b ≡ Some (payload_value value p) → ((x : A) → reads t b ≡ Some (value x) → entry x ≡ (t, own)) → payload_entry entry p ≡ (t, written_body own t b)
-payload_written reads value entry own t b p h e k =
-    entry_by value entry (t, own) p (λ x f. k x (inner_read reads t b (value x) (e ∙ ap Some f)))
-    ∙ ap (of_read (t, written_body own t b) (t, own)) (sym e)
-    ∙ read_written reads own t b h
+pub payload_written : {A V : Type 0} (reads : ℕ → List ℕ → Option V) (value : A → V) (entry : A → TypedBody) (inner_body : List ℕ) (t : ℕ) (b : List ℕ) (p : NetlinkPayload A) → AllBytes b → read_payload reads t b ≡ Some (payload_value value p) → ((x : A) → reads t b ≡ Some (value x) → entry x ≡ (t, inner_body)) → payload_entry entry p ≡ (t, written_body inner_body t b)
+payload_written reads value entry inner_body t b p h e k =
+    entry_by value entry (t, inner_body) p (λ x f. k x (inner_read reads t b (value x) (e ∙ ap Some f)))
+    ∙ ap (of_read (t, written_body inner_body t b) (t, inner_body)) (sym e)
+    ∙ read_written reads inner_body t b h
 
 -- ---- messages
 
@@ -156,13 +156,13 @@ text_by : (h : NetlinkHeader) (c : List ℕ) (t : ℕ) (w : List ℕ) (x : Typed
 text_by h c t w x e f g l b =
     rw e (ap (λ y. y ++ w) (header_kept h c (16 + length w) t f g l b) ∙ append_assoc (le4 (16 + length w)) (take 12 (drop 4 c)) w)
 
-pub message_written : {A V : Type 0} (reads : ℕ → List ℕ → Option V) (value : A → V) (entry : A → TypedBody) (own c : List ℕ) (m : NetlinkMessage A) → AllBytes c → read_message reads c ≡ Some (message_value value m) → ((x : A) → reads (frame_type c) (frame_body c) ≡ Some (value x) → entry x ≡ (frame_type c, own)) → message_text entry (finalized entry m) ≡ unpadded_text c (written_body own (frame_type c) (frame_body c))
-message_written reads value entry own c m h e k =
+pub message_written : {A V : Type 0} (reads : ℕ → List ℕ → Option V) (value : A → V) (entry : A → TypedBody) (inner_body c : List ℕ) (m : NetlinkMessage A) → AllBytes c → read_message reads c ≡ Some (message_value value m) → ((x : A) → reads (frame_type c) (frame_body c) ≡ Some (value x) → entry x ≡ (frame_type c, inner_body)) → message_text entry (finalized entry m) ≡ unpadded_text c (written_body inner_body (frame_type c) (frame_body c))
+message_written reads value entry inner_body c m h e k =
     let r = read_as (is_frame c) (header_of c) (read_payload reads (frame_type c) (frame_body c)) (message_value value m) e in
     let b : AllBytes (frame_body c) = AllBytes-take (frame_length c - 16) (drop 16 c) (AllBytes-drop 16 c h) in
-    let p = payload_written reads value entry own (frame_type c) (frame_body c) m.payload b r.payload_is k in
+    let p = payload_written reads value entry inner_body (frame_type c) (frame_body c) m.payload b r.payload_is k in
     let l : 16 ≤ length c = leb-true _ _ (and_parts _ _ r.is_whole).0 in
-    text_by m.header c (frame_type c) (written_body own (frame_type c) (frame_body c)) (payload_entry entry m.payload) p r.header_is refl l h
+    text_by m.header c (frame_type c) (written_body inner_body (frame_type c) (frame_body c)) (payload_entry entry m.payload) p r.header_is refl l h
 
 -- ---- padding
 

@@ -30,8 +30,8 @@ message_size entry m = 16 + length (payload_entry entry m.payload).1
 
 -- The header has the message's length and type.
 pub record IsFinalized {A : Type 0} (entry : A → TypedBody) (m : NetlinkMessage A) : Type 0 where
-  pub tells_length : m.header.length ≡ message_size entry m
-  pub tells_type : m.header.message_type ≡ (payload_entry entry m.payload).0
+  pub has_length : m.header.length ≡ message_size entry m
+  pub has_type : m.header.message_type ≡ (payload_entry entry m.payload).0
 
 -- The message with its length and type set in the header.
 abbrev pub finalized : {A : Type 0} → (A → TypedBody) → NetlinkMessage A → NetlinkMessage A

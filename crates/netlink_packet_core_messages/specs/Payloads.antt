@@ -43,8 +43,8 @@ read_payload reads t b =
 
 -- Reading a frame of type t with body b may run out of memory: not for a NOOP, whose body is dropped; for ERROR and
 -- DONE only if bytes follow the 4 of the code; for OVERRUN only if the body isn't empty; for other types by `inner`.
-abbrev pub payload_may_want_memory : (ℕ → List ℕ → Bool) → ℕ → List ℕ → Bool
-payload_may_want_memory inner t b =
+abbrev pub payload_may_allocate : (ℕ → List ℕ → Bool) → ℕ → List ℕ → Bool
+payload_may_allocate inner t b =
     cond (nat_eq t 1) false
     (cond (nat_eq t 2) (nat_lt 4 (length b))
     (cond (nat_eq t 3) (nat_lt 4 (length b))
@@ -58,10 +58,10 @@ HasCode Noop = Unit {0}
 HasCode (Overrun b) = Unit {0}
 HasCode (InnerMessage x) = Unit {0}
 
--- The canonical body of a frame of type t with body b; `own` is that of an inner message.
+-- The canonical body of a frame of type t with body b; `inner_body` is that of an inner message.
 abbrev pub written_body : List ℕ → ℕ → List ℕ → List ℕ
-written_body own t b =
+written_body inner_body t b =
     cond (nat_eq t 1) []
     (cond (nat_eq t 2) b
     (cond (nat_eq t 3) (cond (nat_eq (length b) 0) (0 ∷ 0 ∷ 0 ∷ 0 ∷ []) b)
-    (cond (nat_eq t 4) b own)))
+    (cond (nat_eq t 4) b inner_body)))

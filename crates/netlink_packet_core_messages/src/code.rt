@@ -29,8 +29,8 @@ pub(crate) fn emit_code(code: i32, rest: &[u8], buffer: &mut [u8])
     requires { 4 + length rest.now ≤ length buffer.old }
     ensures { buffer.new ≡ (code_text code ++ rest.now) ++ drop (4 + length rest.now) buffer.old }
 {
-    let (front, back) = buffer.split_at_mut(4);
-    fill_u32(front, code.cast_unsigned());
-    let (behind, _) = back.split_at_mut(rest.len());
-    behind.copy_from_slice(rest);
+    let (prefix, back) = buffer.split_at_mut(4);
+    fill_u32(prefix, code.cast_unsigned());
+    let (following, _) = back.split_at_mut(rest.len());
+    following.copy_from_slice(rest);
 }

@@ -151,7 +151,7 @@ impl<'a> Parseable<DoneBuffer<&'a [u8]>> for DoneMessage {
 
     ghost accepts = { λ _. true };
 
-    ghost may_want_memory = { λ b. nat_lt 4 (length (storage b).now) };
+    ghost may_allocate = { λ b. nat_lt 4 (length (storage b).now) };
 
     ghost gives = { λ b m. m ≡ done_of (storage b).now };
 

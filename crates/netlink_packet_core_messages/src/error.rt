@@ -193,7 +193,7 @@ impl<'a> Parseable<ErrorBuffer<&'a [u8]>> for ErrorMessage {
 
     ghost accepts = { λ _. true };
 
-    ghost may_want_memory = { λ b. nat_lt 4 (length (storage b).now) };
+    ghost may_allocate = { λ b. nat_lt 4 (length (storage b).now) };
 
     ghost gives = { λ b m. m ≡ error_of (storage b).now };
 

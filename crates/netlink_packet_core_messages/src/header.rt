@@ -29,7 +29,7 @@ impl<'a> Parseable<NetlinkBuffer<&'a [u8]>> for NetlinkHeader {
 
     ghost accepts = { λ _. true };
 
-    ghost may_want_memory = { λ _. false };
+    ghost may_allocate = { λ _. false };
 
     ghost gives = { λ b h. h ≡ header_of (storage b).now };
 
@@ -57,8 +57,8 @@ impl Emitable for NetlinkHeader {
 
     #[tactic(auto, using(crate::proofs::Headers::header_sizes))]
     fn emit(&self, buffer: &mut [u8]) {
-        let (front, _) = buffer.split_at_mut(NETLINK_HEADER_LEN);
-        let (length, rest) = front.split_at_mut(4);
+        let (prefix, _) = buffer.split_at_mut(NETLINK_HEADER_LEN);
+        let (length, rest) = prefix.split_at_mut(4);
         let (message_type, rest) = rest.split_at_mut(2);
         let (flags, rest) = rest.split_at_mut(2);
         let (sequence_number, port_number) = rest.split_at_mut(4);

@@ -28,7 +28,7 @@ pub fn headers_are_written_back(bytes: &[u8])
 
 /// `is_frame` decides whether bytes begin with a whole frame: there are at least 16, and the length
 /// in the header is at least 16 and within the bytes.
-pub fn frames_are_tested(bytes: &[u8])
+pub fn frames_are_checked(bytes: &[u8])
     ensures { (is_frame bytes.now ≡ true) ↔ IsFrame bytes.now }
 {}
 
@@ -47,7 +47,7 @@ pub fn cut_frames_are_refused<I: NetlinkDeserializable>(frame: &[u8], end: usize
 {}
 
 /// The header of a finalized message has its length and its type.
-pub fn finalized_messages_tell<I: NetlinkSerializable>(message: &NetlinkMessage<I>)
+pub fn finalized_headers_match<I: NetlinkSerializable>(message: &NetlinkMessage<I>)
     ensures { IsFinalized I.entry (finalized I.entry message.now) }
 {}
 
@@ -134,16 +134,16 @@ pub fn texts_have_one_message<I: NetlinkProtocol>(
 }
 
 /// A message that was read from a frame, once it is finalized, is written as the frame's header
-/// with its length set, and the canonical body of its type. Here `own` is the body that the
+/// with its length set, and the canonical body of its type. Here `inner_body` is the body that the
 /// protocol writes for each inner message that the frame's body is read as.
 pub fn read_frames_keep_their_header<I: NetlinkProtocol>(message: &NetlinkMessage<I>, frame: &[u8])
     requires { read_message I.reads frame.now ≡ Some (message_value I.value message.now) }
-    ensures { (own : List ℕ)
+    ensures { (inner_body : List ℕ)
         → ((x : I) → I.reads (frame_type frame.now) (frame_body frame.now) ≡ Some (I.value x)
-        → I.entry x ≡ (frame_type frame.now, own))
+        → I.entry x ≡ (frame_type frame.now, inner_body))
         → message_text I.entry (finalized I.entry message.now)
         ≡ unpadded_text frame.now
-        (written_body own (frame_type frame.now) (frame_body frame.now)) }
+        (written_body inner_body (frame_type frame.now) (frame_body frame.now)) }
 {}
 
 /// The text of a frame is its text without padding, followed by zeros up to a multiple of 4.

@@ -2,10 +2,10 @@ ghost use Rattle.std.specs.Prelude.{◌≡◌, ◌≤◌, ◌<◌, ◌^◌, ◌+
 ghost use Rattle.netlink_packet_core_grammar.specs.Frames.{IsFrame, frame_type, frame_body};
 ghost use Rattle.netlink_packet_core_grammar.specs.Numbers.{as_usize};
 ghost use Rattle.netlink_packet_core_messages.specs.NetlinkBuffers.{storage};
-ghost use Rattle.netlink_packet_core_messages.specs.Payloads.{payload_may_want_memory, OfInner};
+ghost use Rattle.netlink_packet_core_messages.specs.Payloads.{payload_may_allocate, OfInner};
 ghost use Rattle.netlink_packet_core_messages.specs.Messages.{message_text, message_size, message_value};
 ghost use Rattle.netlink_packet_core_messages.specs.Messages.{read_message, finalized, IsFinalized};
-ghost use Rattle.netlink_packet_core_messages.specs.Refusals.{wants_memory, Tells};
+ghost use Rattle.netlink_packet_core_messages.specs.Refusals.{is_out_of_memory, Determines};
 
 use super::buffer::{NETLINK_HEADER_LEN, NetlinkBuffer};
 use super::frame_error::FrameError;
@@ -70,13 +70,13 @@ impl<I: NetlinkDeserializable> NetlinkMessage<I> {
         requires { IsFrame (storage buf.now).now }
         ensures ok { IfOk result (λ m. read_message I.reads (storage buf.now).now
             ≡ Some (message_value I.value m)) }
-        ensures err { IfErr result (λ e. wants_memory I.is_memory e ≡ false
+        ensures err { IfErr result (λ e. is_out_of_memory I.is_memory e ≡ false
             → read_message I.reads (storage buf.now).now ≡ None) }
-        ensures told { IfErr result (λ e. wants_memory I.is_memory e ≡ false
-            → Tells I.tells e (frame_type (storage buf.now).now)
+        ensures reported { IfErr result (λ e. is_out_of_memory I.is_memory e ≡ false
+            → Determines I.determines e (frame_type (storage buf.now).now)
             (frame_body (storage buf.now).now)) }
-        ensures memory { IfErr result (λ e. wants_memory I.is_memory e ≡ true
-            → payload_may_want_memory I.may_want_memory (frame_type (storage buf.now).now)
+        ensures memory { IfErr result (λ e. is_out_of_memory I.is_memory e ≡ true
+            → payload_may_allocate I.may_allocate (frame_type (storage buf.now).now)
             (frame_body (storage buf.now).now) ≡ true) }
     {
         let header = NetlinkHeader::parse(alloc, buf)?;
@@ -95,13 +95,13 @@ impl<I: NetlinkDeserializable> NetlinkMessage<I> {
     pub fn deserialize(alloc: Global, buffer: &[u8]) -> Result<Self, FrameError<I::Error>>
         ensures ok { IfOk result (λ m. read_message I.reads buffer.now
             ≡ Some (message_value I.value m)) }
-        ensures err { IfErr result (λ e. wants_memory I.is_memory e ≡ false
+        ensures err { IfErr result (λ e. is_out_of_memory I.is_memory e ≡ false
             → read_message I.reads buffer.now ≡ None) }
-        ensures told { IfErr result (λ e. wants_memory I.is_memory e ≡ false
-            → IsFrame buffer.now → Tells I.tells e (frame_type buffer.now)
+        ensures reported { IfErr result (λ e. is_out_of_memory I.is_memory e ≡ false
+            → IsFrame buffer.now → Determines I.determines e (frame_type buffer.now)
             (frame_body buffer.now)) }
-        ensures memory { IfErr result (λ e. wants_memory I.is_memory e ≡ true → IsFrame buffer.now
-            × (payload_may_want_memory I.may_want_memory (frame_type buffer.now)
+        ensures memory { IfErr result (λ e. is_out_of_memory I.is_memory e ≡ true → IsFrame buffer.now
+            × (payload_may_allocate I.may_allocate (frame_type buffer.now)
             (frame_body buffer.now) ≡ true)) }
     {
         let buf = NetlinkBuffer::new_checked(buffer)?;
@@ -133,7 +133,7 @@ impl<I: NetlinkSerializable> NetlinkMessage<I> {
     pub fn serialize(&self, buffer: &mut [u8])
         requires finalized { IsFinalized I.entry self.now }
         requires fits { OfInner I.fits self.now.payload }
-        requires room { self.now.header.length ≤ length buffer.old }
+        requires capacity { self.now.header.length ≤ length buffer.old }
         ensures { buffer.new
             ≡ message_text I.entry self.now ++ drop self.now.header.length buffer.old }
     {

@@ -1,8 +1,8 @@
 ghost use Rattle.std.specs.Prelude.{◌≡◌, true, false, length, Some, None, IfOk, IfErr};
 ghost use Rattle.netlink_packet_core_grammar.specs.Numbers.{as_usize};
 ghost use Rattle.netlink_packet_core_messages.specs.Payloads.{payload_entry, payload_value, read_payload};
-ghost use Rattle.netlink_packet_core_messages.specs.Payloads.{payload_may_want_memory, OfInner, HasCode};
-ghost use Rattle.netlink_packet_core_messages.specs.Refusals.{wants_memory, Tells};
+ghost use Rattle.netlink_packet_core_messages.specs.Payloads.{payload_may_allocate, OfInner, HasCode};
+ghost use Rattle.netlink_packet_core_messages.specs.Refusals.{is_out_of_memory, Determines};
 
 use super::byte_vec::ByteVec;
 use super::done::DoneMessage;
@@ -49,12 +49,12 @@ impl<I: NetlinkDeserializable> NetlinkPayload<I> {
     ) -> Result<Self, FrameError<I::Error>>
         ensures ok { IfOk result (λ p. read_payload I.reads header.now.message_type body.now
             ≡ Some (payload_value I.value p)) }
-        ensures err { IfErr result (λ e. wants_memory I.is_memory e ≡ false
+        ensures err { IfErr result (λ e. is_out_of_memory I.is_memory e ≡ false
             → read_payload I.reads header.now.message_type body.now ≡ None) }
-        ensures told { IfErr result (λ e. wants_memory I.is_memory e ≡ false
-            → Tells I.tells e header.now.message_type body.now) }
-        ensures memory { IfErr result (λ e. wants_memory I.is_memory e ≡ true
-            → payload_may_want_memory I.may_want_memory header.now.message_type body.now ≡ true) }
+        ensures reported { IfErr result (λ e. is_out_of_memory I.is_memory e ≡ false
+            → Determines I.determines e header.now.message_type body.now) }
+        ensures memory { IfErr result (λ e. is_out_of_memory I.is_memory e ≡ true
+            → payload_may_allocate I.may_allocate header.now.message_type body.now ≡ true) }
     {
         match header.message_type {
             NLMSG_NOOP => Ok(NetlinkPayload::Noop),
@@ -117,7 +117,7 @@ impl<I: NetlinkSerializable> NetlinkPayload<I> {
     #[tactic(auto, using(crate::proofs::Texts::drop_exactly))]
     pub(crate) fn serialize(&self, buffer: &mut [u8])
         requires fits { OfInner I.fits self.now }
-        requires room { length buffer.old ≡ length (payload_entry I.entry self.now).1 }
+        requires capacity { length buffer.old ≡ length (payload_entry I.entry self.now).1 }
         ensures { buffer.new ≡ (payload_entry I.entry self.now).1 }
     {
         match self {

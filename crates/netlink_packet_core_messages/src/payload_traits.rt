@@ -24,7 +24,7 @@ pub trait NetlinkSerializable {
     /// Writes the body, into a buffer of its size.
     fn serialize(&self, buffer: &mut [u8])
         requires fits { fits self.now }
-        requires room { length buffer.old ≡ length (entry self.now).1 }
+        requires capacity { length buffer.old ≡ length (entry self.now).1 }
         ensures { buffer.new ≡ (entry self.now).1 };
 }
 
@@ -45,17 +45,17 @@ pub trait NetlinkDeserializable: Sized {
     ghost is_memory: { Self.Error → Bool };
 
     /// Whether reading the body of a frame of this type may run out of memory.
-    ghost may_want_memory: { ℕ → List ℕ → Bool };
+    ghost may_allocate: { ℕ → List ℕ → Bool };
 
     /// The guarantee of an error for a message type and a body.
-    ghost tells: { Self.Error → ℕ → List ℕ → Type 0 };
+    ghost determines: { Self.Error → ℕ → List ℕ → Type 0 };
 
     /// Reads the body of a frame with this header. The types 1 to 4 are those of control messages.
     ///
     /// # Errors
     ///
-    /// Out of memory (`is_memory`) if an allocation fails, and only if `may_want_memory` holds; any
-    /// other error only if the body isn't accepted, with the guarantee `tells`.
+    /// Out of memory (`is_memory`) if an allocation fails, and only if `may_allocate` holds; any
+    /// other error only if the body isn't accepted, with the guarantee `determines`.
     fn deserialize(
         alloc: Global,
         header: &NetlinkHeader,
@@ -66,10 +66,10 @@ pub trait NetlinkDeserializable: Sized {
             ≡ Some (value m)) }
         ensures err { IfErr result (λ e. is_memory e ≡ false
             → reads header.now.message_type payload.now ≡ None) }
-        ensures told { IfErr result (λ e. is_memory e ≡ false
-            → tells e header.now.message_type payload.now) }
+        ensures reported { IfErr result (λ e. is_memory e ≡ false
+            → determines e header.now.message_type payload.now) }
         ensures memory { IfErr result (λ e. is_memory e ≡ true
-            → may_want_memory header.now.message_type payload.now ≡ true) };
+            → may_allocate header.now.message_type payload.now ≡ true) };
 }
 
 /// A protocol: a message that is written is read back.
@@ -82,5 +82,5 @@ pub trait NetlinkProtocol: NetlinkSerializable + NetlinkDeserializable {
     ghost inner: { (x : Self) → IsInner (Self.entry x).0 };
 
     /// Messages with equal values are written in the same way.
-    ghost one_text: { (x y : Self) → Self.value x ≡ Self.value y → Self.entry x ≡ Self.entry y };
+    ghost same_implies_equal_text: { (x y : Self) → Self.value x ≡ Self.value y → Self.entry x ≡ Self.entry y };
 }

@@ -2,4 +2,4 @@ pub mod Octets
 pub mod Signs
 pub mod Sixteen
 pub mod Sizes
-pub mod Told
+pub mod DeterminedNumbers

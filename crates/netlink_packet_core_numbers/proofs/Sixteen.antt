@@ -54,27 +54,27 @@ le_bytes_16 bs n l small is = from_worth bs n l (are_bytes bs small) is
 
 -- ---- big-endian
 
-turned : (x0 x1 x2 x3 x4 x5 x6 x7 x8 x9 x10 x11 x12 x13 x14 x15 : ℕ) → x0 + x1 + x2 + x3 + x4 + x5 + x6 + x7 + x8 + x9 + x10 + x11 + x12 + x13 + x14 + x15 ≡ x15 + x14 + x13 + x12 + x11 + x10 + x9 + x8 + x7 + x6 + x5 + x4 + x3 + x2 + x1 + x0
-turned x0 x1 x2 x3 x4 x5 x6 x7 x8 x9 x10 x11 x12 x13 x14 x15 = omega arith
+reversed : (x0 x1 x2 x3 x4 x5 x6 x7 x8 x9 x10 x11 x12 x13 x14 x15 : ℕ) → x0 + x1 + x2 + x3 + x4 + x5 + x6 + x7 + x8 + x9 + x10 + x11 + x12 + x13 + x14 + x15 ≡ x15 + x14 + x13 + x12 + x11 + x10 + x9 + x8 + x7 + x6 + x5 + x4 + x3 + x2 + x1 + x0
+reversed x0 x1 x2 x3 x4 x5 x6 x7 x8 x9 x10 x11 x12 x13 x14 x15 = omega arith
 
 abbrev gets : List ℕ → List ℕ
 gets bs = get_or bs 0 0 ∷ get_or bs 1 0 ∷ get_or bs 2 0 ∷ get_or bs 3 0 ∷ get_or bs 4 0 ∷ get_or bs 5 0 ∷ get_or bs 6 0 ∷ get_or bs 7 0 ∷ get_or bs 8 0 ∷ get_or bs 9 0 ∷ get_or bs 10 0 ∷ get_or bs 11 0 ∷ get_or bs 12 0 ∷ get_or bs 13 0 ∷ get_or bs 14 0 ∷ get_or bs 15 0 ∷ []
 
-abbrev turned_gets : List ℕ → List ℕ
-turned_gets bs = get_or bs 15 0 ∷ get_or bs 14 0 ∷ get_or bs 13 0 ∷ get_or bs 12 0 ∷ get_or bs 11 0 ∷ get_or bs 10 0 ∷ get_or bs 9 0 ∷ get_or bs 8 0 ∷ get_or bs 7 0 ∷ get_or bs 6 0 ∷ get_or bs 5 0 ∷ get_or bs 4 0 ∷ get_or bs 3 0 ∷ get_or bs 2 0 ∷ get_or bs 1 0 ∷ get_or bs 0 0 ∷ []
+abbrev reversed_gets : List ℕ → List ℕ
+reversed_gets bs = get_or bs 15 0 ∷ get_or bs 14 0 ∷ get_or bs 13 0 ∷ get_or bs 12 0 ∷ get_or bs 11 0 ∷ get_or bs 10 0 ∷ get_or bs 9 0 ∷ get_or bs 8 0 ∷ get_or bs 7 0 ∷ get_or bs 6 0 ∷ get_or bs 5 0 ∷ get_or bs 4 0 ∷ get_or bs 3 0 ∷ get_or bs 2 0 ∷ get_or bs 1 0 ∷ get_or bs 0 0 ∷ []
 
 gets-all : (bs : List ℕ) → length bs ≡ 16 → gets bs ≡ bs
 gets-all (a ∷ b ∷ c ∷ d ∷ e ∷ f ∷ g ∷ h ∷ i ∷ j ∷ k ∷ m ∷ n ∷ o ∷ p ∷ q ∷ []) l = refl
 gets-all bs l = absurd (omega arith)
 
-turned-worth : (bs : List ℕ) → from_be_bytes w128 bs ≡ from_le_bytes w128 (turned_gets bs)
-turned-worth bs = turned (get_or bs 0 0 * 1329227995784915872903807060280344576) (get_or bs 1 0 * 5192296858534827628530496329220096) (get_or bs 2 0 * 20282409603651670423947251286016) (get_or bs 3 0 * 79228162514264337593543950336) (get_or bs 4 0 * 309485009821345068724781056) (get_or bs 5 0 * 1208925819614629174706176) (get_or bs 6 0 * 4722366482869645213696) (get_or bs 7 0 * 18446744073709551616) (get_or bs 8 0 * 72057594037927936) (get_or bs 9 0 * 281474976710656) (get_or bs 10 0 * 1099511627776) (get_or bs 11 0 * 4294967296) (get_or bs 12 0 * 16777216) (get_or bs 13 0 * 65536) (get_or bs 14 0 * 256) (get_or bs 15 0)
+reversed-worth : (bs : List ℕ) → from_be_bytes w128 bs ≡ from_le_bytes w128 (reversed_gets bs)
+reversed-worth bs = reversed (get_or bs 0 0 * 1329227995784915872903807060280344576) (get_or bs 1 0 * 5192296858534827628530496329220096) (get_or bs 2 0 * 20282409603651670423947251286016) (get_or bs 3 0 * 79228162514264337593543950336) (get_or bs 4 0 * 309485009821345068724781056) (get_or bs 5 0 * 1208925819614629174706176) (get_or bs 6 0 * 4722366482869645213696) (get_or bs 7 0 * 18446744073709551616) (get_or bs 8 0 * 72057594037927936) (get_or bs 9 0 * 281474976710656) (get_or bs 10 0 * 1099511627776) (get_or bs 11 0 * 4294967296) (get_or bs 12 0 * 16777216) (get_or bs 13 0 * 65536) (get_or bs 14 0 * 256) (get_or bs 15 0)
 
-turned-bytes : (bs : List ℕ) → ((i : ℕ) → get_or bs i 0 < 256) → AreBytes (turned_gets bs)
-turned-bytes bs small = (small 15, (small 14, (small 13, (small 12, (small 11, (small 10, (small 9, (small 8, (small 7, (small 6, (small 5, (small 4, (small 3, (small 2, (small 1, (small 0, tt))))))))))))))))
+reversed-bytes : (bs : List ℕ) → ((i : ℕ) → get_or bs i 0 < 256) → AreBytes (reversed_gets bs)
+reversed-bytes bs small = (small 15, (small 14, (small 13, (small 12, (small 11, (small 10, (small 9, (small 8, (small 7, (small 6, (small 5, (small 4, (small 3, (small 2, (small 1, (small 0, tt))))))))))))))))
 
 pub be_bytes_16 : (bs : List ℕ) (n : ℕ) → length bs ≡ 16 → ((i : ℕ) → get_or bs i 0 < 256) → n ≡ from_be_bytes w128 bs → to_be_bytes w128 n ≡ bs
-be_bytes_16 bs n l small is = ap reverse (from_worth (turned_gets bs) n refl (turned-bytes bs small) (is ∙ turned-worth bs)) ∙ gets-all bs l
+be_bytes_16 bs n l small is = ap reverse (from_worth (reversed_gets bs) n refl (reversed-bytes bs small) (is ∙ reversed-worth bs)) ∙ gets-all bs l
 
 -- ---- a number that is written is read back
 
@@ -88,4 +88,4 @@ pub from_le_bytes-to_le_bytes_16 : (n : ℕ) → n < 2 ^ 128 → from_le_bytes w
 from_le_bytes-to_le_bytes_16 n h = sum-worth 15 (to_le_bytes w128 n) refl ∙ worth-written 16 n h
 
 pub from_be_bytes-to_be_bytes_16 : (n : ℕ) → n < 2 ^ 128 → from_be_bytes w128 (to_be_bytes w128 n) ≡ n
-from_be_bytes-to_be_bytes_16 n h = turned (n / 1329227995784915872903807060280344576 % 256 * 1329227995784915872903807060280344576) (n / 5192296858534827628530496329220096 % 256 * 5192296858534827628530496329220096) (n / 20282409603651670423947251286016 % 256 * 20282409603651670423947251286016) (n / 79228162514264337593543950336 % 256 * 79228162514264337593543950336) (n / 309485009821345068724781056 % 256 * 309485009821345068724781056) (n / 1208925819614629174706176 % 256 * 1208925819614629174706176) (n / 4722366482869645213696 % 256 * 4722366482869645213696) (n / 18446744073709551616 % 256 * 18446744073709551616) (n / 72057594037927936 % 256 * 72057594037927936) (n / 281474976710656 % 256 * 281474976710656) (n / 1099511627776 % 256 * 1099511627776) (n / 4294967296 % 256 * 4294967296) (n / 16777216 % 256 * 16777216) (n / 65536 % 256 * 65536) (n / 256 % 256 * 256) (n % 256) ∙ from_le_bytes-to_le_bytes_16 n h
+from_be_bytes-to_be_bytes_16 n h = reversed (n / 1329227995784915872903807060280344576 % 256 * 1329227995784915872903807060280344576) (n / 5192296858534827628530496329220096 % 256 * 5192296858534827628530496329220096) (n / 20282409603651670423947251286016 % 256 * 20282409603651670423947251286016) (n / 79228162514264337593543950336 % 256 * 79228162514264337593543950336) (n / 309485009821345068724781056 % 256 * 309485009821345068724781056) (n / 1208925819614629174706176 % 256 * 1208925819614629174706176) (n / 4722366482869645213696 % 256 * 4722366482869645213696) (n / 18446744073709551616 % 256 * 18446744073709551616) (n / 72057594037927936 % 256 * 72057594037927936) (n / 281474976710656 % 256 * 281474976710656) (n / 1099511627776 % 256 * 1099511627776) (n / 4294967296 % 256 * 4294967296) (n / 16777216 % 256 * 16777216) (n / 65536 % 256 * 65536) (n / 256 % 256 * 256) (n % 256) ∙ from_le_bytes-to_le_bytes_16 n h

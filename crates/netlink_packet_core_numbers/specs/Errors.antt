@@ -7,13 +7,13 @@ use Rattle.netlink_packet_core_numbers.specs.declared.error.Cause.TheVariants.{M
 use Rattle.netlink_packet_core_numbers.specs.declared.error.DecodeError.{DecodeError}
 
 -- The cause is a failed allocation.
-abbrev is_want : Cause → Bool
-is_want Memory = true
-is_want _ = false
+abbrev is_memory_cause : Cause → Bool
+is_memory_cause Memory = true
+is_memory_cause _ = false
 
 -- The error is out of memory.
 abbrev pub is_memory : DecodeError → Bool
-is_memory e = is_want e.cause
+is_memory e = is_memory_cause e.cause
 
 -- ---- errors without a context
 

@@ -154,11 +154,11 @@ impl<T: Drop> From<AllocFailed<T>> for DecodeError {
 }
 
 // Writes a text followed by a number.
-fn write_count<W: fmt::Write>(f: &mut fmt::Formatter<W>, words: &str, number: usize) -> fmt::Result
-    ensures writes { WritesOnOk W.write_str_gives f.old result (words.now ++ decimal number) f.new }
-    ensures styled { WritesStyledOnOk W.write_str_gives f.old result (words.now ++ decimal number) f.new }
+fn write_count<W: fmt::Write>(f: &mut fmt::Formatter<W>, label: &str, number: usize) -> fmt::Result
+    ensures writes { WritesOnOk W.write_str_gives f.old result (label.now ++ decimal number) f.new }
+    ensures styled { WritesStyledOnOk W.write_str_gives f.old result (label.now ++ decimal number) f.new }
 {
-    f.write_str(words)?;
+    f.write_str(label)?;
     f.write_str(itoa::Buffer::new().format(number))
 }
 

@@ -2,7 +2,7 @@
 
 ghost use Rattle.std.specs.Prelude.{◌≡◌, ◌+◌, ◌∷◌, ◌++◌, [], length};
 ghost use Rattle.netlink_packet_core_grammar.specs.Numbers.{le2, le4, le8, be2, be4, be8};
-ghost use Rattle.netlink_packet_core_grammar.specs.Truths.{truth_byte};
+ghost use Rattle.netlink_packet_core_grammar.specs.Booleans.{boolean_byte};
 ghost use Rattle.netlink_packet_core_numbers.specs.Addresses.{ip_octets};
 
 use std::net::IpAddr;
@@ -18,7 +18,7 @@ pub fn fill_u8(buffer: &mut [u8], value: u8)
 /// Writes a boolean as a byte, 1 or 0.
 pub fn fill_bool(buffer: &mut [u8], value: bool)
     requires { length buffer.old ≡ 1 }
-    ensures { buffer.new ≡ truth_byte value }
+    ensures { buffer.new ≡ boolean_byte value }
 {
     buffer.copy_from_slice(&[if value { 1 } else { 0 }]);
 }
@@ -122,7 +122,7 @@ pub fn fill_text(buffer: &mut [u8], text: &str)
     requires { length buffer.old ≡ length text.now + 1 }
     ensures { buffer.new ≡ text.now ++ 0 ∷ [] }
 {
-    let (front, last) = buffer.split_at_mut(text.len());
-    front.copy_from_slice(text.as_bytes());
+    let (prefix, last) = buffer.split_at_mut(text.len());
+    prefix.copy_from_slice(text.as_bytes());
     last.copy_from_slice(&[0]);
 }

@@ -23,12 +23,12 @@ abbrev pub reads_address : ℕ → List ℕ → Option TypedBody
 reads_address t b = cond (accepts_address t b) (Some (t, b)) None
 
 -- The guarantee of an error, other than out of memory, for a type and a body.
-abbrev pub address_tells : AddressFault → ℕ → List ℕ → Type 0
-address_tells AddressFault.OtherType t b = is_address_type t ≡ false
-address_tells AddressFault.Short t b = (is_address_type t ≡ true) × (length b < 8)
-address_tells AddressFault.Memory t b = Unit {0}
+abbrev pub address_determines : AddressFault → ℕ → List ℕ → Type 0
+address_determines AddressFault.OtherType t b = is_address_type t ≡ false
+address_determines AddressFault.Short t b = (is_address_type t ≡ true) × (length b < 8)
+address_determines AddressFault.Memory t b = Unit {0}
 
 -- The error is a failed allocation.
-abbrev pub wants_memory : AddressFault → Bool
-wants_memory AddressFault.Memory = true
-wants_memory _ = false
+abbrev pub is_out_of_memory : AddressFault → Bool
+is_out_of_memory AddressFault.Memory = true
+is_out_of_memory _ = false

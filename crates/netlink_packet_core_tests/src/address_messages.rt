@@ -5,8 +5,8 @@ ghost use Rattle.std.specs.Prelude.{◌≡◌, ◌≢◌, ◌↔◌, ◌+◌, �
 ghost use Rattle.netlink_packet_core.specs.Messages.{IsFinalized, message_text, message_value, read_message};
 ghost use Rattle.netlink_packet_core.specs.TypedBodies.{TypedBody};
 ghost use Rattle.netlink_packet_core_tests.specs.Addresses.{header_text, address_text};
-ghost use Rattle.netlink_packet_core_tests.specs.AddressMessages.{accepts_address, address_entry, address_tells};
-ghost use Rattle.netlink_packet_core_tests.specs.AddressMessages.{reads_address, wants_memory};
+ghost use Rattle.netlink_packet_core_tests.specs.AddressMessages.{accepts_address, address_entry, address_determines};
+ghost use Rattle.netlink_packet_core_tests.specs.AddressMessages.{reads_address, is_out_of_memory};
 ghost use Rattle.netlink_packet_core_tests.specs.AddressRoundTrips.{round_trip, address_inner};
 
 use netlink_packet_core::laws::messages_read_back;
@@ -125,8 +125,8 @@ impl Emitable for Address {
 
     #[tactic(auto, using(crate::proofs::AddressHeaders::header_sizes))]
     fn emit(&self, buffer: &mut [u8]) {
-        let (front, _) = buffer.split_at_mut(ADDRESS_HEADER_LEN + self.attributes.len());
-        let (header, attributes) = front.split_at_mut(ADDRESS_HEADER_LEN);
+        let (prefix, _) = buffer.split_at_mut(ADDRESS_HEADER_LEN + self.attributes.len());
+        let (header, attributes) = prefix.split_at_mut(ADDRESS_HEADER_LEN);
         self.header.emit(header);
         attributes.copy_from_slice(self.attributes.as_slice());
     }
@@ -181,11 +181,11 @@ impl NetlinkDeserializable for AddressMessage {
 
     ghost reads = { reads_address };
 
-    ghost is_memory = { wants_memory };
+    ghost is_memory = { is_out_of_memory };
 
-    ghost may_want_memory = { accepts_address };
+    ghost may_allocate = { accepts_address };
 
-    ghost tells = { address_tells };
+    ghost determines = { address_determines };
 
     fn deserialize(
         alloc: Global,
@@ -205,7 +205,7 @@ impl NetlinkProtocol for AddressMessage {
 
     ghost inner = { address_inner };
 
-    ghost one_text = { λ x y e. e };
+    ghost same_implies_equal_text = { λ x y e. e };
 }
 
 /// Returns the message that adds an address, or announces one, of a header and the bytes of its

@@ -53,9 +53,9 @@ impl NetlinkDeserializable for KeptMessage {
 
     ghost is_memory = { λ _. true };
 
-    ghost may_want_memory = { λ _ _. true };
+    ghost may_allocate = { λ _ _. true };
 
-    ghost tells = { λ _ _ _. ⊥ };
+    ghost determines = { λ _ _ _. ⊥ };
 
     fn deserialize(
         alloc: Global,
@@ -74,7 +74,7 @@ impl NetlinkProtocol for KeptMessage {
 
     ghost inner = { λ m. m.is_inner };
 
-    ghost one_text = { λ m n e. e };
+    ghost same_implies_equal_text = { λ m n e. e };
 }
 
 fn read(alloc: Global, bytes: &[u8]) -> Option<NetlinkMessage<KeptMessage>> {
@@ -89,9 +89,9 @@ fn parts_of(alloc: Global, frame: &[u8]) -> Option<(NetlinkHeader, NetlinkPayloa
 }
 
 fn is_refused(alloc: Global, bytes: &[u8]) -> bool {
-    let answer: Result<NetlinkMessage<KeptMessage>, FrameError<AllocError>> =
+    let outcome: Result<NetlinkMessage<KeptMessage>, FrameError<AllocError>> =
         NetlinkMessage::deserialize(alloc, bytes);
-    match answer {
+    match outcome {
         Err(FrameError::Frame(error)) => !error.is_memory(),
         _ => false,
     }
@@ -218,7 +218,7 @@ fn inner_messages_are_written_and_read(rt: HostRuntime) -> Result<(), Fail> {
 }
 
 #[test]
-fn frames_are_written_again(rt: HostRuntime) {
+fn frames_are_written_canonically(rt: HostRuntime) {
     let noop: &[u8] = &[
         0x14, 0, 0, 0, 1, 0, 0, 0, 1, 0, 0, 0, 0, 0, 0, 0, 0xaa, 0xbb, 0xcc, 0xdd,
     ];
@@ -273,7 +273,7 @@ const FRAME: [u8; 20] = [
 ];
 
 #[test]
-fn laws_are_seen_on_a_frame(rt: HostRuntime) {
+fn laws_hold_for_a_frame(rt: HostRuntime) {
     let bytes: &[u8] = &FRAME;
     assert!(rt; NetlinkBuffer::new_checked(bytes).is_ok());
     laws::bytes_past_a_frame_change_nothing::<KeptMessage>(bytes, &[]);
@@ -282,7 +282,7 @@ fn laws_are_seen_on_a_frame(rt: HostRuntime) {
 }
 
 #[test]
-fn laws_are_seen_on_a_message(rt: HostRuntime) -> Result<(), Fail> {
+fn laws_hold_for_a_message(rt: HostRuntime) -> Result<(), Fail> {
     let Some(mut message) = read(rt.alloc(), &FRAME) else {
         return Err(Fail::from("refused"));
     };

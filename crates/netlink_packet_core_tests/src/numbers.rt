@@ -17,16 +17,16 @@ fn numbers_are_read_in_each_order(rt: HostRuntime) {
 #[test]
 fn numbers_are_written_in_each_order(rt: HostRuntime) {
     let mut buffer = [9u8; 17];
-    let told = emit_i32(&mut buffer, -19);
-    assert!(rt; told.is_ok() && buffer.starts_with(&[0xed, 0xff, 0xff, 0xff, 9]));
-    let told = emit_u64_be(&mut buffer, 0x0102030405060708);
-    assert!(rt; told.is_ok() && buffer.starts_with(&[1, 2, 3, 4, 5, 6, 7, 8, 9]));
-    let told = emit_u128_le(&mut buffer, 0x0807060504030201);
-    assert!(rt; told.is_ok() && buffer == [1, 2, 3, 4, 5, 6, 7, 8, 0, 0, 0, 0, 0, 0, 0, 0, 9]);
+    let emitted = emit_i32(&mut buffer, -19);
+    assert!(rt; emitted.is_ok() && buffer.starts_with(&[0xed, 0xff, 0xff, 0xff, 9]));
+    let emitted = emit_u64_be(&mut buffer, 0x0102030405060708);
+    assert!(rt; emitted.is_ok() && buffer.starts_with(&[1, 2, 3, 4, 5, 6, 7, 8, 9]));
+    let emitted = emit_u128_le(&mut buffer, 0x0807060504030201);
+    assert!(rt; emitted.is_ok() && buffer == [1, 2, 3, 4, 5, 6, 7, 8, 0, 0, 0, 0, 0, 0, 0, 0, 9]);
 }
 
 #[test]
-fn truths_and_addresses_are_read(rt: HostRuntime) {
+fn booleans_and_addresses_are_read(rt: HostRuntime) {
     assert!(rt; (parse_bool(&[2]), parse_one(&[2])) == (Ok(true), Ok(false)));
     assert!(rt; parse_mac(&[0, 0, 94, 0, 83, 1]) == Ok([0, 0, 94, 0, 83, 1]));
     let localhost = IpAddr::V4(Ipv4Addr::new(127, 0, 0, 1));

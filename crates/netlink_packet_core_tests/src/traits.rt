@@ -17,8 +17,8 @@ impl Emitable for Pair {
     }
 
     fn emit(&self, buffer: &mut [u8]) {
-        let (front, _) = buffer.split_at_mut(2);
-        front.copy_from_slice(&[self.0, self.1]);
+        let (prefix, _) = buffer.split_at_mut(2);
+        prefix.copy_from_slice(&[self.0, self.1]);
     }
 }
 
@@ -27,7 +27,7 @@ impl<'a> Parseable<&'a [u8]> for Pair {
 
     ghost accepts = { λ b. length b.now == 2 };
 
-    ghost may_want_memory = { λ _. false };
+    ghost may_allocate = { λ _. false };
 
     ghost gives = { λ b p. b.now ≡ p.0 ∷ p.1 ∷ [] };
 
@@ -44,7 +44,7 @@ impl<'a> ParseableParametrized<&'a [u8], usize> for Pair {
 
     ghost accepts = { λ _ _. true };
 
-    ghost may_want_memory = { λ _ _. false };
+    ghost may_allocate = { λ _ _. false };
 
     ghost gives = { λ b at p. (p.0 ≡ slice_index b.now at) × (p.1 ≡ slice_index b.now (at + 1)) };
 
@@ -59,7 +59,7 @@ impl<'a> ParseableParametrized<&'a [u8], usize> for Pair {
 
 fn rewrite<T: Emitable>(value: &T, buffer: &mut [u8]) -> usize
     requires ready { T.can_emit value.now }
-    requires room { length (T.text value.now) ≤ length buffer.old }
+    requires capacity { length (T.text value.now) ≤ length buffer.old }
     ensures { buffer.new ≡ T.text value.now ++ drop (length (T.text value.now)) buffer.old }
 {
     value.emit(buffer);
@@ -92,6 +92,6 @@ fn a_value_is_written_and_read(rt: HostRuntime) {
     assert!(rt; read(rt.alloc(), &&buffer[..2]) == Ok(Pair(1, 2)));
     let refused: Result<Pair, DecodeError> = read(rt.alloc(), &buffer.as_slice());
     assert!(rt; refused.is_err());
-    let placed = read_at(rt.alloc(), &buffer.as_slice(), 1);
-    assert!(rt; placed == Ok(Pair(2, 9)));
+    let pair = read_at(rt.alloc(), &buffer.as_slice(), 1);
+    assert!(rt; pair == Ok(Pair(2, 9)));
 }

@@ -4,8 +4,8 @@ use Rattle.hex.specs.Hex.{encode_lower}
 use Rattle.link_info.specs.InfoGrammar.{info_rule}
 
 -- The result for a list: its canonical text in hex, `unfit` if an attribute of that is too long, or `refused`.
-abbrev pub answer : List ℕ → List ℕ
-answer list =
+abbrev pub expected_line : List ℕ → List ℕ
+expected_line list =
     cond (info_rule.accepted list)
     (cond (info_rule.fits list) (encode_lower (info_rule.canonical list)) (codes "unfit"))
     (codes "refused")

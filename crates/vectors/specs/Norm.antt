@@ -18,5 +18,5 @@ measure_text limit capture = outcome_text limit capture (first_fault limit captu
 
 -- The result for a capture: the texts of the frames before the first fault in hex, a space, and the numbers or the
 -- fault.
-abbrev pub answer : ℕ → List ℕ → List ℕ
-answer limit capture = encode_lower (texts limit capture) ++ (codes " " ++ measure_text limit capture)
+abbrev pub expected_line : ℕ → List ℕ → List ℕ
+expected_line limit capture = encode_lower (texts limit capture) ++ (codes " " ++ measure_text limit capture)

@@ -21,5 +21,5 @@ abbrev pub chosen : Shown → Choice
 chosen shown = record { numbers = not shown.without_numbers; only = option_map (λ types. types.items) shown.only }
 
 -- The result for a capture: the lines of the frames before the first fault, and the last line.
-abbrev pub answer : Choice → ℕ → List ℕ → List ℕ
-answer choice limit capture = lines choice limit capture ++ judged_line (first_fault limit capture)
+abbrev pub expected_line : Choice → ℕ → List ℕ → List ℕ
+expected_line choice limit capture = lines choice limit capture ++ judged_line (first_fault limit capture)

@@ -41,9 +41,9 @@ pub fn read_words(alloc: Global, limit: &str, capture: &str, least: u32) -> Opti
 }
 
 /// Returns the case of a limit and a capture with a space between.
-pub fn read_case(alloc: Global, words: &str, least: u32) -> Option<Case>
+pub fn read_case(alloc: Global, fields: &str, least: u32) -> Option<Case>
     ensures { IfSome result (λ case. least ≤ case.limit) }
 {
-    let (limit, capture) = words.split_once(' ')?;
+    let (limit, capture) = fields.split_once(' ')?;
     read_words(alloc, limit, capture, least)
 }

@@ -1,7 +1,7 @@
 // The canonical text of a link info list.
 
 ghost use Rattle.std.specs.Prelude.{◌≡◌, IfOk, string_bytes};
-ghost use Rattle.vectors.specs.InfoList.{answer};
+ghost use Rattle.vectors.specs.InfoList.{expected_line};
 
 use hex::{decode, encode};
 use link_info::LinkInfo;
@@ -11,8 +11,8 @@ use std::io::{self, ErrorKind, Write};
 
 /// Returns the canonical text of a list in hex, `unfit` if an attribute of it would be longer than
 /// 65535 bytes, or `refused` if there is none.
-fn answer_list(alloc: Global, bytes: &[u8]) -> Result<String, AllocError>
-    ensures { IfOk result (λ line. string_bytes line ≡ answer bytes.now) }
+fn list_result(alloc: Global, bytes: &[u8]) -> Result<String, AllocError>
+    ensures { IfOk result (λ line. string_bytes line ≡ expected_line bytes.now) }
 {
     let list = match LinkInfo::parse_list(alloc, bytes) {
         Ok(list) => list,
@@ -32,9 +32,9 @@ fn answer_list(alloc: Global, bytes: &[u8]) -> Result<String, AllocError>
 ///
 /// # Errors
 ///
-/// `InvalidInput` if `words` isn't a case; otherwise an allocation or a write failed.
-pub fn write_answer<W: Write>(alloc: Global, words: &str, out: &mut W) -> io::Result<()> {
-    let list = decode(alloc, words).map_err(|_| ErrorKind::InvalidInput)?;
-    let answer = answer_list(alloc, list.as_slice())?;
-    writeln!(out, "{answer}")
+/// `InvalidInput` if `fields` isn't a case; otherwise an allocation or a write failed.
+pub fn write_result<W: Write>(alloc: Global, fields: &str, out: &mut W) -> io::Result<()> {
+    let list = decode(alloc, fields).map_err(|_| ErrorKind::InvalidInput)?;
+    let expected_line = list_result(alloc, list.as_slice())?;
+    writeln!(out, "{expected_line}")
 }

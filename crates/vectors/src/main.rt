@@ -9,21 +9,21 @@ mod norm;
 mod refusal;
 mod same;
 mod show;
-mod spelling;
+mod quirks;
 
 use std::alloc::Global;
 use std::io::{self, BufRead, BufReader, BufWriter, ErrorKind, Write};
 
 /// Writes the result of a line: the name of a kind, a space, and a case of that kind.
-fn answer_line<W: Write>(alloc: Global, line: &str, out: &mut W) -> io::Result<()> {
-    let (kind, words) = line.split_once(' ').ok_or(ErrorKind::InvalidInput)?;
+fn write_line_result<W: Write>(alloc: Global, line: &str, out: &mut W) -> io::Result<()> {
+    let (kind, fields) = line.split_once(' ').ok_or(ErrorKind::InvalidInput)?;
     match kind {
-        "norm" => norm::write_answer(alloc, words, out),
-        "same" => same::write_answer(alloc, words, out),
-        "spelling" => spelling::write_answer(alloc, words, out),
-        "refusal" => refusal::write_answer(alloc, words, out),
-        "link_info" => info_list::write_answer(alloc, words, out),
-        "show" => show::write_answer(alloc, words, out),
+        "norm" => norm::write_result(alloc, fields, out),
+        "same" => same::write_result(alloc, fields, out),
+        "spelling" => quirks::write_result(alloc, fields, out),
+        "refusal" => refusal::write_result(alloc, fields, out),
+        "link_info" => info_list::write_result(alloc, fields, out),
+        "show" => show::write_result(alloc, fields, out),
         _ => Err(io::Error::from(ErrorKind::InvalidInput)),
     }
 }
@@ -49,7 +49,7 @@ fn main(rt: HostRuntime) -> io::Result<()> {
             label = String::from_str(alloc, text)?;
             continue;
         }
-        if let Err(error) = answer_line(alloc, line.as_str(), &mut out) {
+        if let Err(error) = write_line_result(alloc, line.as_str(), &mut out) {
             eprintln!(rt; "stdin:{number}: {label}: {}", reason(&error))?;
             return Err(error);
         }

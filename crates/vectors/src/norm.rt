@@ -3,7 +3,7 @@
 
 ghost use Rattle.std.specs.Prelude.{◌≡◌, ◌<◌, ◌≤◌, IfOk, string_bytes};
 ghost use Rattle.link_capture_grammar.specs.Captures.{texts};
-ghost use Rattle.vectors.specs.Norm.{answer, measure_text};
+ghost use Rattle.vectors.specs.Norm.{expected_line, measure_text};
 
 use crate::cases::{Case, LEAST_LIMIT, PIECES, read_case};
 use hex::encode;
@@ -48,10 +48,10 @@ fn texts_of(alloc: Global, case: &Case) -> Result<Vec<u8>, AllocError>
 }
 
 /// Returns the texts of a capture in hex, a space, and its numbers or its first fault.
-fn answer_case(alloc: Global, case: &Case) -> Result<String, AllocError>
+fn case_result(alloc: Global, case: &Case) -> Result<String, AllocError>
     requires { 16 ≤ case.now.limit }
     ensures { IfOk result
-        (λ line. string_bytes line ≡ answer case.now.limit case.now.capture.items) }
+        (λ line. string_bytes line ≡ expected_line case.now.limit case.now.capture.items) }
 {
     let text = encode(alloc, texts_of(alloc, case)?.as_slice())?;
     let numbers = measure_case(alloc, case)?;
@@ -77,12 +77,12 @@ fn read_pieces(
 
 /// A reader that reads at most a number of bytes at each call.
 #[derive(Drop)]
-struct Giver<'a> {
+struct LimitedReader<'a> {
     rest: &'a [u8],
     size: usize,
 }
 
-impl Read for Giver<'_> {
+impl Read for LimitedReader<'_> {
     fn read(&mut self, buf: &mut [u8]) -> io::Result<usize> {
         let count = self.rest.len().min(self.size).min(buf.len());
         buf[..count].copy_from_slice(&self.rest[..count]);
@@ -126,14 +126,14 @@ fn agrees_between_devices(
         return false;
     }
     for size in [1, 7] {
-        let mut source = ReadSource::new(Giver {
+        let mut source = ReadSource::new(LimitedReader {
             rest: capture,
             size,
         });
         if !flows(alloc, &mut source, case.limit, text, outcome) {
             return false;
         }
-        let mut source = ReadSource::new(Giver {
+        let mut source = ReadSource::new(LimitedReader {
             rest: capture,
             size,
         });
@@ -176,13 +176,13 @@ fn agrees(alloc: Global, case: &Case) -> bool
 ///
 /// # Errors
 ///
-/// `InvalidInput` if `words` isn't a case; `InvalidData` if another call has another result;
+/// `InvalidInput` if `fields` isn't a case; `InvalidData` if another call has another result;
 /// otherwise an allocation or a write failed.
-pub fn write_answer<W: Write>(alloc: Global, words: &str, out: &mut W) -> io::Result<()> {
-    let case = read_case(alloc, words, LEAST_LIMIT).ok_or(ErrorKind::InvalidInput)?;
+pub fn write_result<W: Write>(alloc: Global, fields: &str, out: &mut W) -> io::Result<()> {
+    let case = read_case(alloc, fields, LEAST_LIMIT).ok_or(ErrorKind::InvalidInput)?;
     if !agrees(alloc, &case) {
         return Err(io::Error::from(ErrorKind::InvalidData));
     }
-    let answer = answer_case(alloc, &case)?;
-    writeln!(out, "{answer}")
+    let expected_line = case_result(alloc, &case)?;
+    writeln!(out, "{expected_line}")
 }

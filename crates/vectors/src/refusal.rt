@@ -9,9 +9,9 @@ use std::io::{self, ErrorKind, Write};
 ///
 /// # Errors
 ///
-/// `InvalidInput` if `words` isn't a case; otherwise a write failed.
-pub fn write_answer<W: Write>(alloc: Global, words: &str, out: &mut W) -> io::Result<()> {
-    let case = read_case(alloc, words, 0).ok_or(ErrorKind::InvalidInput)?;
+/// `InvalidInput` if `fields` isn't a case; otherwise a write failed.
+pub fn write_result<W: Write>(alloc: Global, fields: &str, out: &mut W) -> io::Result<()> {
+    let case = read_case(alloc, fields, 0).ok_or(ErrorKind::InvalidInput)?;
     match why(case.capture.as_slice(), case.limit) {
         Some(refusal) => writeln!(out, "{refusal}"),
         None => writeln!(out, "nothing"),

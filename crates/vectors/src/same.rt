@@ -20,11 +20,11 @@ struct Pair {
 }
 
 /// Returns the case of a limit from 16 to 4294967295 in decimal, and two captures in hex, with
-/// spaces between. Returns None if `words` is anything else, or if an allocation fails.
-fn read_pair(alloc: Global, words: &str) -> Option<Pair>
+/// spaces between. Returns None if `fields` is anything else, or if an allocation fails.
+fn read_pair(alloc: Global, fields: &str) -> Option<Pair>
     ensures { IfSome result (λ pair. 16 ≤ pair.limit) }
 {
-    let (limit, captures) = words.split_once(' ')?;
+    let (limit, captures) = fields.split_once(' ')?;
     let limit = read_limit(limit, LEAST_LIMIT)?;
     let (first, second) = captures.split_once(' ')?;
     let first = decode(alloc, first).ok()?;
@@ -38,10 +38,10 @@ fn read_pair(alloc: Global, words: &str) -> Option<Pair>
 
 /// Returns whether the captures in the other order have the same result; if both have a fault, that
 /// of the other capture.
-fn agrees_turned(pair: &Pair, answer: Result<bool, SideFault>) -> bool {
+fn agrees_swapped(pair: &Pair, compared: Result<bool, SideFault>) -> bool {
     match same(pair.second.as_slice(), pair.first.as_slice(), pair.limit) {
-        Ok(is_same) => answer == Ok(is_same),
-        Err(_) => answer.is_err(),
+        Ok(is_same) => compared == Ok(is_same),
+        Err(_) => compared.is_err(),
     }
 }
 
@@ -56,8 +56,8 @@ fn agrees_with_its_text(alloc: Global, capture: &[u8], limit: u32) -> bool
     same(capture, capture, limit) == Ok(true) && same(capture, text.as_slice(), limit) == Ok(true)
 }
 
-fn answer_pair(alloc: Global, answer: Result<bool, SideFault>) -> Result<String, AllocError> {
-    match answer {
+fn pair_result(alloc: Global, compared: Result<bool, SideFault>) -> Result<String, AllocError> {
+    match compared {
         Ok(true) => format!(in alloc; "same"),
         Ok(false) => format!(in alloc; "different"),
         Err(fault) => format!(in alloc; "{fault}"),
@@ -68,16 +68,16 @@ fn answer_pair(alloc: Global, answer: Result<bool, SideFault>) -> Result<String,
 ///
 /// # Errors
 ///
-/// `InvalidInput` if `words` isn't a case; `InvalidData` if another comparison has another result;
+/// `InvalidInput` if `fields` isn't a case; `InvalidData` if another comparison has another result;
 /// otherwise an allocation or a write failed.
-pub fn write_answer<W: Write>(alloc: Global, words: &str, out: &mut W) -> io::Result<()> {
-    let pair = read_pair(alloc, words).ok_or(ErrorKind::InvalidInput)?;
-    let answer = same(pair.first.as_slice(), pair.second.as_slice(), pair.limit);
-    if !agrees_turned(&pair, answer)
+pub fn write_result<W: Write>(alloc: Global, fields: &str, out: &mut W) -> io::Result<()> {
+    let pair = read_pair(alloc, fields).ok_or(ErrorKind::InvalidInput)?;
+    let compared = same(pair.first.as_slice(), pair.second.as_slice(), pair.limit);
+    if !agrees_swapped(&pair, compared)
         || !agrees_with_its_text(alloc, pair.first.as_slice(), pair.limit)
     {
         return Err(io::Error::from(ErrorKind::InvalidData));
     }
-    let answer = answer_pair(alloc, answer)?;
-    writeln!(out, "{answer}")
+    let compared = pair_result(alloc, compared)?;
+    writeln!(out, "{compared}")
 }

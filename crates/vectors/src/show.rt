@@ -3,7 +3,7 @@
 
 ghost use Rattle.std.specs.Prelude.{◌≡◌, ◌<◌, ◌≤◌, ◌++◌, IfOk, IfSome, OnOk};
 ghost use Rattle.link_lines.specs.Options.{choice_of};
-ghost use Rattle.vectors.specs.Show.{answer, chosen, outcome_line};
+ghost use Rattle.vectors.specs.Show.{expected_line, chosen, outcome_line};
 
 use crate::cases::{Case, LEAST_LIMIT, PIECES, read_words};
 use link_lines::{
@@ -34,9 +34,9 @@ impl Shown {
 }
 
 /// Returns types of messages in decimal, with commas between.
-fn read_types(alloc: Global, words: &str) -> Option<Vec<u16>> {
+fn read_types(alloc: Global, fields: &str) -> Option<Vec<u16>> {
     let mut types = Vec::new(alloc);
-    for word in words.split(',') {
+    for word in fields.split(',') {
         types.push(word.parse::<u16>().ok()?).ok()?;
     }
     Some(types)
@@ -44,12 +44,12 @@ fn read_types(alloc: Global, words: &str) -> Option<Vec<u16>> {
 
 /// Returns the case of a limit from 16 to 4294967295 in decimal, and a capture in hex, with a space
 /// between; or with `without-numbers`, or the types of the messages to be shown, between them.
-/// Returns None if `words` is anything else, or if an allocation fails.
-fn read_shown(alloc: Global, words: &str) -> Option<Shown>
+/// Returns None if `fields` is anything else, or if an allocation fails.
+fn read_shown(alloc: Global, fields: &str) -> Option<Shown>
     ensures { IfSome result (λ shown. 16 ≤ shown.case.limit) }
 {
-    let (front, capture) = words.rsplit_once(' ')?;
-    let (limit, choice) = front.split_once(' ').unwrap_or((front, ""));
+    let (head, capture) = fields.rsplit_once(' ')?;
+    let (limit, choice) = head.split_once(' ').unwrap_or((head, ""));
     let case = read_words(alloc, limit, capture, LEAST_LIMIT)?;
     let without_numbers = choice == "without-numbers";
     let only = if choice.is_empty() || without_numbers {
@@ -78,10 +78,10 @@ fn push_outcome(outcome: Result<(), CaptureFault>, out: &mut Vec<u8>) -> Result<
 }
 
 /// Returns the lines of a capture, followed by `legal` or its first fault.
-fn answer_case(alloc: Global, shown: &Shown) -> Result<Vec<u8>, AllocError>
+fn case_result(alloc: Global, shown: &Shown) -> Result<Vec<u8>, AllocError>
     requires { 16 ≤ shown.now.case.limit }
     ensures { IfOk result
-        (λ lines. lines.items ≡ answer (chosen shown.now) shown.now.case.limit shown.now.case.capture.items) }
+        (λ lines. lines.items ≡ expected_line (chosen shown.now) shown.now.case.limit shown.now.case.capture.items) }
 {
     let mut lines = Vec::new(alloc);
     let outcome = show_bytes(
@@ -161,13 +161,13 @@ fn agrees(alloc: Global, shown: &Shown) -> Result<bool, AllocError>
 ///
 /// # Errors
 ///
-/// `InvalidInput` if `words` isn't a case; `InvalidData` if another call has another result;
+/// `InvalidInput` if `fields` isn't a case; `InvalidData` if another call has another result;
 /// otherwise an allocation or a write failed.
-pub fn write_answer<W: Write>(alloc: Global, words: &str, out: &mut W) -> io::Result<()> {
-    let shown = read_shown(alloc, words).ok_or(ErrorKind::InvalidInput)?;
+pub fn write_result<W: Write>(alloc: Global, fields: &str, out: &mut W) -> io::Result<()> {
+    let shown = read_shown(alloc, fields).ok_or(ErrorKind::InvalidInput)?;
     if !agrees(alloc, &shown)? {
         return Err(io::Error::from(ErrorKind::InvalidData));
     }
-    let answer = answer_case(alloc, &shown)?;
-    out.write_all(answer.as_slice())
+    let expected_line = case_result(alloc, &shown)?;
+    out.write_all(expected_line.as_slice())
 }

@@ -1,11 +1,11 @@
 -- the reader is consistent with what was read
 use Rattle.std.proofs.Common.{◌-◌, ◌^◌, ℕ, List}
-use Rattle.link_capture.specs.Readers.{StandsFor}
+use Rattle.link_capture.specs.Readers.{IsConsistentWith}
 use Rattle.count_messages.proofs.count_all.Given as goal
 
 abbrev pub invariant-pieces : goal.invariant-pieces
 invariant-pieces g l = record {
-  came : (s : List ℕ) × StandsFor l.reader s;
+  came : (s : List ℕ) × IsConsistentWith l.reader s;
 }
 
 abbrev pub decreases-pieces : goal.decreases-pieces

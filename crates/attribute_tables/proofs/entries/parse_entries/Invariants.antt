@@ -9,9 +9,9 @@ use Rattle.attribute_tables.proofs.entries.parse_entries.Given as goal
 abbrev pub invariant-loop-rest : goal.invariant-loop-rest
 invariant-loop-rest g l = record {
   so_far : Entries (g.R.EntryReader.entry_row l.reader) g.R.Value.Nla.entry g.R.Value.Nla.inside_fits l.bytes l.list.items l.rest;
-  names_row : All (g.R.EntryReader.names_row l.reader) l.list.items;
+  is_row_variant : All (g.R.EntryReader.is_row_variant l.reader) l.list.items;
   within : length l.rest ≤ length l.bytes;
-  begun : entries_begin_readable (g.R.EntryReader.entry_row l.reader) (g.R.EntryReader.may_want_memory l.reader) l.rest ≡ true → entries_begin_readable (g.R.EntryReader.entry_row l.reader) (g.R.EntryReader.may_want_memory l.reader) l.bytes ≡ true;
+  begun : entries_begin_readable (g.R.EntryReader.entry_row l.reader) (g.R.EntryReader.may_allocate l.reader) l.rest ≡ true → entries_begin_readable (g.R.EntryReader.entry_row l.reader) (g.R.EntryReader.may_allocate l.reader) l.bytes ≡ true;
 }
 
 abbrev pub decreases-loop-rest : goal.decreases-loop-rest

@@ -12,7 +12,7 @@ use Rattle.attribute_tables.specs.Written.{written_as}
 use Rattle.attribute_tables.proofs.Lists.{all_written, entries_written}
 use Rattle.attribute_tables.specs.Views.{is_accepted_by}
 use Rattle.attribute_tables.specs.Beginnings.{begins_readable}
-use Rattle.attribute_tables.proofs.Beginnings.{begins-accepted, begins-wanting}
+use Rattle.attribute_tables.proofs.Beginnings.{begins-accepted, begins-allocating}
 use Rattle.attribute_tables.proofs.reader.parse_list.Goals as goal
 
 pub returns-in_err-buf-clause-judged : goal.returns-in_err-buf-clause-judged
@@ -29,17 +29,17 @@ returns-in_err-read-clause-judged g c =
     let k : is_memory c.in_err-read.field-0.0 ≡ false → (rows_rule any (g.R.Reader.row_of c.args.reader.now)).accepted c.args.bytes.now ≡ false =
     λ m.
     let was : (row_of rows nothing (viewed_attribute b)).rule.accepted (viewed_attribute b).payload ≡ false = rw c.in_ok-buf.ensures.ok at c.in_err-read.ensures.judged m in
-    c.readings_tell_rules.ensures.denies_rows any (g.R.Reader.row_of c.args.reader.now) c.args.bytes.now (c.readings_tell_rules.ensures.of_any _ _ ∙ c.readings_go_by_steps.ensures.refused any rows _ _ nothing b h refl was c.loop-rest.invariant.so_far) in
+    c.readings_determine_rules.ensures.rejects_rows any (g.R.Reader.row_of c.args.reader.now) c.args.bytes.now (c.readings_determine_rules.ensures.of_any _ _ ∙ c.readings_unfold.ensures.refused any rows _ _ nothing b h refl was c.loop-rest.invariant.so_far) in
     search rules
 
 pub returns-in_err-read-clause-memory : goal.returns-in_err-read-clause-memory
 returns-in_err-read-clause-memory g c =
     let b = c.loop-rest.rest.now in
     let h : IsAttribute b = c.in_ok-buf.ensures.whole.0 refl in
-    let k : is_memory c.in_err-read.field-0.0 ≡ true → begins_readable (g.R.Reader.row_of c.args.reader.now) (g.R.Reader.may_want_memory c.args.reader.now) c.args.bytes.now ≡ true =
+    let k : is_memory c.in_err-read.field-0.0 ≡ true → begins_readable (g.R.Reader.row_of c.args.reader.now) (g.R.Reader.may_allocate c.args.reader.now) c.args.bytes.now ≡ true =
     λ m.
-    let wanted : g.R.Reader.may_want_memory c.args.reader.now b ≡ true = rw c.in_ok-buf.ensures.ok at c.in_err-read.ensures.memory m in
-    c.loop-rest.invariant.begun (begins-wanting c.first_attributes_are_viewed.ensures (g.R.Reader.row_of c.args.reader.now) (g.R.Reader.may_want_memory c.args.reader.now) b h wanted) in
+    let allocates : g.R.Reader.may_allocate c.args.reader.now b ≡ true = rw c.in_ok-buf.ensures.ok at c.in_err-read.ensures.memory m in
+    c.loop-rest.invariant.begun (begins-allocating c.first_attributes_are_viewed.ensures (g.R.Reader.row_of c.args.reader.now) (g.R.Reader.may_allocate c.args.reader.now) b h allocates) in
     search rules
 
 pub returns-in_err-push-clause-memory : goal.returns-in_err-push-clause-memory
@@ -47,7 +47,7 @@ returns-in_err-push-clause-memory g c =
     let b = c.loop-rest.rest.now in
     let h : IsAttribute b = c.in_ok-buf.ensures.whole.0 refl in
     let was : is_accepted_by (g.R.Reader.row_of c.args.reader.now) b ≡ true = rw c.in_ok-buf.ensures.ok at c.in_ok-read.ensures.judged in
-    let k = c.loop-rest.invariant.begun (begins-accepted c.first_attributes_are_viewed.ensures (g.R.Reader.row_of c.args.reader.now) (g.R.Reader.may_want_memory c.args.reader.now) b h was) in
+    let k = c.loop-rest.invariant.begun (begins-accepted c.first_attributes_are_viewed.ensures (g.R.Reader.row_of c.args.reader.now) (g.R.Reader.may_allocate c.args.reader.now) b h was) in
     search rules
 
 pub loop-rest-preserved : goal.loop-rest-preserved
@@ -62,23 +62,23 @@ loop-rest-preserved g c =
     let entry : g.R.Value.Nla.entry v ≡ (written_by (row_of rows nothing (viewed_attribute b)) (viewed_attribute b)).entry = rw c.in_ok-buf.ensures.ok at c.in_ok-read.ensures.written.0 in
     let inside : g.R.Value.Nla.inside_fits v ≡ (written_by (row_of rows nothing (viewed_attribute b)) (viewed_attribute b)).inside_fits = rw c.in_ok-buf.ensures.ok at c.in_ok-read.ensures.written.1 in
     let is : w v ≡ written_by (row_of rows nothing (viewed_attribute b)) (viewed_attribute b) = λ i. record { entry = entry i; inside_fits = inside i } in
-    let so_far = c.readings_go_by_steps.ensures.more any rows c.args.bytes.now ws nothing b (w v) h refl was is c.loop-rest.invariant.so_far in
+    let so_far = c.readings_unfold.ensures.more any rows c.args.bytes.now ws nothing b (w v) h refl was is c.loop-rest.invariant.so_far in
     let items : map w c.push.new.self.items ≡ ws ++ w v ∷ [] = ap (map w) c.in_ok-push.ensures.items ∙ map-append w c.loop-rest.list.items (v ∷ []) in
     let rest : length c.skip_first-rest.result.now ≡ length (after_first b) = ap length c.skip_first-rest.ensures in
     record {
       so_far = subst (λ us. SoFar any rows c.args.bytes.now us nothing c.skip_first-rest.result.now) (sym items) (subst (λ r. SoFar any rows c.args.bytes.now (ws ++ w v ∷ []) nothing r) (sym c.skip_first-rest.ensures) so_far);
-      names_row = grind (arith, elements);
+      is_row_variant = grind (arith, elements);
       within = omega (arith, rest, length-drop (nla_align (viewed_length b)) b, c.loop-rest.invariant.within);
-      begun = λ _. c.loop-rest.invariant.begun (begins-accepted c.first_attributes_are_viewed.ensures (g.R.Reader.row_of c.args.reader.now) (g.R.Reader.may_want_memory c.args.reader.now) b h was);
+      begun = λ _. c.loop-rest.invariant.begun (begins-accepted c.first_attributes_are_viewed.ensures (g.R.Reader.row_of c.args.reader.now) (g.R.Reader.may_allocate c.args.reader.now) b h was);
     }
 
 pub returns-clause-read : goal.returns-clause-read
-returns-clause-read g c = c.readings_tell_rules.ensures.of_any _ _ ∙ c.readings_go_by_steps.ensures.done any _ _ _ _ c.loop-rest.rest.now (grind (arith, nat_tests)) c.loop-rest.invariant.so_far
+returns-clause-read g c = c.readings_determine_rules.ensures.of_any _ _ ∙ c.readings_unfold.ensures.done any _ _ _ _ c.loop-rest.rest.now (grind (arith, nat_tests)) c.loop-rest.invariant.so_far
 
 pub returns-clause-judged : goal.returns-clause-judged
-returns-clause-judged g c = (c.readings_tell_rules.ensures.tells_rows any (g.R.Reader.row_of c.args.reader.now) c.args.bytes.now _ (returns-clause-read g c)).accepted
+returns-clause-judged g c = (c.readings_determine_rules.ensures.determines_rows any (g.R.Reader.row_of c.args.reader.now) c.args.bytes.now _ (returns-clause-read g c)).accepted
 
 pub returns-clause-written : goal.returns-clause-written
 returns-clause-written g c =
-    let told = c.readings_tell_rules.ensures.tells_rows any (g.R.Reader.row_of c.args.reader.now) c.args.bytes.now _ (returns-clause-read g c) in
-    (sym (ap list_text (entries_written g.R.Value.Nla.entry g.R.Value.Nla.inside_fits c.loop-rest.list.items)) ∙ sym told.canonical, sym (all_written g.R.Value.Nla.entry g.R.Value.Nla.inside_fits c.loop-rest.list.items) ∙ sym told.fits)
+    let reading_determines = c.readings_determine_rules.ensures.determines_rows any (g.R.Reader.row_of c.args.reader.now) c.args.bytes.now _ (returns-clause-read g c) in
+    (sym (ap list_text (entries_written g.R.Value.Nla.entry g.R.Value.Nla.inside_fits c.loop-rest.list.items)) ∙ sym reading_determines.canonical, sym (all_written g.R.Value.Nla.entry g.R.Value.Nla.inside_fits c.loop-rest.list.items) ∙ sym reading_determines.fits)

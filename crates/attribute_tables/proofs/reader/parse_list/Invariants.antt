@@ -12,9 +12,9 @@ use Rattle.attribute_tables.proofs.reader.parse_list.Given as goal
 abbrev pub invariant-loop-rest : goal.invariant-loop-rest
 invariant-loop-rest g l = record {
   so_far : SoFar any (without_context (g.R.Reader.row_of l.reader)) l.bytes (map (written_as g.R.Value.Nla.entry g.R.Value.Nla.inside_fits) l.list.items) nothing l.rest;
-  names_row : All (g.R.Reader.names_row l.reader) l.list.items;
+  is_row_variant : All (g.R.Reader.is_row_variant l.reader) l.list.items;
   within : length l.rest ≤ length l.bytes;
-  begun : begins_readable (g.R.Reader.row_of l.reader) (g.R.Reader.may_want_memory l.reader) l.rest ≡ true → begins_readable (g.R.Reader.row_of l.reader) (g.R.Reader.may_want_memory l.reader) l.bytes ≡ true;
+  begun : begins_readable (g.R.Reader.row_of l.reader) (g.R.Reader.may_allocate l.reader) l.rest ≡ true → begins_readable (g.R.Reader.row_of l.reader) (g.R.Reader.may_allocate l.reader) l.bytes ≡ true;
 }
 
 abbrev pub decreases-loop-rest : goal.decreases-loop-rest

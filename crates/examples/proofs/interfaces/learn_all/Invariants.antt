@@ -7,9 +7,9 @@ abbrev pub invariant-loop-message : goal.invariant-loop-message
 invariant-loop-message l = record {
   limit : l.messages.limit ≡ l.limit;
   capture : l.messages.capture ≡ l.capture;
-  place : l.messages.place ≡ l.place;
-  learned : LearnedTo l.limit l.capture l.place l.fn.interfaces l.interfaces;
+  offset : l.messages.offset ≡ l.offset;
+  learned : LearnedTo l.limit l.capture l.offset l.fn.interfaces l.interfaces;
 }
 
 abbrev pub decreases-loop-message : goal.decreases-loop-message
-decreases-loop-message l = length l.capture - l.place
+decreases-loop-message l = length l.capture - l.offset

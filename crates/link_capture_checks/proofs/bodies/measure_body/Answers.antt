@@ -4,7 +4,7 @@ use Rattle.link_capture_checks.proofs.bodies.measure_body.Goals as goal
 use Rattle.link_capture_checks.proofs.bodies.measure_body.Goals.{in_default-via-then-message_type-lt16, in_default-via-else-message_type-lt16+else-message_type-lt20}
 
 pub returns-in-1-clause-ok : goal.returns-in-1-clause-ok
-returns-in-1-clause-ok c = measured _ _ _ _ (noop c.args.message_type c.args.body.now c.in-1.is) (Ok _) (record { text = []; is = refl; len = refl; attributes = refl; own = λ h. absurd cc })
+returns-in-1-clause-ok c = measured _ _ _ _ (noop c.args.message_type c.args.body.now c.in-1.is) (Ok _) (record { text = []; is = refl; len = refl; attributes = refl; canonical = λ h. absurd cc })
 
 pub returns-in-2-clause-ok : goal.returns-in-2-clause-ok
 returns-in-2-clause-ok c = measured _ _ _ _ (error c.args.message_type c.args.body.now c.in-2.is) c.measure_error.result c.measure_error.ensures.ok

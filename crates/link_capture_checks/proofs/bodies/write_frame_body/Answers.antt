@@ -12,14 +12,14 @@ append-requires-in-2 c =
     let b = c.args.body.now in
     let j = (error c.args.message_type b c.in-2.is).text in
     let size = ap length (ap written j ∙ error_is b (sym (ap is_ok j) ∙ c.requires.text)) in
-    omega (arith, size, c.requires.room)
+    omega (arith, size, c.requires.capacity)
 
 pub append-requires-in-3 : goal.append-requires-in-3
 append-requires-in-3 c =
     let b = c.args.body.now in
     let j = (done c.args.message_type b c.in-3.is).text in
     let size = ap length (ap written j ∙ done_is b (sym (ap is_ok j) ∙ c.requires.text) ∙ sym c.with_code.ensures) in
-    omega (arith, size, c.requires.room)
+    omega (arith, size, c.requires.capacity)
 
 pub write_body-requires-clause-accepted : goal.write_body-requires-clause-accepted
 write_body-requires-clause-accepted c =
@@ -33,20 +33,20 @@ write_body-requires-clause-fits c =
     let j = (link c.args.message_type b (omega arith) (omega arith)).text in
     (ruled_is link_body b (sym (ap is_ok j) ∙ c.requires.text)).fits
 
-pub write_body-requires-clause-room : goal.write_body-requires-clause-room
-write_body-requires-clause-room c =
+pub write_body-requires-clause-capacity : goal.write_body-requires-clause-capacity
+write_body-requires-clause-capacity c =
     let b = c.args.body.now in
     let j = (link c.args.message_type b (omega arith) (omega arith)).text in
     let size = ap length (ap written j ∙ (ruled_is link_body b (sym (ap is_ok j) ∙ c.requires.text)).text) in
-    omega (arith, size, c.requires.room)
+    omega (arith, size, c.requires.capacity)
 
 pub append-requires-in_default : goal.append-requires-in_default
 append-requires-in_default c =
     let t = c.args.message_type in
     let b = c.args.body.now in
     elim c.in_default.branch [
-      | in_default-via-then-message_type-lt16 w ↦ (let size = ap (λ x. length (written x)) (other t b (λ e. omega (arith, e)) (λ e. omega (arith, e)) (λ e. omega (arith, e)) (inl (omega arith))).text in omega (arith, size, c.requires.room))
-      | in_default-via-else-message_type-lt16+else-message_type-lt20 w ↦ (let size = ap (λ x. length (written x)) (other t b (λ e. omega (arith, e)) (λ e. omega (arith, e)) (λ e. omega (arith, e)) (inr (omega arith))).text in omega (arith, size, c.requires.room))
+      | in_default-via-then-message_type-lt16 w ↦ (let size = ap (λ x. length (written x)) (other t b (λ e. omega (arith, e)) (λ e. omega (arith, e)) (λ e. omega (arith, e)) (inl (omega arith))).text in omega (arith, size, c.requires.capacity))
+      | in_default-via-else-message_type-lt16+else-message_type-lt20 w ↦ (let size = ap (λ x. length (written x)) (other t b (λ e. omega (arith, e)) (λ e. omega (arith, e)) (λ e. omega (arith, e)) (inr (omega arith))).text in omega (arith, size, c.requires.capacity))
     ]
 
 pub returns-in-1-clause-text : goal.returns-in-1-clause-text

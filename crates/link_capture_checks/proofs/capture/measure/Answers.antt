@@ -2,7 +2,7 @@
 use Rattle.std.proofs.Common.{◌≡◌, ℕ, ◌+◌, ◌-◌, ◌≤◌, ◌++◌, List, length, drop, Some, Ok, sym, ap, subst, ◌∙◌, arith, length-append, length-drop}
 use Rattle.std.proofs.lemmas.List.{drop-drop, take_rest}
 use Rattle.netlink_packet_core_grammar.specs.Attributes.{nla_align}
-use Rattle.link_capture_grammar.specs.Captures.{first_fault, first_frame, raised, texts}
+use Rattle.link_capture_grammar.specs.Captures.{first_fault, first_frame, shifted, texts}
 use Rattle.link_capture_grammar.specs.Numbers.{attributes, frame_attributes, frames}
 use Rattle.link_capture_checks.proofs.capture.measure.Goals as goal
 
@@ -30,7 +30,7 @@ loop-at-preserved c =
     let step : 16 ≤ c.nla_align-at.result = omega (arith, size, low) in
     record {
       near = omega (arith, size, high, left, c.loop-at-test.true);
-      fault = w.fault ∙ law.next_fault limit at rest frame there ∙ ap (λ n. raised (at + n) (first_fault limit (drop (nla_align frame.0) rest))) (sym c.nla_align-at.ensures) ∙ ap (λ x. raised (at + c.nla_align-at.result) (first_fault limit x)) after;
+      fault = w.fault ∙ law.next_fault limit at rest frame there ∙ ap (λ n. shifted (at + n) (first_fault limit (drop (nla_align frame.0) rest))) (sym c.nla_align-at.ensures) ∙ ap (λ x. shifted (at + c.nla_align-at.result) (first_fault limit x)) after;
       frames = omega (arith, w.frames, more);
       few = omega (arith, w.few, step);
       attributes = omega (arith, w.attributes, kept, inside);
@@ -43,5 +43,5 @@ returns-in-Err-clause-fault c =
     let limit = c.args.limit in
     let at = c.loop-at.at in
     let there = ap (first_frame limit) (sym (take_rest bytes at)) ∙ c.in-Err.ensures.err in
-    let front = c.captures_go_by_frames.ensures.front_fault limit (drop at bytes) c.in-Err.kind (omega (arith, length-drop at bytes)) there in
-    c.loop-at.invariant.fault ∙ ap (raised at) front ∙ (let z : at + 0 ≡ at = omega arith in ap (λ n. Some (record { kind = c.in-Err.kind; offset = n })) z)
+    let first = c.captures_unfold_by_frames.ensures.first_frame_fault limit (drop at bytes) c.in-Err.kind (omega (arith, length-drop at bytes)) there in
+    c.loop-at.invariant.fault ∙ ap (shifted at) first ∙ (let z : at + 0 ≡ at = omega arith in ap (λ n. Some (record { kind = c.in-Err.kind; offset = n })) z)

@@ -1,13 +1,13 @@
 -- the rest of the capture has the rest of the numbers, and the first fault
 use Rattle.std.proofs.Common.{◌≡◌, ◌+◌, ◌-◌, ◌≤◌, length, drop}
-use Rattle.link_capture_grammar.specs.Captures.{first_fault, raised, texts}
+use Rattle.link_capture_grammar.specs.Captures.{first_fault, shifted, texts}
 use Rattle.link_capture_grammar.specs.Numbers.{attributes, frames}
 use Rattle.link_capture_checks.proofs.capture.measure.Given as goal
 
 abbrev pub invariant-loop-at : goal.invariant-loop-at
 invariant-loop-at l = record {
   near : l.at ≤ length l.bytes + 3;
-  fault : first_fault l.limit l.bytes ≡ raised l.at (first_fault l.limit (drop l.at l.bytes));
+  fault : first_fault l.limit l.bytes ≡ shifted l.at (first_fault l.limit (drop l.at l.bytes));
   frames : frames l.limit l.bytes ≡ l.measure.frames + frames l.limit (drop l.at l.bytes);
   few : l.measure.frames ≤ l.at;
   attributes : attributes l.limit l.bytes ≡ l.measure.attributes + attributes l.limit (drop l.at l.bytes);

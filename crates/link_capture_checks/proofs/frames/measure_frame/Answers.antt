@@ -2,7 +2,7 @@ use Rattle.std.proofs.Common.{◌≡◌, ◌+◌, ◌≤◌, ◌∙◌, length, 
 use Rattle.netlink_packet_core_grammar.specs.Attributes.{nla_align}
 use Rattle.netlink_packet_core.specs.Frames.{frame_type, frame_body, frame_text}
 use Rattle.link_message_grammar.specs.Body.{link_peer}
-use Rattle.link_message_checks.specs.Fronts.{IsBodyFront}
+use Rattle.link_message_checks.specs.Prefixes.{IsBodyPrefix}
 use Rattle.link_capture_grammar.specs.Bodies.{body_text}
 use Rattle.link_capture_grammar.specs.Numbers.{body_attributes}
 use Rattle.link_capture_checks.proofs.frames.measure_frame.Goals as goal
@@ -35,6 +35,6 @@ returns-clause-ok c =
       text_len = c.nla_align.ensures ∙ ap (λ n. nla_align (16 + n)) body.len ∙ sym (c.frames_are_judged.ensures.size bytes body.text ok.2.has_header);
       aligned = c.nla_align.ensures;
       attributes = inside;
-      own = λ h. body.own h ∙ slice;
-      front = subst (λ x. IsBodyFront link_peer x c.in_ok-body_len.field-0.front) slice c.in_ok-body_len.ensures.front;
+      canonical = λ h. body.canonical h ∙ slice;
+      canonical_prefix = subst (λ x. IsBodyPrefix link_peer x c.in_ok-body_len.field-0.canonical_prefix) slice c.in_ok-body_len.ensures.canonical_prefix;
     }

@@ -2,8 +2,8 @@ use Rattle.std.proofs.Common.{Ok, inl, inr, sym, ap, ◌∙◌}
 use Rattle.std.proofs.lemmas.Bool.{cases_Bool}
 use Rattle.netlink_packet_core.specs.Frames.{frame_type, frame_body}
 use Rattle.netlink_packet_core.specs.Messages.{unpadded_text}
-use Rattle.netlink_packet_core.specs.Refusals.{wants_memory}
-use Rattle.link_capture_messages.specs.Routes.{route_entry, route_wants_memory, typed_text}
+use Rattle.netlink_packet_core.specs.Refusals.{is_out_of_memory}
+use Rattle.link_capture_messages.specs.Routes.{route_entry, route_ran_out_of_memory, typed_text}
 use Rattle.link_capture_messages.proofs.WrittenBodies.{one_body, body_written, frame_read}
 use Rattle.link_capture_messages.proofs.frames.read_message.Goals as goal
 
@@ -24,7 +24,7 @@ returns-in-Ok-clause-message c =
 pub returns-in-Err-clause-kept : goal.returns-in-Err-clause-kept
 returns-in-Err-clause-kept c =
     let t = c.in_ok-frame.ensures.ok in
-    λ _. elim (cases_Bool (wants_memory route_wants_memory c.in-Err.field-0)) [
+    λ _. elim (cases_Bool (is_out_of_memory route_ran_out_of_memory c.in-Err.field-0)) [
       | inl k ↦ (c.in-Err.ensures.memory k).1
       | inr k ↦ absurd (frame_read c.args.bytes.now t.body t.whole t.judged (c.in-Err.ensures.err k))
     ]

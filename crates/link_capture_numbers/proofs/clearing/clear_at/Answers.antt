@@ -7,7 +7,7 @@ use Rattle.link_capture_numbers.proofs.clearing.clear_at.Goals as goal
 pub returns : goal.returns
 unfolding zeros_at
 returns c =
-    let eight : c.args.place + 8 - c.args.place ≡ 8 = omega arith in
-    ap (λ l. take c.args.place c.args.bytes.now ++ (l ++ drop (c.args.place + 8 - c.args.place) (drop c.args.place c.args.bytes.now))) c.copy_from_slice.ensures.after
-    ∙ ap (λ k. take c.args.place c.args.bytes.now ++ (zeros 8 ++ drop k (drop c.args.place c.args.bytes.now))) eight
-    ∙ ap (λ l. take c.args.place c.args.bytes.now ++ (zeros 8 ++ l)) (drop-drop 8 c.args.place c.args.bytes.now)
+    let eight : c.args.offset + 8 - c.args.offset ≡ 8 = omega arith in
+    ap (λ l. take c.args.offset c.args.bytes.now ++ (l ++ drop (c.args.offset + 8 - c.args.offset) (drop c.args.offset c.args.bytes.now))) c.copy_from_slice.ensures.after
+    ∙ ap (λ k. take c.args.offset c.args.bytes.now ++ (zeros 8 ++ drop k (drop c.args.offset c.args.bytes.now))) eight
+    ∙ ap (λ l. take c.args.offset c.args.bytes.now ++ (zeros 8 ++ l)) (drop-drop 8 c.args.offset c.args.bytes.now)

@@ -2,8 +2,8 @@ use Rattle.std.proofs.Common.{◌≡◌, true, ◌+◌, ◌-◌, ◌++◌, lengt
 use borrow.Rule.Slice.PartMut.{put_mid}
 use Rattle.netlink_packet_core_grammar.specs.Attributes.{nla_align}
 use Rattle.netlink_packet_core_grammar.specs.Frames.{frame_length}
-use Rattle.link_capture_numbers.specs.Cleared.{is_frame, front_cleared, numbers_cleared}
-use Rattle.link_capture_numbers.proofs.Behind.{put_behind, mid_behind, kept_size, stepped}
+use Rattle.link_capture_numbers.specs.Cleared.{is_frame, first_frame_cleared, numbers_cleared}
+use Rattle.link_capture_numbers.proofs.RestOfText.{put_rest, put_mid_rest, kept_size, stepped}
 use Rattle.link_capture_numbers.proofs.clearing.clear_numbers.Goals as goal
 
 pub frames-preserved : goal.frames-preserved
@@ -12,12 +12,12 @@ frames-preserved c =
     let at = c.frames.at in
     let inside = c.frames.invariant.inside in
     let found = c.in-Some.ensures.some in
-    let behind = mid_behind at text inside in
-    let frame : is_frame (drop at text) ≡ true = ap is_frame (sym behind) ∙ found.0 in
-    let now : put_mid at (length text - at) text c.clear_front.new.bytes ≡ take at text ++ front_cleared (drop at text) =
-    put_behind at text c.clear_front.new.bytes inside ∙ ap (λ z. take at text ++ z) (c.clear_front.ensures ∙ ap front_cleared behind) in
-    let size : length (put_mid at (length text - at) text c.clear_front.new.bytes) ≡ length text = ap length now ∙ kept_size at text inside frame in
-    let aligned : c.nla_align.result ≡ nla_align (frame_length (drop at text)) = c.nla_align.ensures ∙ ap nla_align (found.1 ∙ ap frame_length behind) in
+    let following = put_mid_rest at text inside in
+    let frame : is_frame (drop at text) ≡ true = ap is_frame (sym following) ∙ found.0 in
+    let now : put_mid at (length text - at) text c.clear_first_frame.new.bytes ≡ take at text ++ first_frame_cleared (drop at text) =
+    put_rest at text c.clear_first_frame.new.bytes inside ∙ ap (λ z. take at text ++ z) (c.clear_first_frame.ensures ∙ ap first_frame_cleared following) in
+    let size : length (put_mid at (length text - at) text c.clear_first_frame.new.bytes) ≡ length text = ap length now ∙ kept_size at text inside frame in
+    let aligned : c.nla_align.result ≡ nla_align (frame_length (drop at text)) = c.nla_align.ensures ∙ ap nla_align (found.1 ∙ ap frame_length following) in
     let small : c.min-at.result ≡ min c.nla_align.result (length text - at) = c.min-at.ensures ∙ ap (λ k. min c.nla_align.result (k - at)) size in
     record {
       inside = omega (arith, small, size, inside);

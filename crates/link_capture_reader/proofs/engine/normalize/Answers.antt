@@ -2,7 +2,7 @@
 use Rattle.std.proofs.Common.{◌∙◌, ◌++◌, [], take, refl, sym, ap, subst, arith}
 use Rattle.std.proofs.lemmas.List.{length-take}
 use Rattle.std.proofs.lemmas.Result.{err_from_is_err_and}
-use Rattle.link_capture_reader.proofs.Progress.{nothing_came, fed_front, failed_write, fed_outcome}
+use Rattle.link_capture_reader.proofs.Progress.{nothing_came, fed_prefix, failed_write, fed_outcome}
 use Rattle.std.specs.Io.KnownBytes.{Appends}
 use Rattle.link_capture_grammar.specs.Captures.{texts}
 use Rattle.link_capture_reader.specs.Devices.{risen}
@@ -35,7 +35,7 @@ returns-in_err-written g c =
       failed_write _ _ _ c.args.limit (s ++ piece) (texts c.args.limit s) c.as_slice.result.now c.pieces.written z.2.0 c.in_err-written.field-0.0
           (z.1 ∙ ap risen i.sink_failures)
           (subst (λ x. IsPrefix (texts c.args.limit s ++ x) (texts c.args.limit (s ++ piece))) (sym c.as_slice.ensures.value)
-          (fed_front c.texts_of_a_prefix_stay.ensures c.args.limit c.pieces.reader c.feed-fed.new.self s piece c.pieces.out.items c.feed-fed.new.out.items c.feed-fed.result came.limit_is i.empty came.stands c.feed-fed.ensures.ok c.feed-fed.ensures.fault))
+          (fed_prefix c.texts_of_a_prefix_stay.ensures c.args.limit c.pieces.reader c.feed-fed.new.self s piece c.pieces.out.items c.feed-fed.new.out.items c.feed-fed.result came.limit_is i.empty came.is_consistent c.feed-fed.ensures.ok c.feed-fed.ensures.fault))
           z.2.1 came.count z.0 z.2.2,
     )
 
@@ -52,5 +52,5 @@ returns-in_err-fed g c =
       texts c.args.limit s ++ c.feed-fed.new.out.items,
       Consumes-trans _ _ _ s piece came.consumed c.in-Ok.ensures.bytes.0,
       Appends-trans _ _ _ (texts c.args.limit s) c.feed-fed.new.out.items came.wrote (subst (Appends _ _) c.as_slice.ensures.value z.1),
-      fed_outcome _ _ _ c.args.limit c.pieces.reader s piece c.pieces.out.items c.feed-fed.new.out.items c.in_err-fed.field-0.0 came.limit_is i.empty (omega (arith, length-take c.in-Ok.size c.read.new.buffer)) came.stands c.in_err-fed.ensures.fault,
+      fed_outcome _ _ _ c.args.limit c.pieces.reader s piece c.pieces.out.items c.feed-fed.new.out.items c.in_err-fed.field-0.0 came.limit_is i.empty (omega (arith, length-take c.in-Ok.size c.read.new.buffer)) came.is_consistent c.in_err-fed.ensures.fault,
     )

@@ -8,7 +8,7 @@ invariant-pieces g l = record {
   consumed : Consumes (g.S.Source.to_come l.fn.source) (g.S.Source.to_come l.source) l.bytes.items;
   first : l.first.items ≡ take 4 l.bytes.items;
   failures : g.S.Source.failures l.source ≡ g.S.Source.failures l.fn.source;
-  ends : g.S.Source.ends_told l.source ≡ g.S.Source.ends_told l.fn.source;
+  ends : g.S.Source.ends_reported l.source ≡ g.S.Source.ends_reported l.fn.source;
 }
 
 abbrev pub decreases-pieces : goal.decreases-pieces

@@ -7,7 +7,7 @@ use Rattle.link_capture_reader.proofs.Passing.{passed_none, passed_fault, passed
 use Rattle.link_capture_reader.proofs.frames.push_frames.Goals as goal
 
 pub loop-at-init : goal.loop-at-init
-loop-at-init c = record { passed = passed_none _ _; room = omega arith; written = rw (texts_nil c.args.limit) (sym (append-nil c.args.out.now.items)) }
+loop-at-init c = record { passed = passed_none _ _; capacity = omega arith; written = rw (texts_nil c.args.limit) (sym (append-nil c.args.out.now.items)) }
 
 pub loop-at-preserved : goal.loop-at-preserved
 loop-at-preserved c =
@@ -19,10 +19,10 @@ loop-at-preserved c =
       passed = record {
         inside = omega arith;
         start = omega (arith, w.passed.start);
-        legal = rw size (passed_fault c.captures_go_by_frames.ensures c.args.limit c.args.bytes.now c.loop-at.at (c.in-Ok.length, ok.0) w.passed frame);
+        legal = rw size (passed_fault c.captures_unfold_by_frames.ensures c.args.limit c.args.bytes.now c.loop-at.at (c.in-Ok.length, ok.0) w.passed frame);
       };
-      room = omega (arith, w.room, c.in-Ok.ensures.room);
-      written = grown c.args.out.now.items (texts c.args.limit (take c.loop-at.at c.args.bytes.now)) ok.0 w.written ok.2 (rw size (passed_texts c.captures_go_by_frames.ensures c.args.limit c.args.bytes.now c.loop-at.at (c.in-Ok.length, ok.0) w.passed frame));
+      capacity = omega (arith, w.capacity, c.in-Ok.ensures.capacity);
+      written = grown c.args.out.now.items (texts c.args.limit (take c.loop-at.at c.args.bytes.now)) ok.0 w.written ok.2 (rw size (passed_texts c.captures_unfold_by_frames.ensures c.args.limit c.args.bytes.now c.loop-at.at (c.in-Ok.length, ok.0) w.passed frame));
     }
 
 pub returns-then-size-bytes-clause-legal : goal.returns-then-size-bytes-clause-legal
@@ -32,21 +32,21 @@ returns-then-size-bytes-clause-legal c =
     let w = c.loop-at.invariant in
     let size : c.nla_align-size.result ≡ nla_align c.in-Ok.length = c.nla_align-size.ensures in
     let whole : take (c.loop-at.at + nla_align c.in-Ok.length) c.args.bytes.now ≡ c.args.bytes.now = take_all _ _ (omega arith) in (
-      ap (first_fault c.args.limit) (sym whole) ∙ passed_fault c.captures_go_by_frames.ensures c.args.limit c.args.bytes.now c.loop-at.at (c.in-Ok.length, ok.0) w.passed frame,
-      grown c.args.out.now.items (texts c.args.limit (take c.loop-at.at c.args.bytes.now)) ok.0 w.written ok.2 (ap (texts c.args.limit) (sym whole) ∙ passed_texts c.captures_go_by_frames.ensures c.args.limit c.args.bytes.now c.loop-at.at (c.in-Ok.length, ok.0) w.passed frame),
+      ap (first_fault c.args.limit) (sym whole) ∙ passed_fault c.captures_unfold_by_frames.ensures c.args.limit c.args.bytes.now c.loop-at.at (c.in-Ok.length, ok.0) w.passed frame,
+      grown c.args.out.now.items (texts c.args.limit (take c.loop-at.at c.args.bytes.now)) ok.0 w.written ok.2 (ap (texts c.args.limit) (sym whole) ∙ passed_texts c.captures_unfold_by_frames.ensures c.args.limit c.args.bytes.now c.loop-at.at (c.in-Ok.length, ok.0) w.passed frame),
     )
 
 pub returns-in-Err-clause-fault : goal.returns-in-Err-clause-fault
 returns-in-Err-clause-fault c = λ n.
     let w = c.loop-at.invariant in
     let stuck = ap (first_frame c.args.limit) (sym (take_rest c.args.bytes.now c.loop-at.at)) ∙ c.in-Err.ensures.refused n in (
-      passed_stop_fault c.captures_go_by_frames.ensures c.args.limit c.args.bytes.now c.loop-at.at c.in-Err.kind w.passed (omega arith) stuck,
-      c.in-Err.ensures.err ∙ w.written ∙ ap (λ t. c.args.out.now.items ++ t) (sym (passed_stop_texts c.captures_go_by_frames.ensures c.args.limit c.args.bytes.now c.loop-at.at c.in-Err.kind w.passed stuck)),
+      passed_stop_fault c.captures_unfold_by_frames.ensures c.args.limit c.args.bytes.now c.loop-at.at c.in-Err.kind w.passed (omega arith) stuck,
+      c.in-Err.ensures.err ∙ w.written ∙ ap (λ t. c.args.out.now.items ++ t) (sym (passed_stop_texts c.captures_unfold_by_frames.ensures c.args.limit c.args.bytes.now c.loop-at.at c.in-Err.kind w.passed stuck)),
     )
 
-pub returns-in-Err-clause-room : goal.returns-in-Err-clause-room
-returns-in-Err-clause-room c = λ h.
+pub returns-in-Err-clause-capacity : goal.returns-in-Err-clause-capacity
+returns-in-Err-clause-capacity c = λ h.
     let w = c.loop-at.invariant in
     let m = c.in-Err.ensures.memory h in
     let size = ap length w.written ∙ length-append c.args.out.now.items (texts c.args.limit (take c.loop-at.at c.args.bytes.now)) in
-    (m.0, m.1, ap (first_frame c.args.limit) (sym (take_rest c.args.bytes.now c.loop-at.at)) ∙ m.2, omega (arith, size, m.3, w.room))
+    (m.0, m.1, ap (first_frame c.args.limit) (sym (take_rest c.args.bytes.now c.loop-at.at)) ∙ m.2, omega (arith, size, m.3, w.capacity))

@@ -7,7 +7,7 @@ use Rattle.link_capture_reader.proofs.frames.push_frames.Given as goal
 abbrev pub invariant-loop-at : goal.invariant-loop-at
 invariant-loop-at l = record {
   passed : Passed l.limit l.bytes l.at;
-  room : vec_capacity l.fn.out ≤ vec_capacity l.out;
+  capacity : vec_capacity l.fn.out ≤ vec_capacity l.out;
   written : l.out.items ≡ l.fn.out.items ++ texts l.limit (take l.at l.bytes);
 }
 

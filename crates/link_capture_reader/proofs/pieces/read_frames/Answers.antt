@@ -9,13 +9,13 @@ returns-in-Err-extend_from_slice-clause-memory c = λ _.
     let cut = c.in-Cut.is in
     let other : c.in-Err.fault.kind ≢ Memory = λ e. cc in
     let claimed = c.in-Err.ensures.fault other in
-    let b = before_fault c.captures_go_by_frames.ensures c.args.limit c.args.bytes.now c.in-Err.fault claimed.0 in (
+    let b = before_fault c.captures_unfold_by_frames.ensures c.args.limit c.args.bytes.now c.in-Err.fault claimed.0 in (
       c.in-Err.fault.offset,
       refl,
       record {
-        inside = c.in-Err.ensures.place.0;
-        start = c.in-Err.ensures.place.1;
-        header = cut_header c.frames_stand_alone.ensures c.args.limit (drop c.in-Err.fault.offset c.args.bytes.now) (c.captures_go_by_frames.ensures.fault_there c.args.limit c.args.bytes.now c.in-Err.fault claimed.0 ∙ ap (λ k. Err k) cut);
+        inside = c.in-Err.ensures.offset.0;
+        start = c.in-Err.ensures.offset.1;
+        header = cut_header c.frames_are_independent.ensures c.args.limit (drop c.in-Err.fault.offset c.args.bytes.now) (c.captures_unfold_by_frames.ensures.fault_there c.args.limit c.args.bytes.now c.in-Err.fault claimed.0 ∙ ap (λ k. Err k) cut);
         legal = b.0;
       },
       claimed.1 ∙ ap (λ t. c.args.out.now.items ++ t) (sym b.1),

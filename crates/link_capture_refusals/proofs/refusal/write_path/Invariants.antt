@@ -1,6 +1,6 @@
 use Rattle.std.proofs.Common.{◌≡◌, List, ℕ, ◌++◌, length, map}
 use Rattle.std.specs.Fmt.{HasWrittenStyled, IsFlush}
-use Rattle.link_capture_refusals.specs.RefusalWords.{path_text}
+use Rattle.link_capture_refusals.specs.RefusalTexts.{path_text}
 use Rattle.link_capture_refusals.proofs.refusal.write_path.Given as goal
 
 abbrev pub invariant-names : goal.invariant-names

@@ -27,8 +27,8 @@ invariant-list_refusal-loop-list l = record {
   table : l.list.table ≡ l.fn.list.table;
   judged : l.list.judged ≡ l.fn.list.judged;
   within : length l.rest ≤ length l.fn.bytes;
-  near : 0 < length l.rest → l.place + length l.rest < 2 ^ 63;
-  so_far : list_refusal (listing l.list) l.place l.rest ≡ list_refusal (listing l.fn.list) l.fn.place l.fn.bytes;
+  near : 0 < length l.rest → l.offset + length l.rest < 2 ^ 63;
+  so_far : list_refusal (listing l.list) l.offset l.rest ≡ list_refusal (listing l.fn.list) l.fn.offset l.fn.bytes;
 }
 
 abbrev pub decreases-list_refusal-loop-list : goal.decreases-list_refusal-loop-list

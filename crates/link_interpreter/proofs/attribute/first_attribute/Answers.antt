@@ -3,7 +3,7 @@ use Rattle.std.proofs.Common.{◌≡◌, length, drop, ap, ◌∙◌, arith, rul
 use Rattle.std.proofs.lemmas.List.{drop_min, take_rest}
 use Rattle.netlink_packet_core_grammar.specs.Attributes.{nla_align}
 use Rattle.netlink_packet_core_grammar.proofs.FirstAttribute.{length_at, length_sum}
-use Rattle.link_interpreter.proofs.OwnText.{viewed_at}
+use Rattle.link_interpreter.proofs.CanonicalParts.{viewed_at}
 use Rattle.link_interpreter.proofs.attribute.first_attribute.Goals as goal
 use Rattle.link_interpreter.proofs.attribute.first_attribute.Goals.{then-size-lt4-via-then-size-lt4, then-size-lt4-via-else-size-lt4+then-size-bytes}
 
@@ -30,5 +30,5 @@ returns c =
     record {
       first = first;
       within = c.first_attributes_are_within.ensures.within bytes _ _ first;
-      behind = c.first_attributes_are_within.ensures.rest_length bytes _ _ first;
+      following = c.first_attributes_are_within.ensures.rest_length bytes _ _ first;
     }

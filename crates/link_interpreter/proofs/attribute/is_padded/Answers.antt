@@ -1,6 +1,6 @@
 use Rattle.std.proofs.Common.{◌-◌, ◌%◌, drop, sym, ◌∙◌, arith}
 use Rattle.std.proofs.lemmas.Slice.Eq.{bytes_eq-Decides}
-use Rattle.link_interpreter.proofs.OwnText.{padded}
+use Rattle.link_interpreter.proofs.CanonicalParts.{padded}
 use Rattle.link_interpreter.proofs.attribute.is_padded.Goals as goal
 
 pub returns : goal.returns

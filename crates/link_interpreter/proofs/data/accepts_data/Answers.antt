@@ -11,4 +11,4 @@ returns g c =
     let p = g.P.PeerSet.peer in
     let rule = c.data_held.ensures.rule p ∙ sym (c.names_are_looked_up.ensures p kinds c.args.name.now) in
     let bytes = c.args.payload.now in
-    c.is_some.ensures ∙ some_accepted c.measures_tell_rules.ensures (data_rule_under p c.args.name.now) bytes c.measure_held.result (c.measure_held.ensures.measure ∙ ap (λ r. measure r bytes) rule)
+    c.is_some.ensures ∙ some_accepted c.measures_determine_rules.ensures (data_rule_under p c.args.name.now) bytes c.measure_held.result (c.measure_held.ensures.measure ∙ ap (λ r. measure r bytes) rule)

@@ -2,10 +2,10 @@
 -- canonical if the rest is, and the canonical prefix goes up to the rest.
 use Rattle.std.proofs.Common.{◌≡◌, true, length, drop, ◌+◌, ◌-◌, ◌*◌, ◌≤◌}
 use Rattle.attribute_tables_grammar.specs.Lists.{nothing, any, list_rule}
-use Rattle.attribute_tables_grammar.specs.OwnTexts.{OwnSoFar}
+use Rattle.attribute_tables_grammar.specs.AlreadyCanonical.{CanonicalSoFar}
 use Rattle.attribute_tables_grammar.specs.Walks.{MeasuredSoFar, IsWalked}
 use Rattle.link_tables.specs.Rows.{form_of}
-use Rattle.link_interpreter.specs.Fronts.{IsOwnFront}
+use Rattle.link_interpreter.specs.Prefixes.{IsCanonicalPrefix}
 use Rattle.link_interpreter.specs.Measures.{view, rows_of, info_names}
 use Rattle.link_tables.specs.InForce.{in_force}
 use Rattle.link_tables.specs.Tables.{table_of}
@@ -28,9 +28,9 @@ abbrev pub invariant-walk_list-loop-rest : goal.invariant-walk_list-loop-rest
 invariant-walk_list-loop-rest g l = record {
   walked : IsWalked (form_of l.form) l.fn.bytes;
   so_far : MeasuredSoFar (form_of l.form) (rows_of g.P.PeerSet.peer (table_of l.table.0)) l.fn.bytes (view l.total) nothing l.rest;
-  own : l.total.is_own ≡ true → OwnSoFar (form_of l.form) (rows_of g.P.PeerSet.peer (table_of l.table.0)) l.fn.bytes nothing l.rest;
-  front : IsOwnFront (list_rule any (rows_of g.P.PeerSet.peer (table_of l.table.0))) l.fn.bytes (length l.fn.bytes - l.left);
-  place : l.total.is_own ≡ true → drop (length l.fn.bytes - l.left) l.fn.bytes ≡ l.rest;
+  already_canonical : l.total.is_canonical ≡ true → CanonicalSoFar (form_of l.form) (rows_of g.P.PeerSet.peer (table_of l.table.0)) l.fn.bytes nothing l.rest;
+  prefix : IsCanonicalPrefix (list_rule any (rows_of g.P.PeerSet.peer (table_of l.table.0))) l.fn.bytes (length l.fn.bytes - l.left);
+  offset : l.total.is_canonical ≡ true → drop (length l.fn.bytes - l.left) l.fn.bytes ≡ l.rest;
   left : l.left ≤ length l.fn.bytes;
   within : l.total.text_len + 77 * length l.rest ≤ 77 * length l.fn.bytes;
   few : 4 * l.total.attributes + length l.rest ≤ length l.fn.bytes;
@@ -42,7 +42,7 @@ decreases-walk_list-loop-rest g l = length l.rest
 abbrev pub invariant-measure_info-loop-rest : goal.invariant-measure_info-loop-rest
 invariant-measure_info-loop-rest g l = record {
   so_far : MeasuredSoFar any (info_names g.P.PeerSet.peer) l.bytes (view l.total) (in_force l.force) l.rest;
-  own : l.total.is_own ≡ true → OwnSoFar any (info_names g.P.PeerSet.peer) l.bytes (in_force l.force) l.rest;
+  already_canonical : l.total.is_canonical ≡ true → CanonicalSoFar any (info_names g.P.PeerSet.peer) l.bytes (in_force l.force) l.rest;
   within : l.total.text_len + 77 * length l.rest ≤ 77 * length l.bytes;
   few : 4 * l.total.attributes + length l.rest ≤ length l.bytes;
 }

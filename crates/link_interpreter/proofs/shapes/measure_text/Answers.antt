@@ -1,10 +1,10 @@
 use Rattle.std.proofs.Common.{length, ap, arith}
 use Rattle.std.proofs.lemmas.Bool.{ltb-true}
-use Rattle.link_interpreter.proofs.OwnText.{own_name}
+use Rattle.link_interpreter.proofs.CanonicalParts.{canonical_name}
 use Rattle.link_interpreter.proofs.shapes.measure_text.Goals as goal
 
-pub returns-clause-own : goal.returns-clause-own
-returns-clause-own c = λ t.
+pub returns-clause-canonical : goal.returns-clause-canonical
+returns-clause-canonical c = λ t.
     let e = ap length c.without_nul-len.ensures in
     let l = ltb-true _ _ t in
-    own_name c.args.payload.now (omega (arith, e, l))
+    canonical_name c.args.payload.now (omega (arith, e, l))

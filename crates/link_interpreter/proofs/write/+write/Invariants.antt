@@ -25,7 +25,7 @@ decreases-write_attribute g l = 4 * length l.payload.now + 4
 abbrev pub invariant-write_list-loop-rest : goal.invariant-write_list-loop-rest
 invariant-write_list-loop-rest g l = record {
   so_far : WrittenSoFar (form_of l.form) (rows_of g.P.PeerSet.peer (table_of l.table.0)) l.fn.bytes l.fn.out.items l.out.items nothing l.rest;
-  room : vec_capacity l.fn.out ≤ vec_capacity l.out;
+  capacity : vec_capacity l.fn.out ≤ vec_capacity l.out;
   within : length l.rest ≤ length l.fn.bytes;
 }
 
@@ -35,7 +35,7 @@ decreases-write_list-loop-rest g l = length l.rest
 abbrev pub invariant-write_info-loop-rest : goal.invariant-write_info-loop-rest
 invariant-write_info-loop-rest g l = record {
   so_far : WrittenSoFar any (info_names g.P.PeerSet.peer) l.bytes l.fn.out.items l.out.items (in_force l.force) l.rest;
-  room : vec_capacity l.fn.out ≤ vec_capacity l.out;
+  capacity : vec_capacity l.fn.out ≤ vec_capacity l.out;
   within : length l.rest ≤ length l.fn.bytes;
 }
 

@@ -8,7 +8,7 @@ returns-clause-text c =
     let out = c.args.out.now.items in
     let size = c.args.size in
     let payload = c.args.payload.now in
-    let front : c.first-front.result.now ≡ take size payload = c.first-front.ensures in
-    c.append_zeros.ensures.text ∙ ap (λ x. x ++ zeros (size - length c.first-front.result.now)) c.append.ensures.text
-    ∙ append_assoc out c.first-front.result.now (zeros (size - length c.first-front.result.now))
-    ∙ ap (λ x. out ++ (x ++ zeros (size - length x))) front ∙ ap (λ x. out ++ x) (sym (pad_in size size payload (omega arith)))
+    let prefix : c.first-prefix.result.now ≡ take size payload = c.first-prefix.ensures in
+    c.append_zeros.ensures.text ∙ ap (λ x. x ++ zeros (size - length c.first-prefix.result.now)) c.append.ensures.text
+    ∙ append_assoc out c.first-prefix.result.now (zeros (size - length c.first-prefix.result.now))
+    ∙ ap (λ x. out ++ (x ++ zeros (size - length x))) prefix ∙ ap (λ x. out ++ x) (sym (pad_in size size payload (omega arith)))

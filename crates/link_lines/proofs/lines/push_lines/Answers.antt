@@ -11,9 +11,9 @@ loop-size-preserved c =
     let before = c.loop-size.out.items in
     let n = c.in-Some.size in
     let own : c.push_shown.new.out.items ≡ before ++ shown_lines ch (take n rest) = c.in_ok-push_shown.ensures.ok in
-    ap (λ z. z ++ text_lines ch c.behind-rest.result.now) own
-    ∙ append_assoc before (shown_lines ch (take n rest)) (text_lines ch c.behind-rest.result.now)
-    ∙ ap (λ z. before ++ (shown_lines ch (take n rest) ++ text_lines ch z)) c.behind-rest.ensures
+    ap (λ z. z ++ text_lines ch c.after_padding-rest.result.now) own
+    ∙ append_assoc before (shown_lines ch (take n rest)) (text_lines ch c.after_padding-rest.result.now)
+    ∙ ap (λ z. before ++ (shown_lines ch (take n rest) ++ text_lines ch z)) c.after_padding-rest.ensures
     ∙ ap (λ m. before ++ (shown_lines ch (take m rest) ++ text_lines ch (drop (nla_align m) rest))) c.in-Some.ensures.some.1
-    ∙ sym (ap (λ z. before ++ z) (c.lines_go_by_frames.ensures.frame ch rest c.in-Some.ensures.some.0))
+    ∙ sym (ap (λ z. before ++ z) (c.lines_unfold_by_frames.ensures.frame ch rest c.in-Some.ensures.some.0))
     ∙ c.loop-size.invariant

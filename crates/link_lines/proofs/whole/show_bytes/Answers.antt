@@ -5,7 +5,7 @@ use Rattle.link_capture_grammar.specs.Captures.{texts}
 use Rattle.link_lines_texts.specs.Captures.{text_lines}
 use Rattle.link_lines.specs.Options.{choice_of}
 use Rattle.link_lines.proofs.Joined.{on_ok, on_err}
-use Rattle.link_lines.proofs.Gathered.{Gathers, legal_shown, fault_shown, memory_shown, some_texts, some_bytes, texts_wanted, memory_wanted, nothing_shown}
+use Rattle.link_lines.proofs.Gathered.{Gathers, legal_shown, fault_shown, memory_shown, some_texts, some_bytes, texts_needed, memory_needed, nothing_shown}
 use Rattle.link_lines.proofs.whole.show_bytes.Goals as goal
 use Rattle.link_lines.proofs.whole.show_bytes.Goals.{After-push_all, Then-is_err, Else-is_err}
 
@@ -34,11 +34,11 @@ pub returns-then-is_err-clause-memory : goal.returns-then-is_err-clause-memory
 returns-then-is_err-clause-memory c = λ m.
     let at = goal.at.returns-then-is_err-clause-memory c in
     let z = lacking at.Then-is_err (gathered at.After-push_all) in
-    nothing_shown _ c.captures_go_by_frames.ensures c.frames_stand_alone.ensures c.lines_are_joined.ensures c.args.limit c.args.bytes.now c.args.out.now.items c.push_all.new.out.items z.0 z.1
+    nothing_shown _ c.captures_unfold_by_frames.ensures c.frames_are_independent.ensures c.lines_are_joined.ensures c.args.limit c.args.bytes.now c.args.out.now.items c.push_all.new.out.items z.0 z.1
 
-pub returns-then-is_err-clause-place : goal.returns-then-is_err-clause-place
-returns-then-is_err-clause-place c =
-    let at = goal.at.returns-then-is_err-clause-place c in
+pub returns-then-is_err-clause-frame_start : goal.returns-then-is_err-clause-frame_start
+returns-then-is_err-clause-frame_start c =
+    let at = goal.at.returns-then-is_err-clause-frame_start c in
     let z = lacking at.Then-is_err (gathered at.After-push_all) in
     (some_bytes c.args.limit c.args.bytes.now z.0, refl)
 
@@ -46,7 +46,7 @@ pub returns-then-is_err-clause-cause : goal.returns-then-is_err-clause-cause
 returns-then-is_err-clause-cause c = λ m.
     let at = goal.at.returns-then-is_err-clause-cause c in
     let z = lacking at.Then-is_err (gathered at.After-push_all) in
-    texts_wanted c.captures_go_by_frames.ensures c.args.limit c.args.bytes.now z.0
+    texts_needed c.captures_unfold_by_frames.ensures c.args.limit c.args.bytes.now z.0
 
 pub returns-clause-legal : goal.returns-clause-legal
 returns-clause-legal c =
@@ -65,4 +65,4 @@ returns-clause-memory c =
 
 pub returns-clause-cause : goal.returns-clause-cause
 returns-clause-cause c =
-    IfErr-weaker c.normalize_bytes-shown.result _ _ (λ fault h m. memory_wanted c.args.limit c.args.bytes.now fault.offset c.new-texts.result (h m)) c.normalize_bytes-shown.ensures.room
+    IfErr-weaker c.normalize_bytes-shown.result _ _ (λ fault h m. memory_needed c.args.limit c.args.bytes.now fault.offset c.new-texts.result (h m)) c.normalize_bytes-shown.ensures.capacity

@@ -9,7 +9,7 @@ decreases-push_list l = length l.bytes.now
 abbrev pub invariant-loop-attribute : goal.invariant-loop-attribute
 invariant-loop-attribute l = record {
   within : length l.rest ≤ length l.fn.bytes;
-  so_far : l.out.items ++ rest_lines l.level l.place (in_force l.force) l.rest ≡ l.fn.out.items ++ list_lines l.fn.level l.fn.place l.fn.bytes;
+  so_far : l.out.items ++ rest_lines l.level l.list_table (in_force l.force) l.rest ≡ l.fn.out.items ++ list_lines l.fn.level l.fn.list_table l.fn.bytes;
 }
 
 abbrev pub decreases-loop-attribute : goal.decreases-loop-attribute

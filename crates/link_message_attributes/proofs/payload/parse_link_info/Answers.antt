@@ -18,5 +18,5 @@ returns-clause-written c =
     let parts = c.info_is_a_list_inside.ensures.of_some_bytes c.args.payload.now (some_bytes c.args.payload.now c.if-is_empty.ensures) in
     IfOk-weaker c.parse_list_with.result _ _ (λ v read. (read.0 ∙ sym parts.canonical, read.1 ∙ sym parts.fits)) c.parse_list_with.ensures.written
 
-pub returns-clause-names_row : goal.returns-clause-names_row
-returns-clause-names_row c = c.parse_list_with.ensures.names_row
+pub returns-clause-is_row_variant : goal.returns-clause-is_row_variant
+returns-clause-is_row_variant c = c.parse_list_with.ensures.is_row_variant

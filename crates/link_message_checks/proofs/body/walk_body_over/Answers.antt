@@ -2,11 +2,11 @@ use Rattle.std.proofs.Common.{◌≡◌, Some, None, sym, ap, subst, ◌∙◌, 
 use Rattle.std.proofs.lemmas.List.{take_rest}
 use Rattle.std.proofs.lemmas.Bool.{and_parts}
 use Rattle.attribute_tables_grammar.specs.Walks.{measure}
-use Rattle.link_message_grammar.specs.Body.{behind_header, body_rule, family, list_rule_of}
+use Rattle.link_message_grammar.specs.Body.{after_header, body_rule, family, list_rule_of}
 use Rattle.link_interpreter.specs.Measures.{view}
-use Rattle.link_interpreter.specs.Fronts.{IsOwnFront}
-use Rattle.link_message_checks.specs.Fronts.{IsBodyFront}
-use Rattle.link_message_checks.proofs.Fronts.{body_front}
+use Rattle.link_interpreter.specs.Prefixes.{IsCanonicalPrefix}
+use Rattle.link_message_checks.specs.Prefixes.{IsBodyPrefix}
+use Rattle.link_message_checks.proofs.Prefixes.{body_prefix}
 use Rattle.link_message_checks.proofs.body.walk_body_over.Goals as goal
 
 pub returns-then-bytes-lt-LINK_HEADER_LEN-clause-measure : goal.returns-then-bytes-lt-LINK_HEADER_LEN-clause-measure
@@ -18,21 +18,21 @@ returns-in_default-clause-measure g c = c.bodies_are_measured.ensures.long g.P.P
 pub overflow_add-result : goal.overflow_add-result
 overflow_add-result g c =
     let h = c.bodies_are_measured.ensures.long g.P.PeerSet.peer c.args.bytes.now (Some (view c.in-Some.found)) (omega arith) (c.in-Some.ensures.measure ∙ ap (measure (list_rule_of g.P.PeerSet.peer (family c.args.bytes.now))) (take_rest c.args.bytes.now 16)) in
-    let m = c.measures_tell_rules.ensures.tells (body_rule g.P.PeerSet.peer) c.args.bytes.now (behind_header (view c.in-Some.found)) h in
+    let m = c.measures_determine_rules.ensures.determines (body_rule g.P.PeerSet.peer) c.args.bytes.now (after_header (view c.in-Some.found)) h in
     let s = c.bodies_are_small.ensures g.P.PeerSet.peer c.peers_are_lawful.ensures c.args.bytes.now m.accepted in
     omega (arith, m.size, s)
 
 pub returns-clause-measure : goal.returns-clause-measure
 returns-clause-measure g c = c.bodies_are_measured.ensures.long g.P.PeerSet.peer c.args.bytes.now (Some (view c.in-Some.found)) (omega arith) (c.in-Some.ensures.measure ∙ ap (measure (list_rule_of g.P.PeerSet.peer (family c.args.bytes.now))) (take_rest c.args.bytes.now 16))
 
-pub returns-clause-front : goal.returns-clause-front
-returns-clause-front g c =
+pub returns-clause-prefix : goal.returns-clause-prefix
+returns-clause-prefix g c =
     let b = c.args.bytes.now in
-    subst (IsBodyFront g.P.PeerSet.peer b) (sym c.front_of.ensures)
-    (body_front g.P.PeerSet.peer b c.is_own_header-is_own_header.result _ c.in-Some.found.front (omega arith) c.is_own_header-is_own_header.ensures
-    (subst (λ x. IsOwnFront (list_rule_of g.P.PeerSet.peer (family b)) x c.in-Some.found.front) (take_rest b 16) c.in-Some.ensures.front))
+    subst (IsBodyPrefix g.P.PeerSet.peer b) (sym c.prefix_of.ensures)
+    (body_prefix g.P.PeerSet.peer b c.is_canonical_header-is_canonical_header.result _ c.in-Some.found.prefix (omega arith) c.is_canonical_header-is_canonical_header.ensures
+    (subst (λ x. IsCanonicalPrefix (list_rule_of g.P.PeerSet.peer (family b)) x c.in-Some.found.prefix) (take_rest b 16) c.in-Some.ensures.prefix))
 
-pub returns-clause-own : goal.returns-clause-own
-returns-clause-own g c = λ h.
-    let a = and_parts c.in-Some.found.is_own c.is_own_header-is_own_header.result h in
-    c.bodies_are_measured.ensures.own g.P.PeerSet.peer c.args.bytes.now (c.is_own_header-is_own_header.ensures a.1) (subst (λ x. (list_rule_of g.P.PeerSet.peer (family c.args.bytes.now)).canonical x ≡ x) (take_rest c.args.bytes.now 16) (c.in-Some.ensures.own a.0))
+pub returns-clause-canonical : goal.returns-clause-canonical
+returns-clause-canonical g c = λ h.
+    let a = and_parts c.in-Some.found.is_canonical c.is_canonical_header-is_canonical_header.result h in
+    c.bodies_are_measured.ensures.already_canonical g.P.PeerSet.peer c.args.bytes.now (c.is_canonical_header-is_canonical_header.ensures a.1) (subst (λ x. (list_rule_of g.P.PeerSet.peer (family c.args.bytes.now)).canonical x ≡ x) (take_rest c.args.bytes.now 16) (c.in-Some.ensures.already_canonical a.0))

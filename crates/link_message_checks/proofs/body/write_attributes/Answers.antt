@@ -13,11 +13,11 @@ pub write_held-requires-clause-fits : goal.write_held-requires-clause-fits
 unfolding list_of list_rule_of
 write_held-requires-clause-fits g c = ap (λ t. (rule g.P.PeerSet.peer (list any t)).fits c.args.bytes.now) c.family_table.ensures.table ∙ c.requires.fits
 
-pub write_held-requires-clause-room : goal.write_held-requires-clause-room
+pub write_held-requires-clause-capacity : goal.write_held-requires-clause-capacity
 unfolding list_of list_rule_of
-write_held-requires-clause-room g c =
+write_held-requires-clause-capacity g c =
     let size = ap (λ t. length ((rule g.P.PeerSet.peer (list any t)).canonical c.args.bytes.now)) c.family_table.ensures.table in
-    omega (arith, size, c.requires.room)
+    omega (arith, size, c.requires.capacity)
 
 pub returns-clause-text : goal.returns-clause-text
 unfolding list_of list_rule_of

@@ -3,16 +3,16 @@ use Rattle.std.proofs.lemmas.Bool.{and_parts}
 use Rattle.std.proofs.lemmas.List.{length-append, length-take-le, take_rest}
 use Rattle.link_message_grammar.specs.Body.{attribute_bytes, family, header_text, list_rule_of}
 use Rattle.link_message_grammar.proofs.Body.{written_header}
-use Rattle.link_message_checks.proofs.Fronts.{body_goes_on}
+use Rattle.link_message_checks.proofs.Prefixes.{body_continues}
 use Rattle.link_message_checks.proofs.body.write_body_over.Goals as goal
 
-pub write_header-requires-clause-room : goal.write_header-requires-clause-room
-write_header-requires-clause-room g c =
+pub write_header-requires-clause-capacity : goal.write_header-requires-clause-capacity
+write_header-requires-clause-capacity g c =
     let b = c.args.bytes.now in
     let p = c.body_laws_hold.ensures.headers_and_attributes b in
     let header = written_header b (and_parts _ _ (sym p.accepted ∙ c.requires.accepted)).0 in
     let size = ap length p.canonical ∙ length-append (header_text b) ((list_rule_of g.P.PeerSet.peer (family b)).canonical (attribute_bytes b)) in
-    omega (arith, size, header.size, c.requires.room)
+    omega (arith, size, header.size, c.requires.capacity)
 
 pub write_attributes-requires-clause-accepted : goal.write_attributes-requires-clause-accepted
 write_attributes-requires-clause-accepted g c =
@@ -26,17 +26,17 @@ write_attributes-requires-clause-fits g c =
     let p = c.body_laws_hold.ensures.headers_and_attributes b in
     ap (list_rule_of g.P.PeerSet.peer (family b)).fits (take_rest b 16) ∙ sym p.fits ∙ c.requires.fits
 
-pub write_attributes-requires-clause-room : goal.write_attributes-requires-clause-room
-write_attributes-requires-clause-room g c =
+pub write_attributes-requires-clause-capacity : goal.write_attributes-requires-clause-capacity
+write_attributes-requires-clause-capacity g c =
     let b = c.args.bytes.now in
     let p = c.body_laws_hold.ensures.headers_and_attributes b in
     let size = ap length p.canonical ∙ length-append (header_text b) ((list_rule_of g.P.PeerSet.peer (family b)).canonical (attribute_bytes b)) in
     let rest = ap (λ x. length ((list_rule_of g.P.PeerSet.peer (family b)).canonical x)) (take_rest b 16) in
     let header = ap length c.write_header.ensures.text ∙ length-append c.args.out.now.items (header_text b) in
-    omega (arith, size, rest, header, c.requires.room, c.write_header.ensures.room)
+    omega (arith, size, rest, header, c.requires.capacity, c.write_header.ensures.capacity)
 
-pub returns-then-front-lt-LINK_HEADER_LEN-clause-text : goal.returns-then-front-lt-LINK_HEADER_LEN-clause-text
-returns-then-front-lt-LINK_HEADER_LEN-clause-text g c =
+pub returns-then-prefix-lt-LINK_HEADER_LEN-clause-text : goal.returns-then-prefix-lt-LINK_HEADER_LEN-clause-text
+returns-then-prefix-lt-LINK_HEADER_LEN-clause-text g c =
     let b = c.args.bytes.now in
     let out = c.args.out.now.items in
     let p = c.body_laws_hold.ensures.headers_and_attributes b in
@@ -48,36 +48,36 @@ returns-then-front-lt-LINK_HEADER_LEN-clause-text g c =
 
 pub append-requires : goal.append-requires
 append-requires g c =
-    let on = body_goes_on g.P.PeerSet.peer c.body_laws_hold.ensures.headers_and_attributes c.args.bytes.now c.args.front (omega arith) c.requires.front c.requires.accepted c.requires.fits in
-    omega (arith, on.size, length-take-le c.args.front c.args.bytes.now c.requires.front.within, c.requires.room)
+    let on = body_continues g.P.PeerSet.peer c.body_laws_hold.ensures.headers_and_attributes c.args.bytes.now c.args.prefix (omega arith) c.requires.prefix c.requires.accepted c.requires.fits in
+    omega (arith, on.size, length-take-le c.args.prefix c.args.bytes.now c.requires.prefix.within, c.requires.capacity)
 
-pub write_attributes-requires-else-front-lt-LINK_HEADER_LEN-clause-accepted : goal.write_attributes-requires-else-front-lt-LINK_HEADER_LEN-clause-accepted
-write_attributes-requires-else-front-lt-LINK_HEADER_LEN-clause-accepted g c =
+pub write_attributes-requires-else-prefix-lt-LINK_HEADER_LEN-clause-accepted : goal.write_attributes-requires-else-prefix-lt-LINK_HEADER_LEN-clause-accepted
+write_attributes-requires-else-prefix-lt-LINK_HEADER_LEN-clause-accepted g c =
     let b = c.args.bytes.now in
-    let on = body_goes_on g.P.PeerSet.peer c.body_laws_hold.ensures.headers_and_attributes b c.args.front (omega arith) c.requires.front c.requires.accepted c.requires.fits in
-    ap (list_rule_of g.P.PeerSet.peer (family b)).accepted (take_rest b c.args.front) ∙ on.accepted
+    let on = body_continues g.P.PeerSet.peer c.body_laws_hold.ensures.headers_and_attributes b c.args.prefix (omega arith) c.requires.prefix c.requires.accepted c.requires.fits in
+    ap (list_rule_of g.P.PeerSet.peer (family b)).accepted (take_rest b c.args.prefix) ∙ on.accepted
 
-pub write_attributes-requires-else-front-lt-LINK_HEADER_LEN-clause-fits : goal.write_attributes-requires-else-front-lt-LINK_HEADER_LEN-clause-fits
-write_attributes-requires-else-front-lt-LINK_HEADER_LEN-clause-fits g c =
+pub write_attributes-requires-else-prefix-lt-LINK_HEADER_LEN-clause-fits : goal.write_attributes-requires-else-prefix-lt-LINK_HEADER_LEN-clause-fits
+write_attributes-requires-else-prefix-lt-LINK_HEADER_LEN-clause-fits g c =
     let b = c.args.bytes.now in
-    let on = body_goes_on g.P.PeerSet.peer c.body_laws_hold.ensures.headers_and_attributes b c.args.front (omega arith) c.requires.front c.requires.accepted c.requires.fits in
-    ap (list_rule_of g.P.PeerSet.peer (family b)).fits (take_rest b c.args.front) ∙ on.fits
+    let on = body_continues g.P.PeerSet.peer c.body_laws_hold.ensures.headers_and_attributes b c.args.prefix (omega arith) c.requires.prefix c.requires.accepted c.requires.fits in
+    ap (list_rule_of g.P.PeerSet.peer (family b)).fits (take_rest b c.args.prefix) ∙ on.fits
 
-pub write_attributes-requires-else-front-lt-LINK_HEADER_LEN-clause-room : goal.write_attributes-requires-else-front-lt-LINK_HEADER_LEN-clause-room
-write_attributes-requires-else-front-lt-LINK_HEADER_LEN-clause-room g c =
+pub write_attributes-requires-else-prefix-lt-LINK_HEADER_LEN-clause-capacity : goal.write_attributes-requires-else-prefix-lt-LINK_HEADER_LEN-clause-capacity
+write_attributes-requires-else-prefix-lt-LINK_HEADER_LEN-clause-capacity g c =
     let b = c.args.bytes.now in
-    let on = body_goes_on g.P.PeerSet.peer c.body_laws_hold.ensures.headers_and_attributes b c.args.front (omega arith) c.requires.front c.requires.accepted c.requires.fits in
-    let rest = ap (λ x. length ((list_rule_of g.P.PeerSet.peer (family b)).canonical x)) (take_rest b c.args.front) in
-    let front = ap length c.append.ensures.text ∙ length-append c.args.out.now.items (take c.args.front b) in
-    omega (arith, on.size, rest, front, length-take-le c.args.front b c.requires.front.within, c.requires.room, c.append.ensures.room)
+    let on = body_continues g.P.PeerSet.peer c.body_laws_hold.ensures.headers_and_attributes b c.args.prefix (omega arith) c.requires.prefix c.requires.accepted c.requires.fits in
+    let rest = ap (λ x. length ((list_rule_of g.P.PeerSet.peer (family b)).canonical x)) (take_rest b c.args.prefix) in
+    let prefix = ap length c.append.ensures.text ∙ length-append c.args.out.now.items (take c.args.prefix b) in
+    omega (arith, on.size, rest, prefix, length-take-le c.args.prefix b c.requires.prefix.within, c.requires.capacity, c.append.ensures.capacity)
 
-pub returns-else-front-lt-LINK_HEADER_LEN-clause-text : goal.returns-else-front-lt-LINK_HEADER_LEN-clause-text
-returns-else-front-lt-LINK_HEADER_LEN-clause-text g c =
+pub returns-else-prefix-lt-LINK_HEADER_LEN-clause-text : goal.returns-else-prefix-lt-LINK_HEADER_LEN-clause-text
+returns-else-prefix-lt-LINK_HEADER_LEN-clause-text g c =
     let b = c.args.bytes.now in
     let out = c.args.out.now.items in
     let inner = list_rule_of g.P.PeerSet.peer (family b) in
-    let on = body_goes_on g.P.PeerSet.peer c.body_laws_hold.ensures.headers_and_attributes b c.args.front (omega arith) c.requires.front c.requires.accepted c.requires.fits in
-    c.write_attributes-else-front-lt-LINK_HEADER_LEN.ensures.text ∙ ap (λ x. c.append.new.out.items ++ inner.canonical x) (take_rest b c.args.front)
-    ∙ ap (λ x. x ++ inner.canonical (drop c.args.front b)) c.append.ensures.text
-    ∙ append_assoc out (take c.args.front b) (inner.canonical (drop c.args.front b))
+    let on = body_continues g.P.PeerSet.peer c.body_laws_hold.ensures.headers_and_attributes b c.args.prefix (omega arith) c.requires.prefix c.requires.accepted c.requires.fits in
+    c.write_attributes-else-prefix-lt-LINK_HEADER_LEN.ensures.text ∙ ap (λ x. c.append.new.out.items ++ inner.canonical x) (take_rest b c.args.prefix)
+    ∙ ap (λ x. x ++ inner.canonical (drop c.args.prefix b)) c.append.ensures.text
+    ∙ append_assoc out (take c.args.prefix b) (inner.canonical (drop c.args.prefix b))
     ∙ ap (λ x. out ++ x) (sym on.text)

@@ -5,6 +5,6 @@ use Rattle.link_message_records.proofs.values.write_values.Given as goal
 
 abbrev pub invariant-loop-value : goal.invariant-loop-value
 invariant-loop-value g l = record {
-  place : length (flat_map g.T.Fields.bytes (take l.value-index l.values)) ≡ l.at;
+  position : length (flat_map g.T.Fields.bytes (take l.value-index l.values)) ≡ l.at;
   text : l.buffer ≡ flat_map g.T.Fields.bytes (take l.value-index l.values) ++ drop l.at l.initial.buffer;
 }

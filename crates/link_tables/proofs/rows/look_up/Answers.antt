@@ -1,7 +1,7 @@
 use Rattle.std.proofs.Common.{◌≡◌, refl, sym, ◌∙◌, length, arith}
 use Rattle.std.proofs.lemmas.Bool.{eqb-true}
 use Rattle.link_tables.specs.declared.rows.Row.TheVariants.{Unlisted}
-use Rattle.link_tables.proofs.LookUps.{line_outside, line_placed}
+use Rattle.link_tables.proofs.LookUps.{line_outside, line_at_index}
 use Rattle.link_tables.proofs.rows.look_up.Goals as goal
 
 pub returns-then-is_empty : goal.returns-then-is_empty
@@ -12,8 +12,8 @@ returns-then-is_empty c tables info =
 pub returns-then-kind-first : goal.returns-then-kind-first
 returns-then-kind-first c tables info = line_outside tables info c.args.rows.now _ c.kind-first.result c.args.kind c.kind-first.ensures c.requires (λ m. omega arith)
 
-pub returns-then-place-rows : goal.returns-then-place-rows
-returns-then-place-rows c tables info = line_placed tables info _ _ _ _ c.kind-first.ensures c.requires c.if-kind-first.false c.if-place-rows.true
+pub returns-then-index-rows : goal.returns-then-index-rows
+returns-then-index-rows c tables info = line_at_index tables info _ _ _ _ c.kind-first.ensures c.requires c.if-kind-first.false c.if-index-rows.true
 
-pub returns-else-place-rows : goal.returns-else-place-rows
-returns-else-place-rows c tables info = line_outside tables info c.args.rows.now _ c.kind-first.result c.args.kind c.kind-first.ensures c.requires (λ m. omega arith)
+pub returns-else-index-rows : goal.returns-else-index-rows
+returns-else-index-rows c tables info = line_outside tables info c.args.rows.now _ c.kind-first.result c.args.kind c.kind-first.ensures c.requires (λ m. omega arith)

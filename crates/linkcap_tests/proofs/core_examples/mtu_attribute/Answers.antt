@@ -8,9 +8,9 @@ pub emit-requires-clause-fits : goal.emit-requires-clause-fits
 unfolding le4
 emit-requires-clause-fits c = refl
 
-pub emit-requires-clause-room : goal.emit-requires-clause-room
+pub emit-requires-clause-capacity : goal.emit-requires-clause-capacity
 unfolding le4
-emit-requires-clause-room c = omega arith
+emit-requires-clause-capacity c = omega arith
 
 pub returns : goal.returns
 unfolding attribute_text le4

@@ -2,13 +2,13 @@ use Rattle.std.proofs.Common.{◌≤◌, ℕ, length, subst, sym, rules}
 use Rattle.std.specs.Prelude.{IfNone}
 use Rattle.arrayvec.specs.ArrayVec.{ArrayVec as Items}
 use Rattle.linkshow_program.specs.Types.{AreTypeWords, parts}
-use Rattle.linkshow_program.proofs.Typing.{Going, begun, gone_on, ended, none_left}
+use Rattle.linkshow_program.proofs.Typing.{ReadSoFar, begun, gone_on, ended, none_left}
 use Rattle.linkshow_program.proofs.types.read_types.Goals as goal
 
 pub parts-init : goal.parts-init
 parts-init c = record {
   text = search rules;
-  going = subst (λ ts. Going c.args.word.now c.args.word.now ts) (sym c.new-types.ensures) (begun c.args.word.now);
+  going = subst (λ ts. ReadSoFar c.args.word.now c.args.word.now ts) (sym c.new-types.ensures) (begun c.args.word.now);
 }
 
 pub returns-in_err-push_type-clause-none : goal.returns-in_err-push_type-clause-none

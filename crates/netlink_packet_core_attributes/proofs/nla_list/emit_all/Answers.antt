@@ -5,7 +5,7 @@ use Rattle.netlink_packet_core_grammar.specs.Attributes.{nla_align, attribute_le
 use Rattle.netlink_packet_core_grammar.proofs.Sizes.{length-attribute_text}
 use Rattle.netlink_packet_core_grammar.specs.Numbers.{u16_at}
 use Rattle.netlink_packet_core_attributes.specs.Lists.{text_by}
-use Rattle.netlink_packet_core_attributes.proofs.Emits.{fits-at, room-at, emitted, text_by-more, size_by-more, told_by_header}
+use Rattle.netlink_packet_core_attributes.proofs.Emits.{fits-at, capacity-at, emitted, text_by-more, size_by-more, length_in_header}
 use Rattle.netlink_packet_core_attributes.proofs.nla_list.emit_all.Goals as goal
 
 pub loop-item-preserved : goal.loop-item-preserved
@@ -17,24 +17,24 @@ loop-item-preserved g c =
     let l : i < length xs = c.loop-item-test.true in
     let t = text_by-more e xs i v l c.item-item.is in
     let s = size_by-more e xs i v l c.item-item.is in
-    let n : c.nla_align-at.result ≡ nla_align (attribute_length (e v)) = c.nla_align-at.ensures ∙ ap nla_align (c.read_u16.ensures ∙ ap (u16_at 0) c.emit.ensures ∙ told_by_header (e v) _) in
+    let n : c.nla_align-at.result ≡ nla_align (attribute_length (e v)) = c.nla_align-at.ensures ∙ ap nla_align (c.read_u16.ensures ∙ ap (u16_at 0) c.emit.ensures ∙ length_in_header (e v) _) in
     let z : length (attribute_text (e v)) ≡ nla_align (attribute_length (e v)) = length-attribute_text (e v) in
     let w : c.emit.new.buffer ≡ attribute_text (e v) ++ drop c.nla_align-at.result (drop c.loop-item.at c.loop-item.buffer) =
     rw (n, ← between_to_end c.loop-item.buffer c.loop-item.at (length c.loop-item.buffer) (omega arith)) c.emit.ensures in
     record {
-      place = rw (s, n) (ap (λ k. k + nla_align (attribute_length (e v))) c.loop-item.invariant.place);
+      offset = rw (s, n) (ap (λ k. k + nla_align (attribute_length (e v))) c.loop-item.invariant.offset);
       whole = rw (t, n) (omega (arith, length-append (text_by e (take i xs)) (attribute_text (e v)), z, c.loop-item.invariant.whole));
       text = rw t (emitted c.loop-item.at c.nla_align-at.result (text_by e (take i xs)) (attribute_text (e v)) c.args.buffer.now c.loop-item.buffer c.emit.new.buffer c.loop-item.invariant.whole c.loop-item.invariant.text w);
     }
 
 pub loop-item-init : goal.loop-item-init
 unfolding list_text
-loop-item-init g c = record { place = refl; whole = refl; text = refl }
+loop-item-init g c = record { offset = refl; whole = refl; text = refl }
 
-pub emit-requires-clause-room : goal.emit-requires-clause-room
-emit-requires-clause-room g c =
+pub emit-requires-clause-capacity : goal.emit-requires-clause-capacity
+emit-requires-clause-capacity g c =
     let v = c.item-item.result in
-    let r = room-at g.N.Nla.entry c.args.items.now c.loop-item.item-index v c.loop-item-test.true c.item-item.is in
+    let r = capacity-at g.N.Nla.entry c.args.items.now c.loop-item.item-index v c.loop-item-test.true c.item-item.is in
     rw (between_to_end c.loop-item.buffer c.loop-item.at (length c.loop-item.buffer) (omega arith)) (omega (arith, length-drop c.loop-item.at c.loop-item.buffer))
 
 pub read_u16-requires : goal.read_u16-requires

@@ -3,14 +3,14 @@ use Rattle.std.proofs.Common.{◌≡◌, ℕ, ◌+◌, ◌-◌, ◌≤◌, List,
 use Rattle.std.proofs.lemmas.List.{drop-drop, take_rest}
 use Rattle.netlink_packet_core_grammar.specs.Attributes.{nla_align}
 use Rattle.netlink_packet_core.specs.Frames.{frame_text}
-use Rattle.link_capture_grammar.specs.Captures.{first_fault, first_frame, raised}
+use Rattle.link_capture_grammar.specs.Captures.{first_fault, first_frame, shifted}
 use Rattle.link_capture_messages.proofs.messages.MessagesIterator.next.Goals as goal
 
 pub invariant_of-self : goal.invariant_of-self
 invariant_of-self c =
     let bytes = c.self.inside.bytes.now in
     let limit = c.self.inside.limit in
-    let at = c.self.inside.place in
+    let at = c.self.inside.offset in
     let law = c.captures_are_counted.ensures in
     let m = c.in-Ok.ensures.message in
     let rest = drop at bytes in
@@ -22,5 +22,5 @@ invariant_of-self c =
     let left : length rest ≡ length bytes - at = length-drop at bytes in
     record {
       near = omega (arith, size, high, left, c.if-self.false);
-      fault = c.self.invariant.fault ∙ law.next_fault limit at rest frame there ∙ ap (λ n. raised (at + n) (first_fault limit (drop (nla_align frame.0) rest))) (sym c.nla_align.ensures) ∙ ap (λ x. raised (at + c.nla_align.result) (first_fault limit x)) after;
+      fault = c.self.invariant.fault ∙ law.next_fault limit at rest frame there ∙ ap (λ n. shifted (at + n) (first_fault limit (drop (nla_align frame.0) rest))) (sym c.nla_align.ensures) ∙ ap (λ x. shifted (at + c.nla_align.result) (first_fault limit x)) after;
     }

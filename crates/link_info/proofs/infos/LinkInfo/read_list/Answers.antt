@@ -12,7 +12,7 @@ use Rattle.link_info.proofs.infos.LinkInfo.read_list.Goals as goal
 
 pub loop-force-init : goal.loop-force-init
 loop-force-init g c = record {
-  state = subst (λ vs. State g.R.PeerRule.peer c.args.bytes.now vs nothing c.args.bytes.now) (sym c.new-list.ensures.items) (state_start g.R.PeerRule.peer c.readings_go_by_steps.ensures c.args.bytes.now);
+  state = subst (λ vs. State g.R.PeerRule.peer c.args.bytes.now vs nothing c.args.bytes.now) (sym c.new-list.ensures.items) (state_start g.R.PeerRule.peer c.readings_unfold.ensures c.args.bytes.now);
   within = omega arith;
 }
 
@@ -20,7 +20,7 @@ pub returns-in_err-buf-clause-judged : goal.returns-in_err-buf-clause-judged
 returns-in_err-buf-clause-judged g c =
     let b = c.loop-force.rest.now in
     let n : 0 < length b = grind (arith, nat_tests) in
-    let k = state_stopped g.R.PeerRule.peer c.readings_go_by_steps.ensures c.readings_tell_rules.ensures _ _ _ b (λ h. let e : false ≡ true = c.in_err-buf.ensures.whole.1 h in absurd cc) n c.loop-force.invariant.state in
+    let k = state_stopped g.R.PeerRule.peer c.readings_unfold.ensures c.readings_determine_rules.ensures _ _ _ b (λ h. let e : false ≡ true = c.in_err-buf.ensures.whole.1 h in absurd cc) n c.loop-force.invariant.state in
     search rules
 
 pub returns-in_err-read-clause-judged : goal.returns-in_err-read-clause-judged
@@ -31,7 +31,7 @@ returns-in_err-read-clause-judged g c =
     let k : is_memory c.in_err-read.field-0.0 ≡ false → (info_rule_under g.R.PeerRule.peer).accepted c.args.bytes.now ≡ false =
     λ m.
     let was : (link_info_row_under g.R.PeerRule.peer f (proper_kind (viewed_kind b))).rule.accepted (viewed_payload b) ≡ false = rw c.in_ok-buf.ensures.ok at c.in_err-read.ensures.judged m in
-    state_refused g.R.PeerRule.peer c.readings_go_by_steps.ensures c.readings_tell_rules.ensures _ _ f b h was c.loop-force.invariant.state in
+    state_refused g.R.PeerRule.peer c.readings_unfold.ensures c.readings_determine_rules.ensures _ _ f b h was c.loop-force.invariant.state in
     search rules
 
 pub returns-in_err-force-clause-judged : goal.returns-in_err-force-clause-judged
@@ -40,7 +40,7 @@ returns-in_err-force-clause-judged g c =
     let f = context_of c.loop-force.force.kind c.loop-force.force.port_kind in
     let h : IsAttribute b = c.in_ok-buf.ensures.whole.0 refl in
     let was : (link_info_row_under g.R.PeerRule.peer f (proper_kind (viewed_kind b))).rule.accepted (viewed_payload b) ≡ false = rw c.in_ok-buf.ensures.ok at c.in_err-force.ensures.err g.R.PeerRule.peer in
-    let k = state_refused g.R.PeerRule.peer c.readings_go_by_steps.ensures c.readings_tell_rules.ensures _ _ f b h was c.loop-force.invariant.state in
+    let k = state_refused g.R.PeerRule.peer c.readings_unfold.ensures c.readings_determine_rules.ensures _ _ f b h was c.loop-force.invariant.state in
     search rules
 
 pub loop-force-preserved : goal.loop-force-preserved
@@ -54,7 +54,7 @@ loop-force-preserved g c =
     let inside : link_info_fits v ≡ (link_info_row_under g.R.PeerRule.peer f (proper_kind (viewed_kind b))).rule.fits (viewed_payload b) = rw c.in_ok-buf.ensures.ok at c.in_ok-read.ensures.inside in
     let next : context_of c.in_ok-force.force.kind c.in_ok-force.force.port_kind ≡ info_next f (proper_kind (viewed_kind b)) (viewed_payload b) = rw c.in_ok-buf.ensures.ok at c.in_ok-force.ensures.next in
     let rest : length c.skip_first-rest.result.now ≡ length (after_first b) = ap length c.skip_first-rest.ensures in
-    let s = state_more g.R.PeerRule.peer c.readings_go_by_steps.ensures c.contexts_go_by_steps.ensures (c.info_grammar_is_lawful.ensures g.R.PeerRule.peer c.rule_is_lawful.ensures) c.args.bytes.now c.loop-force.list.items f b v h was entry inside c.in_ok-read.ensures.names_row c.loop-force.invariant.state in
+    let s = state_more g.R.PeerRule.peer c.readings_unfold.ensures c.contexts_unfold.ensures (c.info_grammar_is_lawful.ensures g.R.PeerRule.peer c.rule_is_lawful.ensures) c.args.bytes.now c.loop-force.list.items f b v h was entry inside c.in_ok-read.ensures.is_row_variant c.loop-force.invariant.state in
     record {
       state = subst (λ vs. State g.R.PeerRule.peer c.args.bytes.now vs (context_of c.in_ok-force.force.kind c.in_ok-force.force.port_kind) c.skip_first-rest.result.now) (sym c.in_ok-push.ensures.items)
           (subst (λ d. State g.R.PeerRule.peer c.args.bytes.now (c.loop-force.list.items ++ v ∷ []) d c.skip_first-rest.result.now) (sym next)
@@ -63,7 +63,7 @@ loop-force-preserved g c =
     }
 
 ended : (g : _) (c : goal.After-loop-force g) → Done g.R.PeerRule.peer c.args.bytes.now c.loop-force.list.items
-ended g c = state_done g.R.PeerRule.peer c.readings_go_by_steps.ensures c.readings_tell_rules.ensures _ _ _ c.loop-force.rest.now (grind (arith, nat_tests)) c.loop-force.invariant.state
+ended g c = state_done g.R.PeerRule.peer c.readings_unfold.ensures c.readings_determine_rules.ensures _ _ _ c.loop-force.rest.now (grind (arith, nat_tests)) c.loop-force.invariant.state
 
 pub returns-clause-judged : goal.returns-clause-judged
 returns-clause-judged g c = (ended g c).accepted

@@ -15,4 +15,4 @@ returns-clause-empty_ports c =
     let vs = c.in_ok-attributes.attributes.items in
     let named : f ≡ family b = body-family b _ c.in_ok-header.ensures.family in
     let read : reading_as any (without_context (attribute_row f)) (attribute_bytes b) ≡ Some (map (written_as link_attribute_entry link_attribute_fits) vs) = rw c.split_at.ensures.back at c.in_ok-attributes.ensures.read in
-    body-empty_ports c.bodies_are_headers_and_attributes.ensures c.empty_ports_are_told.ensures b f named vs read
+    body-empty_ports c.bodies_are_headers_and_attributes.ensures c.empty_ports_are_determined.ensures b f named vs read

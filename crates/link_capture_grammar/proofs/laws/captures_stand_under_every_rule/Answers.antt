@@ -1,5 +1,0 @@
-use Rattle.link_capture_grammar.proofs.EveryRule.{every_rule}
-use Rattle.link_capture_grammar.proofs.laws.captures_stand_under_every_rule.Goals as goal
-
-pub returns : goal.returns
-returns c = every_rule

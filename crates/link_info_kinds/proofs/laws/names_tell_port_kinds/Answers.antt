@@ -1,5 +1,0 @@
-use Rattle.link_info_kinds.proofs.Named.{names_tell_port_kinds}
-use Rattle.link_info_kinds.proofs.laws.names_tell_port_kinds.Goals as goal
-
-pub returns : goal.returns
-returns c = names_tell_port_kinds

@@ -1,0 +1,233 @@
+-- Lines determine frames, provided that they determine lists of attributes.
+use Rattle.std.proofs.Common.{◌≡◌, ℕ, ◌≤◌, Bool, true, false, cond, List, [], ◌∷◌, ◌++◌, length, take, drop, get_or, Ok, Err, refl, sym, ap, subst, ◌∙◌, append_assoc, arith, inl, inr}
+use Rattle.std.specs.Prelude.{◌==◌, nat_le, codes}
+use Rattle.std.proofs.lemmas.Bool.{eqb-true, leb-true, ltb-false, le-leb, ne_eqb}
+use Rattle.std.proofs.lemmas.Bool.Decides.{eqb_tells}
+use Rattle.std.proofs.lemmas.List.{append_cancel_left, length-drop, length-take}
+use Rattle.netlink_packet_core_grammar.specs.Bytes.{AreBytes}
+use Rattle.netlink_packet_core_grammar.specs.Numbers.{u16_at}
+use Rattle.link_message_grammar.specs.Body.{link_body, link_peer}
+use Rattle.link_capture_grammar.specs.Bodies.{refused, empty_ports, unfit, is_link_type, body_text, body_text_under, ruled_text}
+use Rattle.link_lines_values.specs.declared.values.ShownBy.TheVariants.{Signed, Bytes}
+use Rattle.link_lines_values.specs.Bytes.{bytes_text}
+use Rattle.link_lines_values.specs.Values.{value_text}
+use Rattle.link_lines_values.proofs.BytesDetermined.{bytes_determined}
+use Rattle.link_lines_values.proofs.NumbersDetermined.{numbers_determined}
+use Rattle.link_lines_values.proofs.OneLine.{values_are_lines}
+use Rattle.link_lines_texts.specs.Frames.{after_code, bytes_line, body_lines, code_lines, frame_lines, header_line, link_lines, request_line, type_text}
+use Rattle.link_lines_texts.specs.Determination.{AreKnown, FramesAreDetermined, IsCanonicalFrame, IsShallow, NumbersAreKnown, StartsFrame}
+use Rattle.link_lines_texts.proofs.LineCuts.{following, cut_line}
+use Rattle.link_lines_texts.proofs.HeadersDetermined.{flags_part, header_determined, request_determined, type_starts}
+use Rattle.link_lines_texts.proofs.LinksDetermined.{lists_are_determined}
+use Rattle.link_lines_texts.proofs.LinkBodiesDetermined.{IsCanonicalLink, link_part, link_determined, canonical_link}
+use Rattle.link_lines_values.proofs.ValuesDetermined.{both_parts}
+use Rattle.netlink_packet_core_grammar.proofs.Bytes.{AreBytes-drop, AreBytes-take}
+
+-- ---- lines of bytes, and of codes
+
+no_space : (s r : List ℕ) → StartsFrame s → s ≡ 32 ∷ r → ⊥
+no_space [] r h e = absurd cc
+no_space (c ∷ s) r h e = let first : c ≡ 32 = cc in omega arith
+
+-- A line of bytes determines them, and no line means no bytes.
+bytes_line_determined : (name p q s t : List ℕ) → AreBytes p → AreBytes q → StartsFrame s → StartsFrame t → bytes_line name p ++ s ≡ bytes_line name q ++ t → (p ≡ q) × (s ≡ t)
+unfolding bytes_line
+bytes_line_determined name [] [] s t a b i j e = (refl, e)
+bytes_line_determined name [] (y ∷ q) s t a b i j e = absurd (no_space s (32 ∷ (name ++ (bytes_text (y ∷ q) ++ 10 ∷ [])) ++ t) i e)
+bytes_line_determined name (x ∷ p) [] s t a b i j e = absurd (no_space t (32 ∷ (name ++ (bytes_text (x ∷ p) ++ 10 ∷ [])) ++ s) j (sym e))
+bytes_line_determined name (x ∷ p) (y ∷ q) s t a b i j e =
+    let m = bytes_text (x ∷ p) in
+    let n = bytes_text (y ∷ q) in
+    let named_alike = following name (m ++ 10 ∷ []) s name (n ++ 10 ∷ []) t (ap (drop 2) e) in
+    let shown = following m (10 ∷ []) s n (10 ∷ []) t (append_cancel_left name ((m ++ 10 ∷ []) ++ s) ((n ++ 10 ∷ []) ++ t) named_alike) in
+    let r = cut_line m n s t (values_are_lines.line Bytes (x ∷ p) refl) (values_are_lines.line Bytes (y ∷ q) refl) shown in
+    (bytes_determined.bytes (x ∷ p) (y ∷ q) a b r.0, r.1)
+
+-- What follows a code of this type is determined.
+abbrev AfterCodeIsDetermined : Bool → ℕ → Type 0
+AfterCodeIsDetermined n m = (p q s t : List ℕ) → AreBytes p → AreBytes q → (m ≡ 2 → 16 ≤ length p → AreKnown n p) → (m ≡ 2 → 16 ≤ length q → AreKnown n q) → StartsFrame s → StartsFrame t →
+    after_code n m p ++ s ≡ after_code n m q ++ t → (p ≡ q) × (s ≡ t)
+
+-- A request's line is no line of bytes, nor the start of what follows a frame's lines.
+request_differs : (n : Bool) (p q r s t : List ℕ) → StartsFrame t → (request_line n p ++ r) ++ s ≡ bytes_line (codes "rest") q ++ t → ⊥
+unfolding request_line bytes_line
+request_differs n p [] r s t h e = no_space t _ h (sym e)
+request_differs n p (y ∷ q) r s t h e = let fifth : ◌≡◌ {A = ℕ} 113 115 = ap (λ l. get_or l 4 0) e in omega arith
+
+requests_by : (n : Bool) (p q s t : List ℕ) (x y : Bool) → AreBytes p → AreBytes q → nat_le 16 (length p) ≡ x → nat_le 16 (length q) ≡ y →
+    (16 ≤ length p → AreKnown n p) → (16 ≤ length q → AreKnown n q) → StartsFrame s → StartsFrame t →
+    cond x (request_line n p ++ bytes_line (codes "rest") (drop 16 p)) (bytes_line (codes "rest") p) ++ s
+    ≡ cond y (request_line n q ++ bytes_line (codes "rest") (drop 16 q)) (bytes_line (codes "rest") q) ++ t → (p ≡ q) × (s ≡ t)
+requests_by n p q s t false false a b x y h m i j e = bytes_line_determined (codes "rest") p q s t a b i j e
+requests_by n p q s t false true a b x y h m i j e = absurd (request_differs n q p (bytes_line (codes "rest") (drop 16 q)) t s i (sym e))
+requests_by n p q s t true false a b x y h m i j e = absurd (request_differs n p q (bytes_line (codes "rest") (drop 16 p)) s t j e)
+requests_by n p q s t true true a b x y h m i j e =
+    let l = leb-true 16 (length p) x in
+    let o = leb-true 16 (length q) y in
+    let u = bytes_line (codes "rest") (drop 16 p) in
+    let w = bytes_line (codes "rest") (drop 16 q) in
+    let determined = request_determined n p q (u ++ s) (w ++ t) a b l o (h l) (m o) (following (request_line n p) u s (request_line n q) w t e) in
+    let r = bytes_line_determined (codes "rest") (drop 16 p) (drop 16 q) s t (AreBytes-drop 16 p a) (AreBytes-drop 16 q b) i j determined.1 in
+    (determined.0 r.0, r.1)
+
+after_error : (n : Bool) → AfterCodeIsDetermined n 2
+unfolding after_code
+after_error n p q s t a b h m i j e = requests_by n p q s t (nat_le 16 (length p)) (nat_le 16 (length q)) a b refl refl (h refl) (m refl) i j e
+
+after_done : (n : Bool) → AfterCodeIsDetermined n 3
+unfolding after_code
+after_done n p q s t a b h m i j e = bytes_line_determined (codes "rest") p q s t a b i j e
+
+abbrev rest_part : Bool → ℕ → List ℕ → List ℕ
+rest_part n m b = after_code n m (drop 4 b)
+
+pub code_lines_are : (n : Bool) (m : ℕ) (b : List ℕ) → 4 ≤ length b → code_lines n m b ≡ codes "  code" ++ (value_text Signed (take 4 b) ++ 10 ∷ rest_part n m b)
+unfolding code_lines
+code_lines_are n m b h = rw (le-leb 4 (length b) h)
+
+-- The request's numbers in a body are known.
+abbrev RequestIsKnown : Bool → ℕ → List ℕ → Type 0
+RequestIsKnown n m p = m ≡ 2 → 20 ≤ length p → AreKnown n (drop 4 p)
+
+code_determined : (n : Bool) (m : ℕ) → AfterCodeIsDetermined n m → (p q s t : List ℕ) → AreBytes p → AreBytes q → 4 ≤ length p → 4 ≤ length q →
+    RequestIsKnown n m p → RequestIsKnown n m q → StartsFrame s → StartsFrame t → code_lines n m p ++ s ≡ code_lines n m q ++ t → (p ≡ q) × (s ≡ t)
+code_determined n m determined p q s t a b l o g h i j e =
+    let x = value_text Signed (take 4 p) in
+    let y = value_text Signed (take 4 q) in
+    let lines = sym (ap (λ z. z ++ s) (code_lines_are n m p l)) ∙ e ∙ ap (λ z. z ++ t) (code_lines_are n m q o) in
+    let shown = following x (10 ∷ rest_part n m p) s y (10 ∷ rest_part n m q) t (ap (drop 6) lines) in
+    let c = cut_line x y (rest_part n m p ++ s) (rest_part n m q ++ t) (values_are_lines.line Signed (take 4 p) refl) (values_are_lines.line Signed (take 4 q) refl) shown in
+    let r = determined (drop 4 p) (drop 4 q) s t (AreBytes-drop 4 p a) (AreBytes-drop 4 q b)
+    (λ two z. g two (omega (arith, z, length-drop 4 p))) (λ two z. h two (omega (arith, z, length-drop 4 q))) i j c.1 in
+    let code = numbers_determined.signed (take 4 p) (take 4 q) (AreBytes-take 4 p a) (AreBytes-take 4 q b) (omega (arith, length-take 4 p)) (omega (arith, length-take 4 q)) c.0 in
+    (both_parts 4 p q code r.0, r.1)
+
+-- ---- a link's body
+
+ruled_is : (x y z : Bool) (p b : List ℕ) → cond x (cond y (Err empty_ports) (cond z (Ok p) (Err unfit))) (Err refused) ≡ Ok b → (x ≡ true) × (p ≡ b)
+ruled_is true false true p b e = (refl, cc)
+ruled_is x y z p b e = absurd cc
+
+-- A canonical body of a link has a canonical header and canonical attributes.
+canonical_body : (b : List ℕ) → AreBytes b → ruled_text link_body b ≡ Ok b → IsCanonicalLink link_peer b
+canonical_body b a e =
+    let r = ruled_is (link_body.accepted b) (link_body.empty_ports b) (link_body.fits b) (link_body.canonical b) b e in
+    canonical_link link_peer b a r.0 r.1
+
+link_lines_are : (b : List ℕ) → 16 ≤ length b → link_lines b ≡ link_part 1 false b
+unfolding link_lines
+link_lines_are b h = rw (le-leb 16 (length b) h)
+
+shallow : (s : List ℕ) → StartsFrame s → IsShallow 1 s
+shallow s h r = no_space s (32 ∷ r) h
+
+body_determined : (p q s t : List ℕ) → AreBytes p → AreBytes q → IsCanonicalLink link_peer p → IsCanonicalLink link_peer q → StartsFrame s → StartsFrame t → link_lines p ++ s ≡ link_lines q ++ t → (p ≡ q) × (s ≡ t)
+body_determined p q s t a b h k i j e =
+    let lines = sym (ap (λ z. z ++ s) (link_lines_are p h.size)) ∙ e ∙ ap (λ z. z ++ t) (link_lines_are q k.size) in
+    link_determined link_peer false lists_are_determined 1 p q s t a b h k (shallow s i) (shallow t j) lines
+
+-- ---- bodies by their type
+
+abbrev BodiesOfTypeAreDetermined : Bool → ℕ → Type 0
+BodiesOfTypeAreDetermined numbers n = (p q s t : List ℕ) → AreBytes p → AreBytes q → body_text n p ≡ Ok p → body_text n q ≡ Ok q →
+    RequestIsKnown numbers n p → RequestIsKnown numbers n q → StartsFrame s → StartsFrame t →
+    body_lines numbers n p ++ s ≡ body_lines numbers n q ++ t → (p ≡ q) × (s ≡ t)
+
+noop_is : (p : List ℕ) → body_text 1 p ≡ Ok p → [] ≡ p
+unfolding body_text_under
+noop_is p h = cc
+
+noops_determined : (numbers : Bool) → BodiesOfTypeAreDetermined numbers 1
+unfolding body_lines bytes_line
+noops_determined numbers [] [] s t a b h k f g i j e = (refl, e)
+noops_determined numbers [] (y ∷ q) s t a b h k f g i j e = absurd (let none = noop_is (y ∷ q) k in cc)
+noops_determined numbers (x ∷ p) q s t a b h k f g i j e = absurd (let none = noop_is (x ∷ p) h in cc)
+
+code_by : (b : Bool) (p q : List ℕ) → cond b (Err refused) (Ok q) ≡ Ok p → b ≡ false
+code_by true p q h = absurd cc
+code_by false p q h = refl
+
+error_size : (p : List ℕ) → body_text 2 p ≡ Ok p → 4 ≤ length p
+unfolding body_text_under
+error_size p h = let l = ltb-false (length p) 4 (code_by _ p p h) in omega (arith, l)
+
+done_by : (a b : Bool) (p : List ℕ) → (a ≡ true → length p ≡ 0) → cond a (Ok (0 ∷ 0 ∷ 0 ∷ 0 ∷ [])) (cond b (Err refused) (Ok p)) ≡ Ok p → b ≡ false
+done_by true b p l h = let zeros : 0 ∷ 0 ∷ 0 ∷ 0 ∷ [] ≡ p = cc in let size : 4 ≡ length p = ap length zeros in absurd (omega (arith, l refl))
+done_by false b p l h = code_by b p p h
+
+done_size : (p : List ℕ) → body_text 3 p ≡ Ok p → 4 ≤ length p
+unfolding body_text_under
+done_size p h = let l = ltb-false (length p) 4 (done_by (length p == 0) _ p (eqb-true (length p) 0) h) in omega (arith, l)
+
+errors_determined : (numbers : Bool) → BodiesOfTypeAreDetermined numbers 2
+unfolding body_lines
+errors_determined numbers p q s t a b h k f g i j e =
+    code_determined numbers 2 (after_error numbers) p q s t a b (error_size p h) (error_size q k) f g i j e
+
+dones_determined : (numbers : Bool) → BodiesOfTypeAreDetermined numbers 3
+unfolding body_lines
+dones_determined numbers p q s t a b h k f g i j e =
+    code_determined numbers 3 (after_done numbers) p q s t a b (done_size p h) (done_size q k) f g i j e
+
+-- A body of a type other than 1, 2 and 3.
+text_is : (n : ℕ) (p : List ℕ) → (n ≡ 1 → ⊥) → (n ≡ 2 → ⊥) → (n ≡ 3 → ⊥) → body_text n p ≡ cond (is_link_type n) (ruled_text link_body p) (Ok p)
+unfolding body_text_under
+text_is n p a b c = rw (ne_eqb n 1 a, ne_eqb n 2 b, ne_eqb n 3 c)
+
+lines_are : (numbers : Bool) (n : ℕ) (p : List ℕ) → (n ≡ 2 → ⊥) → (n ≡ 3 → ⊥) → body_lines numbers n p ≡ cond (is_link_type n) (link_lines p) (bytes_line (codes "body") p)
+unfolding body_lines
+lines_are numbers n p b c = rw (ne_eqb n 2 b, ne_eqb n 3 c)
+
+other_by : (l : Bool) (p q s t : List ℕ) → AreBytes p → AreBytes q → cond l (ruled_text link_body p) (Ok p) ≡ Ok p → cond l (ruled_text link_body q) (Ok q) ≡ Ok q → StartsFrame s → StartsFrame t →
+    cond l (link_lines p) (bytes_line (codes "body") p) ++ s ≡ cond l (link_lines q) (bytes_line (codes "body") q) ++ t → (p ≡ q) × (s ≡ t)
+other_by true p q s t a b h k i j e = body_determined p q s t a b (canonical_body p a h) (canonical_body q b k) i j e
+other_by false p q s t a b h k i j e = bytes_line_determined (codes "body") p q s t a b i j e
+
+others_determined : (numbers : Bool) (n : ℕ) → (n ≡ 1 → ⊥) → (n ≡ 2 → ⊥) → (n ≡ 3 → ⊥) → BodiesOfTypeAreDetermined numbers n
+others_determined numbers n x y z p q s t a b h k f g i j e =
+    let lines = sym (ap (λ l. l ++ s) (lines_are numbers n p y z)) ∙ e ∙ ap (λ l. l ++ t) (lines_are numbers n q y z) in
+    other_by (is_link_type n) p q s t a b (sym (text_is n p x y z) ∙ h) (sym (text_is n q x y z) ∙ k) i j lines
+
+bodies_determined : (numbers : Bool) (n : ℕ) → BodiesOfTypeAreDetermined numbers n
+bodies_determined numbers n =
+    elim (eqb_tells n 1) [
+      | inl x ↦ subst (BodiesOfTypeAreDetermined numbers) (sym x.1) (noops_determined numbers)
+      | inr x ↦
+          elim (eqb_tells n 2) [
+            | inl y ↦ subst (BodiesOfTypeAreDetermined numbers) (sym y.1) (errors_determined numbers)
+            | inr y ↦
+                elim (eqb_tells n 3) [
+                  | inl z ↦ subst (BodiesOfTypeAreDetermined numbers) (sym z.1) (dones_determined numbers)
+                  | inr z ↦ others_determined numbers n x.1 y.1 z.1
+                ]
+          ]
+    ]
+
+-- ---- frames
+
+-- The lines of a frame begin with the name of a type.
+starts : (numbers : Bool) (f s : List ℕ) → StartsFrame (frame_lines numbers f ++ s)
+unfolding frame_lines header_line
+starts numbers f s =
+    let body = body_lines numbers (u16_at 4 f) (drop 16 f) in
+    let type = type_text (u16_at 4 f) in
+    let parts = append_assoc (header_line numbers f) body s ∙ append_assoc type (flags_part numbers f) (body ++ s) in
+    subst StartsFrame (sym parts) (type_starts (u16_at 4 f) (flags_part numbers f ++ (body ++ s)))
+
+-- All of a frame but its length is determined, and where its lines end.
+frames_determined : (numbers : Bool) (f g s t : List ℕ) → IsCanonicalFrame f → IsCanonicalFrame g → NumbersAreKnown numbers f → NumbersAreKnown numbers g → StartsFrame s → StartsFrame t →
+    frame_lines numbers f ++ s ≡ frame_lines numbers g ++ t → (drop 4 f ≡ drop 4 g) × (s ≡ t)
+unfolding frame_lines
+frames_determined numbers f g s t h k x y i j e =
+    let lines : ℕ → List ℕ → List ℕ = λ n b. body_lines numbers n (drop 16 b) in
+    let same = header_determined numbers f g (lines (u16_at 4 f) f ++ s) (lines (u16_at 4 g) g ++ t) h.bytes k.bytes h.header k.header x.own y.own
+    (following (header_line numbers f) (lines (u16_at 4 f) f) s (header_line numbers g) (lines (u16_at 4 g) g) t e) in
+    let back = sym same.type in
+    let other = subst (λ n. body_text n (drop 16 g) ≡ Ok (drop 16 g)) back k.body in
+    let asked : RequestIsKnown numbers (u16_at 4 f) (drop 16 g) = λ two. y.request (back ∙ two) in
+    let rest = same.rest ∙ ap (λ n. lines n g ++ t) back in
+    let r = bodies_determined numbers (u16_at 4 f) (drop 16 f) (drop 16 g) s t (AreBytes-drop 16 f h.bytes) (AreBytes-drop 16 g k.bytes) h.body other x.request asked i j rest in
+    (same.bytes r.0, r.1)
+
+pub determined : FramesAreDetermined
+determined = record { starts = starts; determined = frames_determined }

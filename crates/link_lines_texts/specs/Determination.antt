@@ -1,0 +1,73 @@
+-- What lines determine: shapes, lists of attributes, and frames.
+use Rattle.std.specs.Prelude.{◌≡◌, ℕ, ◌≤◌, Bool, true, false, List, [], ◌∷◌, ◌++◌, ⊤, length, drop, Ok}
+use Rattle.netlink_packet_core_grammar.specs.Bytes.{AreBytes}
+use Rattle.netlink_packet_core_grammar.specs.Numbers.{u16_at, u32_at}
+use Rattle.attribute_tables_grammar.specs.Rules.{Rule, shape_rule}
+use Rattle.attribute_tables_grammar.specs.Shapes.{Shape}
+use Rattle.link_message_grammar.specs.Body.{attributes_rule}
+use Rattle.link_message_grammar.specs.LinkMessage.{family_of}
+use Rattle.link_capture_grammar.specs.Bodies.{body_text}
+use Rattle.link_lines_values.specs.Values.{Shown, value_text}
+use Rattle.link_lines_texts.specs.Coverage.{shape_determines}
+use Rattle.link_lines_texts.specs.Frames.{frame_lines}
+use Rattle.link_tables.specs.Tables.{family_table}
+use Rattle.link_lines_values.specs.Indents.{indent}
+use Rattle.link_lines_texts.specs.declared.attributes.ListTable.{ListTable}
+use Rattle.link_lines_texts.specs.Lists.{list_lines}
+
+-- Bytes that a rule accepts, and that are already canonical.
+pub record IsCanonical (r : Rule) (p : List ℕ) : Type 0 where
+  pub bytes : AreBytes p
+  pub accepted : r.accepted p ≡ true
+  pub canonical : r.canonical p ≡ p
+
+-- Canonical payloads of a shape are equal if a format that determines the shape shows them alike.
+abbrev pub ShapesAreDetermined : Type 0
+ShapesAreDetermined = (s : Shape) (v : Shown) (p q : List ℕ) → shape_determines s v ≡ true → IsCanonical (shape_rule s) p → IsCanonical (shape_rule s) q → value_text v p ≡ value_text v q → p ≡ q
+
+-- A text doesn't begin with a line of this level or a deeper one.
+abbrev pub IsShallow : ℕ → List ℕ → Type 0
+IsShallow level s = (r : List ℕ) → s ≡ indent level ++ r → ⊥
+
+-- The table of the attributes of a link of an address family.
+abbrev pub of_family : Bool → ℕ → ListTable
+of_family in_peer n = record { table = family_table n; is_in_peer = in_peer }
+
+-- Canonical lists of a link's attributes, of one address family, are equal if their lines are, whatever shallower lines
+-- follow.
+abbrev pub ListsAreDetermined : Type 0
+ListsAreDetermined = (level n : ℕ) (p q s t : List ℕ) → IsCanonical (attributes_rule (family_of n)) p → IsCanonical (attributes_rule (family_of n)) q → IsShallow level s → IsShallow level t →
+    list_lines level (of_family false n) p ++ s ≡ list_lines level (of_family false n) q ++ t → (p ≡ q) × (s ≡ t)
+
+-- The bytes of a frame without its padding, whose body is canonical.
+pub record IsCanonicalFrame (f : List ℕ) : Type 0 where
+  pub bytes : AreBytes f
+  pub header : 16 ≤ length f
+  pub body : body_text (u16_at 4 f) (drop 16 f) ≡ Ok (drop 16 f)
+
+-- A text is empty, or begins as the name of a type does.
+abbrev pub StartsFrame : List ℕ → Type 0
+StartsFrame [] = ⊤
+StartsFrame (c ∷ s) = 48 ≤ c
+
+-- Both numbers of a header are zero.
+pub record HasNoNumbers (header : List ℕ) : Type 0 where
+  pub sequence : u32_at 8 header ≡ 0
+  pub port : u32_at 12 header ≡ 0
+
+-- The numbers of a header are shown, or are zero.
+abbrev pub AreKnown : Bool → List ℕ → Type 0
+AreKnown true header = ⊤
+AreKnown false header = HasNoNumbers header
+
+-- The numbers of a frame are known, and so are those of the request's header that an NLMSG_ERROR has after its code.
+pub record NumbersAreKnown (numbers : Bool) (f : List ℕ) : Type 0 where
+  pub own : AreKnown numbers f
+  pub request : u16_at 4 f ≡ 2 → 20 ≤ length (drop 16 f) → AreKnown numbers (drop 4 (drop 16 f))
+
+-- The lines of a frame begin with the name of its type. They determine all of the frame but its length, and where they
+-- end.
+pub record FramesAreDetermined : Type 0 where
+  pub starts : (numbers : Bool) (f s : List ℕ) → StartsFrame (frame_lines numbers f ++ s)
+  pub determined : (numbers : Bool) (f g s t : List ℕ) → IsCanonicalFrame f → IsCanonicalFrame g → NumbersAreKnown numbers f → NumbersAreKnown numbers g → StartsFrame s → StartsFrame t →
+      frame_lines numbers f ++ s ≡ frame_lines numbers g ++ t → (drop 4 f ≡ drop 4 g) × (s ≡ t)

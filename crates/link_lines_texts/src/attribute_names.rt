@@ -1,0 +1,209 @@
+//! The names of attributes, and how what they hold is shown, by table and kind.
+
+ghost use Rattle.std.specs.Prelude.{◌≡◌, ◌<◌, ◌≤◌, ◌⊎◌, true, [], get_or, option_map};
+ghost use Rattle.link_lines_values.specs.DenseRows.{are_dense, find};
+ghost use Rattle.link_lines_texts.specs.AttributeNames.{data_names, info_attribute_names, link_rows, link_names, nested_names, family_names};
+ghost use Rattle.link_tables.specs.declared.table.TheConstants.{LINK_INFO, LINK_UNSPEC};
+ghost use Rattle.link_lines_texts.specs.AttributeNames.{attribute_rows_of, attribute_name_of, attribute_names_of, viewed};
+
+use crate::{data_names, message_names};
+use link_lines_names::Format;
+use link_lines_values::look_up;
+use link_tables::Table;
+use link_tables::table::{AMT, LINK_INFO, LINK_UNSPEC};
+
+/// The name of an attribute, and how its payload is shown.
+pub type Name = (&'static [u8], Format);
+
+/// A kind, with the attribute's name if the table has a row for it.
+pub type AttributeRow = (u16, Option<Name>);
+
+/// The entry of one kind: its name, and how its payload is shown.
+#[macro_export]
+macro_rules! attribute_name_row {
+    ($kind:literal) => {
+        ($kind, None)
+    };
+    ($kind:literal, $name:literal, $shown:expr) => {
+        ($kind, Some(($name, Value($shown))))
+    };
+    ($kind:literal -> $name:literal, $format:expr) => {
+        ($kind, Some(($name, $format)))
+    };
+}
+
+/// The entries of a list, from the lines of its macro in `link_tables`.
+#[macro_export]
+macro_rules! list_names {
+    ($(
+        $kind:literal
+        $(-> $held_name:literal, $held:expr)?
+        $(=> $nested_name:literal, $nested:expr)?
+        $(, $name:literal $(, $shape:expr, $shown:expr)?)?;
+    )*) => {
+        [$($crate::attribute_name_row!($kind $(-> $held_name, $held)? $(-> $nested_name, $nested)? $($(, $name, $shown)?)?),)*]
+    };
+}
+
+/// The entries of the rows that depend on the address family of a link: those of IFLA_PROTINFO and
+/// IFLA_AF_SPEC, the kinds 12 and 26. The other kinds get an entry without a name, so that the rows
+/// stay dense.
+#[macro_export]
+macro_rules! family_names {
+    ($(
+        $kind:tt
+        $(-> $held_name:literal, $held:expr)?
+        $(=> $nested_name:literal, $nested:expr)?
+        $(, $name:literal $(, $shape:expr, $shown:expr)?)?;
+    )*) => {
+        [$($crate::family_name_row!($kind $(-> $held_name, $held)? $(-> $nested_name, $nested)? $($(, $name, $shown)?)?),)*]
+    };
+}
+
+/// The entry of one kind, with its name only if the row depends on the address family.
+#[macro_export]
+macro_rules! family_name_row {
+    (12 $($attribute_rows_of:tt)*) => {
+        $crate::attribute_name_row!(12 $($attribute_rows_of)*)
+    };
+    (26 $($attribute_rows_of:tt)*) => {
+        $crate::attribute_name_row!(26 $($attribute_rows_of)*)
+    };
+    ($kind:tt $($attribute_rows_of:tt)*) => {
+        ($kind, None)
+    };
+}
+
+/// Returns the names of a nested table, by its number in `link_tables`.
+#[tactic(auto, unfolding(crate::specs::AttributeNames::nested_names))]
+fn nested_table(table: u8) -> &'static [AttributeRow]
+    ensures attribute_names { attribute_rows_of (λ b. b.now) (λ t. t.now) (λ r. r.now) result.now ≡ get_or nested_names table [] }
+    ensures dense { are_dense result.now ≡ true }
+{
+    match table {
+        0 => message_names::XDP_ATTRIBUTE_NAMES,
+        1 => message_names::PROPS_ATTRIBUTE_NAMES,
+        2 => message_names::PROTOCOL_DOWN_REASON_ATTRIBUTE_NAMES,
+        3 => message_names::DEVLINK_PORT_ATTRIBUTE_NAMES,
+        4 => message_names::DPLL_PIN_ATTRIBUTE_NAMES,
+        5 => message_names::MCTP_ATTRIBUTE_NAMES,
+        6 => message_names::AF_INET_ATTRIBUTE_NAMES,
+        7 => message_names::AF_INET6_ATTRIBUTE_NAMES,
+        8 => message_names::SPECIFIC_ATTRIBUTE_NAMES,
+        9 => message_names::VF_STATS_ATTRIBUTE_NAMES,
+        10 => message_names::VF_VLANS_ATTRIBUTE_NAMES,
+        11 => message_names::VF_ATTRIBUTE_NAMES,
+        12 => message_names::VF_INFOS_ATTRIBUTE_NAMES,
+        13 => message_names::VF_PORTS_ATTRIBUTE_NAMES,
+        _ => &[],
+    }
+}
+
+/// Returns the names of a table of data, by its number from that of `AMT` on.
+#[tactic(auto, unfolding(crate::specs::AttributeNames::data_names))]
+fn data_table(table: u8) -> &'static [AttributeRow]
+    ensures attribute_names { attribute_rows_of (λ b. b.now) (λ t. t.now) (λ r. r.now) result.now ≡ get_or data_names table [] }
+    ensures dense { are_dense result.now ≡ true }
+{
+    match table {
+        0 => data_names::AMT_ATTRIBUTE_NAMES,
+        1 => data_names::BAREUDP_ATTRIBUTE_NAMES,
+        2 => data_names::BATADV_ATTRIBUTE_NAMES,
+        3 => data_names::GENEVE_ATTRIBUTE_NAMES,
+        4 => data_names::GRE_ATTRIBUTE_NAMES,
+        5 => data_names::GRE6_ATTRIBUTE_NAMES,
+        6 => data_names::GTP_ATTRIBUTE_NAMES,
+        7 => data_names::IPOIB_ATTRIBUTE_NAMES,
+        8 => data_names::IPVLAN_ATTRIBUTE_NAMES,
+        9 => data_names::IP4_TUNNEL_ATTRIBUTE_NAMES,
+        10 => data_names::IP6_TUNNEL_ATTRIBUTE_NAMES,
+        11 => data_names::MACVLAN_ATTRIBUTE_NAMES,
+        12 => data_names::MACVLAN_ADDRESS_ATTRIBUTE_NAMES,
+        13 => data_names::MACSEC_ATTRIBUTE_NAMES,
+        14 => data_names::NETKIT_ATTRIBUTE_NAMES,
+        15 => data_names::VETH_ATTRIBUTE_NAMES,
+        16 => data_names::RMNET_ATTRIBUTE_NAMES,
+        17 => data_names::VRF_ATTRIBUTE_NAMES,
+        18 => data_names::WWAN_ATTRIBUTE_NAMES,
+        19 => data_names::XFRM_ATTRIBUTE_NAMES,
+        20 => data_names::VTI_ATTRIBUTE_NAMES,
+        21 => data_names::VXLAN_ATTRIBUTE_NAMES,
+        22 => data_names::VXCAN_ATTRIBUTE_NAMES,
+        _ => &[],
+    }
+}
+
+/// Returns the names of the rows that depend on the address family, by the number of a link's
+/// table.
+#[tactic(auto, unfolding(crate::specs::AttributeNames::family_names))]
+fn family_names_table(table: u8) -> &'static [AttributeRow]
+    ensures attribute_names { attribute_rows_of (λ b. b.now) (λ t. t.now) (λ r. r.now) result.now ≡ get_or family_names table [] }
+    ensures dense { are_dense result.now ≡ true }
+{
+    match table {
+        0 => message_names::UNSPEC_FAMILY_NAMES,
+        1 => message_names::BRIDGE_FAMILY_NAMES,
+        2 => message_names::INET6_FAMILY_NAMES,
+        3 => message_names::OTHER_FAMILY_NAMES,
+        _ => &[],
+    }
+}
+
+/// Returns the names of the rows that links of every address family have. The constant has a
+/// function of its own, since the prover spells it out in each function that names it.
+#[tactic(auto, unfolding(crate::specs::AttributeNames::link_rows))]
+fn link_rows() -> &'static [AttributeRow]
+    ensures attribute_names { attribute_rows_of (λ b. b.now) (λ t. t.now) (λ r. r.now) result.now ≡ link_rows }
+    ensures dense { are_dense result.now ≡ true }
+{
+    message_names::LINK_ATTRIBUTE_NAMES
+}
+
+/// Returns the names of the attributes of link info.
+#[tactic(auto, unfolding(crate::specs::AttributeNames::info_attribute_names))]
+fn info_attribute_names() -> &'static [AttributeRow]
+    ensures attribute_names { attribute_rows_of (λ b. b.now) (λ t. t.now) (λ r. r.now) result.now ≡ info_attribute_names }
+    ensures dense { are_dense result.now ≡ true }
+{
+    message_names::INFO_ATTRIBUTE_NAMES
+}
+
+/// Returns the name of a kind of a link's attribute: that of the family's row, else that of the row
+/// for all families.
+fn link_attribute_name(family: u8, kind: u16) -> Option<Name>
+    requires { family < 4 }
+    ensures { option_map (viewed (λ b. b.now) (λ t. t.now) (λ r. r.now)) result ≡ find kind (get_or link_names family []) }
+{
+    match look_up(family_names_table(family), kind) {
+        Some(name) => Some(name),
+        None => look_up(link_rows(), kind),
+    }
+}
+
+/// Returns the names of a table other than those of links.
+#[tactic(auto, unfolding(crate::specs::AttributeNames::attribute_names_of))]
+fn attribute_names_of(table: Table) -> &'static [AttributeRow]
+    requires { table.0 < LINK_UNSPEC.0 ⊎ LINK_INFO.0 ≤ table.0 }
+    ensures attribute_names { attribute_rows_of (λ b. b.now) (λ t. t.now) (λ r. r.now) result.now ≡ attribute_names_of table.0 }
+    ensures dense { are_dense result.now ≡ true }
+{
+    if table.0 < LINK_UNSPEC.0 {
+        nested_table(table.0)
+    } else if table.is_link_info() {
+        info_attribute_names()
+    } else {
+        data_table(table.0 - AMT.0)
+    }
+}
+
+/// Returns the name of a kind without flag bits in a table, and how its payload is shown; None if
+/// the table has no row for it.
+pub fn attribute_name_of(table: Table, kind: u16) -> Option<Name>
+    ensures { option_map (viewed (λ b. b.now) (λ t. t.now) (λ r. r.now)) result ≡ attribute_name_of table.0 kind }
+{
+    if LINK_UNSPEC.0 <= table.0 && table.0 < LINK_INFO.0 {
+        link_attribute_name(table.0 - LINK_UNSPEC.0, kind)
+    } else {
+        look_up(attribute_names_of(table), kind)
+    }
+}

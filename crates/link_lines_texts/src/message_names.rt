@@ -1,0 +1,82 @@
+//! The names of attributes of link messages, of their nested lists, and of link info.
+
+use crate::attribute_names::AttributeRow;
+use crate::{list_names, family_names};
+use link_lines_names::FormatBy::{Data, LinkInfo, List, PortData, Value};
+use link_lines_values::ShownBy::{
+    Address, Bytes, Flags, HardwareAddress, NamedFlags, Number, Record as Fields, Signed,
+    SparseRecord, Text,
+};
+use link_lines_values::{
+    CACHEINFO, ICMP6_STATS, IN6_ADDR_GEN_MODE, IP6_STATS, IPV4_DEVCONF, IPV6_DEVCONF,
+    LINK_EXTENT_MASK, LINK_MODE, MAP, MCTP_PHYS_BINDING, PLAIN, STATE, STATS, STATS64,
+    VF_BROADCAST, VF_LINK_STATE, VF_MAC, VF_RATE, VF_SETTING, VF_TX_RATE, VF_VLAN, VF_VLAN_INFO,
+};
+use link_tables::Form::{Any, OfKindOne, Ports};
+use link_tables::table::{
+    BRIDGE_PORT, BRIDGE_SPECIFIC, DEVLINK_PORT, DPLL_PIN, INET, INET6, INET6_PROTOCOL, MCTP, PROPS,
+    PROTOCOL_DOWN_REASON, RAW, SPECIFIC, VF, VF_INFOS, VF_PORTS, VF_STATS, VF_VLANS, XDP,
+};
+use link_tables::{
+    devlink_port, dpll_pin, inet, inet6, link, link_bridge, link_inet6, link_other, link_unspec,
+    mctp, props, protocol_down_reason, specific, vf, vf_infos, vf_ports, vf_stats, vf_vlans, xdp,
+};
+
+// The lists that are nested in a link's attributes.
+pub const XDP_ATTRIBUTE_NAMES: &[AttributeRow] = &xdp!(list_names);
+
+pub const PROPS_ATTRIBUTE_NAMES: &[AttributeRow] = &props!(list_names);
+
+pub const PROTOCOL_DOWN_REASON_ATTRIBUTE_NAMES: &[AttributeRow] = &protocol_down_reason!(list_names);
+
+pub const DEVLINK_PORT_ATTRIBUTE_NAMES: &[AttributeRow] = &devlink_port!(list_names);
+
+pub const DPLL_PIN_ATTRIBUTE_NAMES: &[AttributeRow] = &dpll_pin!(list_names);
+
+pub const MCTP_ATTRIBUTE_NAMES: &[AttributeRow] = &mctp!(list_names);
+
+pub const AF_INET_ATTRIBUTE_NAMES: &[AttributeRow] = &inet!(list_names);
+
+pub const AF_INET6_ATTRIBUTE_NAMES: &[AttributeRow] = &inet6!(list_names);
+
+pub const SPECIFIC_ATTRIBUTE_NAMES: &[AttributeRow] = &specific!(list_names);
+
+pub const VF_STATS_ATTRIBUTE_NAMES: &[AttributeRow] = &vf_stats!(list_names);
+
+pub const VF_VLANS_ATTRIBUTE_NAMES: &[AttributeRow] = &vf_vlans!(list_names);
+
+pub const VF_ATTRIBUTE_NAMES: &[AttributeRow] = &vf!(list_names);
+
+pub const VF_INFOS_ATTRIBUTE_NAMES: &[AttributeRow] = &vf_infos!(list_names);
+
+pub const VF_PORTS_ATTRIBUTE_NAMES: &[AttributeRow] = &vf_ports!(list_names);
+
+/// Links of any address family, without the rows that depend on the family.
+pub const LINK_ATTRIBUTE_NAMES: &[AttributeRow] = &link!(
+    list_names,
+    {
+        12;
+    },
+    {
+        26;
+    }
+);
+
+// The rows that depend on the family: of links of no family, of bridges, of IPv6, and of every
+// other family.
+pub const UNSPEC_FAMILY_NAMES: &[AttributeRow] = &link_unspec!(family_names);
+
+pub const BRIDGE_FAMILY_NAMES: &[AttributeRow] = &link_bridge!(family_names);
+
+pub const INET6_FAMILY_NAMES: &[AttributeRow] = &link_inet6!(family_names);
+
+pub const OTHER_FAMILY_NAMES: &[AttributeRow] = &link_other!(family_names);
+
+/// IFLA_INFO_* (if_link.h).
+pub const INFO_ATTRIBUTE_NAMES: &[AttributeRow] = &[
+    (1, Some((b"IFLA_INFO_KIND", Value(Text)))),
+    (2, Some((b"IFLA_INFO_DATA", Data))),
+    (3, Some((b"IFLA_INFO_XSTATS", Value(Bytes)))),
+    (4, Some((b"IFLA_INFO_SLAVE_KIND", Value(Text)))),
+    (5, Some((b"IFLA_INFO_SLAVE_DATA", PortData))),
+];

@@ -1,0 +1,195 @@
+-- The text of a number determines it.
+use Rattle.std.proofs.Common.{◌≡◌, ℕ, zero, suc, ◌+◌, ◌-◌, ◌*◌, ◌/◌, ◌%◌, ◌^◌, ◌<◌, ◌≤◌, Bool, true, false, List, [], ◌∷◌, ◌++◌, length, drop, refl, sym, ap, subst, ◌∙◌, append_assoc, arith}
+use Rattle.std.proofs.lemmas.List.{append_cancel_left, reverse-append, reverse-reverse, length-reverse}
+use Rattle.std.proofs.lemmas.Bool.{cond_both}
+use Rattle.std.specs.Prelude.{◌==◌, ◌||◌, cond, nat_lt, reverse}
+use Rattle.std.specs.List.{AllByRecursion}
+use Rattle.std.specs.Fmt.{decimal, digit_glyph, digits, digits_onto}
+use Rattle.std.proofs.lemmas.Fmt.{digits_is_IsNumeral, decimal_is_IsNumeral, decimal_injective}
+use Rattle.std.specs.Str.Parse.{digits_value}
+use Rattle.std.proofs.lemmas.Bool.Decides.{nat_tests}
+use Rattle.netlink_packet_core_grammar.specs.Bytes.{AreBytes}
+use Rattle.attribute_tables_grammar.specs.Shapes.{number}
+use Rattle.link_lines_values.specs.Bytes.{bytes_text}
+use Rattle.link_lines_values.specs.Digits.{big_endian, hex_number, is_number, signed_text}
+use Rattle.link_lines_values.specs.Flags.{listed, named_flags, nameless, names_set}
+use Rattle.link_lines_values.specs.Laws.{DigitsAreDetermined, Ends, NumbersAreDetermined}
+use Rattle.link_lines_values.specs.Names.{Text, bracketed, named_number, text_in}
+use Rattle.netlink_packet_core_grammar.proofs.Bytes.{AreBytes-append}
+
+-- ---- digits end before a smaller byte
+
+abbrev pub Digits : List ℕ → Type 0
+Digits ds = AllByRecursion (λ c. 48 ≤ c) ds
+
+pub cut : (a b s t : List ℕ) → Digits a → Digits b → Ends s → Ends t → a ++ s ≡ b ++ t → (a ≡ b) × (s ≡ t)
+cut [] [] s t a b k l e = (refl, e)
+cut [] (y ∷ b) (c ∷ s) t a h k l e = let first : c ≡ y = cc in absurd (omega (arith, h.0))
+cut (x ∷ a) [] s (c ∷ t) h b k l e = let first : x ≡ c = cc in absurd (omega (arith, h.0))
+cut (x ∷ a) (y ∷ b) s t h i k l e =
+    let rest = cut a b s t h.1 i.1 k l (ap (drop 1) e) in
+    (cc, rest.1)
+cut a b s t h i k l e = absurd cc
+
+pub high_glyph : (d : ℕ) → 48 ≤ digit_glyph false d
+high_glyph d = cond_both (nat_lt d 10) (48 + d) (87 + d) (λ c. 48 ≤ c) (λ h. omega arith) (λ h. omega arith)
+
+high_onto : (k base n : ℕ) (acc : List ℕ) → Digits acc → Digits (digits_onto k base false n acc)
+high_onto zero base n acc h = h
+high_onto (suc k) base n acc h =
+    let more : Digits (digit_glyph false (n % base) ∷ acc) = (high_glyph (n % base), h) in
+    cond_both (n / base == 0) _ _ Digits (λ e. more) (λ e. high_onto k base (n / base) _ more)
+
+-- Digits are at least 48, in whichever base.
+pub high : (base n : ℕ) → Digits (digits base false n)
+unfolding digits
+high base n = high_onto 64 base n [] (record {})
+
+-- ---- the number at the start of a text
+
+-- The text of a number below this bound determines it, and what follows it.
+abbrev pub Determines : ℕ → (ℕ → List ℕ) → Type 0
+Determines bound text = (m n : ℕ) (s t : List ℕ) → m < bound → n < bound → Ends s → Ends t → text m ++ s ≡ text n ++ t → (m ≡ n) × (s ≡ t)
+
+pub decimal_determined : Determines (2 ^ 64) decimal
+decimal_determined m n s t p q k l e =
+    let r = cut (decimal m) (decimal n) s t (high 10 m) (high 10 n) k l e in
+    (decimal_injective m n p q r.0, r.1)
+
+hex_read : (n : ℕ) → n < 2 ^ 64 → n < 16 ^ 64
+hex_read n h = omega arith
+
+pub hex_determined : Determines (2 ^ 64) hex_number
+hex_determined m n s t p q k l e =
+    let a = digits_is_IsNumeral 16 false (omega arith) (omega arith) m (hex_read m p) in
+    let b = digits_is_IsNumeral 16 false (omega arith) (omega arith) n (hex_read n q) in
+    let r = cut (digits 16 false m) (digits 16 false n) s t (high 16 m) (high 16 n) k l (ap (drop 2) e) in
+    (sym a.1 ∙ ap (digits_value 16) r.0 ∙ b.1, r.1)
+
+-- What follows a first part.
+pub following : (a x s b y t : List ℕ) → (a ++ x) ++ s ≡ (b ++ y) ++ t → a ++ (x ++ s) ≡ b ++ (y ++ t)
+following a x s b y t e = sym (append_assoc a x s) ∙ e ∙ append_assoc b y t
+
+-- A number that determines its name is determined together with it.
+with_name : (bound : ℕ) (text name : ℕ → List ℕ) → Determines bound text → ((n : ℕ) (s : List ℕ) → Ends s → Ends (name n ++ s)) → Determines bound (λ n. text n ++ name n)
+with_name bound text name determined ends m n s t p q k l e =
+    let r = determined m n (name m ++ s) (name n ++ t) p q (ends m s k) (ends n t l) (following (text m) (name m) s (text n) (name n) t e) in
+    (r.0, append_cancel_left (name m) s t (r.1 ∙ ap (λ n. name n ++ t) (sym r.0)))
+
+bracket_ends : (name s : List ℕ) → Ends s → Ends (bracketed name ++ s)
+bracket_ends [] s h = h
+bracket_ends (c ∷ name) s h = omega arith
+
+listed_ends : (names : List (List ℕ)) (rest : ℕ) (s : List ℕ) → Ends s → Ends (listed names rest ++ s)
+listed_ends [] rest s h = h
+listed_ends (name ∷ names) rest s h = omega arith
+
+pub named_determined : (texts : List Text) → Determines (2 ^ 64) (named_number texts)
+named_determined texts = with_name (2 ^ 64) decimal (λ n. bracketed (text_in texts n)) decimal_determined (λ n. bracket_ends (text_in texts n))
+
+pub flags_determined : (names : List Text) → Determines (2 ^ 64) (named_flags names)
+flags_determined names = with_name (2 ^ 64) hex_number (λ n. listed (names_set names n) (nameless names n)) hex_determined (λ n. listed_ends (names_set names n) (nameless names n))
+
+-- ---- numbers of bytes
+
+pub same_parts : (x y a b : ℕ) → x < 256 → y < 256 → x + 256 * a ≡ y + 256 * b → (x ≡ y) × (a ≡ b)
+same_parts x y a b p q e = (omega arith, omega arith)
+
+pub number_determined : (p q : List ℕ) → AreBytes p → AreBytes q → length p ≡ length q → number p ≡ number q → p ≡ q
+number_determined [] [] a b l e = refl
+number_determined (x ∷ p) (y ∷ q) a b l e =
+    let k = same_parts x y (number p) (number q) a.0 b.0 e in
+    let rest : p ≡ q = number_determined p q a.1 b.1 (omega arith) k.1 in
+    cc
+number_determined p q a b l e = absurd (omega arith)
+
+pub bounded : (n : ℕ) (p : List ℕ) → AreBytes p → length p ≤ n → number p < 256 ^ n
+bounded zero [] a l = omega arith
+bounded zero (x ∷ p) a l = absurd (omega arith)
+bounded (suc n) [] a l = omega (arith, bounded n [] a (omega arith))
+bounded (suc n) (x ∷ p) a l = omega (arith, bounded n p a.1 (omega arith), a.0)
+
+pub reversed_bytes : (p : List ℕ) → AreBytes p → AreBytes (reverse p)
+reversed_bytes [] a = record {}
+reversed_bytes (x ∷ p) a = subst AreBytes (sym (reverse-append (x ∷ []) p)) (AreBytes-append (reverse p) (x ∷ []) (reversed_bytes p a.1) (a.0, record {}))
+
+-- A number of at most 8 bytes that determines them.
+pub record Reads (value : List ℕ → ℕ) : Type 0 where
+  pub small : (p : List ℕ) → AreBytes p → length p ≤ 8 → value p < 2 ^ 64
+  pub determined : (p q : List ℕ) → AreBytes p → AreBytes q → length p ≡ length q → value p ≡ value q → p ≡ q
+
+pub lowest_first : Reads number
+lowest_first = record {
+  small = λ p a l. omega (arith, bounded 8 p a l);
+  determined = number_determined;
+}
+
+pub highest_first : Reads big_endian
+highest_first = record {
+  small = λ p a l. omega (arith, bounded 8 (reverse p) (reversed_bytes p a) (omega (arith, length-reverse p)));
+  determined = λ p q a b l e.
+      sym (reverse-reverse p) ∙ ap reverse (number_determined (reverse p) (reverse q) (reversed_bytes p a) (reversed_bytes q b) (length-reverse p ∙ l ∙ sym (length-reverse q)) e) ∙ reverse-reverse q;
+}
+
+pub sized : (n : ℕ) → ((n == 1) || ((n == 2) || ((n == 4) || (n == 8)))) ≡ true → n ≤ 8
+sized n h = grind (arith, nat_tests)
+
+pub same_size : (p q : List ℕ) → length p ≡ length q → is_number p ≡ true → is_number q ≡ true
+same_size p q l h = ap (λ n. (n == 1) || ((n == 2) || ((n == 4) || (n == 8)))) (sym l) ∙ h
+
+module _ (value : List ℕ → ℕ) (reads : Reads value) (text : ℕ → List ℕ) (determined : Determines (2 ^ 64) text) where
+  -- Bytes are determined by their number, and so is what follows it.
+  pub number_and_rest : (p q s t : List ℕ) → AreBytes p → AreBytes q → length p ≤ 8 → length p ≡ length q → Ends s → Ends t → text (value p) ++ s ≡ text (value q) ++ t → (p ≡ q) × (s ≡ t)
+  number_and_rest p q s t a b h l i j e =
+      let r = determined (value p) (value q) s t (reads.small p a h) (reads.small q b (omega arith)) i j e in
+      (reads.determined p q a b l r.0, r.1)
+
+  -- A number after a space.
+  pub number_only : (p q : List ℕ) → AreBytes p → AreBytes q → length p ≤ 8 → length p ≡ length q → 32 ∷ text (value p) ≡ 32 ∷ text (value q) → p ≡ q
+  number_only p q a b h l e = (number_and_rest p q [] [] a b h l (record {}) (record {}) (ap (λ z. drop 1 z ++ []) e)).0
+
+  -- A number that is shown if the bytes have the size of one.
+  pub sized_number : (p q : List ℕ) → AreBytes p → AreBytes q → length p ≡ length q → is_number p ≡ true →
+      cond (is_number p) (32 ∷ text (value p)) (bytes_text p) ≡ cond (is_number q) (32 ∷ text (value q)) (bytes_text q) → p ≡ q
+  sized_number p q a b l h e = let k = same_size p q l h in number_only p q a b (sized (length p) h) l (rw (h, k) at e)
+
+-- ---- numbers with a sign
+
+-- No digits begin with a minus.
+no_minus : (ds s t : List ℕ) → Digits ds → 0 < length ds → ds ++ s ≡ 45 ∷ t → ⊥
+no_minus [] s t h l e = omega arith
+no_minus (x ∷ ds) s t h l e = let first : x ≡ 45 = cc in omega (arith, h.0)
+
+decimal_is_some : (n : ℕ) → n < 2 ^ 64 → 0 < length (decimal n)
+decimal_is_some n h = (decimal_is_IsNumeral n h).0.0
+
+signed_by : (m n : ℕ) (a b : Bool) → nat_lt m 2147483648 ≡ a → nat_lt n 2147483648 ≡ b → (s t : List ℕ) → m < 4294967296 → n < 4294967296 → Ends s → Ends t →
+    cond a (decimal m) (45 ∷ decimal (4294967296 - m)) ++ s ≡ cond b (decimal n) (45 ∷ decimal (4294967296 - n)) ++ t → (m ≡ n) × (s ≡ t)
+signed_by m n true true h k s t p q i j e = decimal_determined m n s t (omega arith) (omega arith) i j e
+signed_by m n true false h k s t p q i j e = absurd (no_minus (decimal m) s (decimal (4294967296 - n) ++ t) (high 10 m) (decimal_is_some m (omega arith)) e)
+signed_by m n false true h k s t p q i j e = absurd (no_minus (decimal n) t (decimal (4294967296 - m) ++ s) (high 10 n) (decimal_is_some n (omega arith)) (sym e))
+signed_by m n false false h k s t p q i j e =
+    let r = decimal_determined (4294967296 - m) (4294967296 - n) s t (omega arith) (omega arith) i j (ap (drop 1) e) in
+    (omega (arith, r.0), r.1)
+
+pub signed_determined : Determines 4294967296 signed_text
+signed_determined m n s t p q i j e = signed_by m n _ _ refl refl s t p q i j e
+
+pub four : (p : List ℕ) → AreBytes p → length p ≡ 4 → number p < 4294967296
+four p a l = omega (arith, bounded 4 p a (omega arith))
+
+signed : (p q : List ℕ) → AreBytes p → AreBytes q → length p ≡ 4 → length q ≡ 4 →
+    cond (length p == 4) (32 ∷ signed_text (number p)) (bytes_text p) ≡ cond (length q == 4) (32 ∷ signed_text (number q)) (bytes_text q) → p ≡ q
+signed p q a b l k e = number_determined p q a b (l ∙ sym k) (signed_determined (number p) (number q) [] [] (four p a l) (four q b k) (record {}) (record {}) (ap (λ z. drop 1 z ++ []) (rw (l, k) at e))).0
+
+pub numbers_determined : NumbersAreDetermined
+numbers_determined = record {
+  little = λ texts. sized_number number lowest_first (named_number texts) (named_determined texts);
+  big = λ texts. sized_number big_endian highest_first (named_number texts) (named_determined texts);
+  signed = signed;
+  flags = sized_number number lowest_first hex_number hex_determined;
+  named_flags = λ names. sized_number number lowest_first (named_flags names) (flags_determined names);
+}
+
+pub digits_are : DigitsAreDetermined
+digits_are = record { decimal_digits = decimal_determined; hex_digits = hex_determined }

@@ -1,0 +1,13 @@
+-- Texts that are written to a sink.
+use Rattle.std.specs.Prelude.{ℕ, List, [], ◌∷◌, ◌++◌}
+use Rattle.std.proofs.Common.{Bor}
+use Rattle.link_capture_reader.specs.States.{SinkState, IsReportedOrCut}
+
+-- One text was written, and then another.
+abbrev pub ReportsBoth : SinkState → SinkState → List ℕ → List ℕ → Type 0
+ReportsBoth before after first second = (between : SinkState) × IsReportedOrCut before between first × IsReportedOrCut between after second
+
+-- Texts, one after the other.
+abbrev pub texts_joined : List (Bor (List ℕ)) → List ℕ
+texts_joined [] = []
+texts_joined (text ∷ more) = text.now ++ texts_joined more

@@ -1,5 +1,6 @@
 -- The first attribute of a list under its rows: everything that is checked before reading the list first allocates.
-use Rattle.std.specs.Prelude.{ℕ, zero, suc, ◌&&◌, ◌||◌, Bool, true, false, cond, List, length, Option, Some, None, is_some}
+use Rattle.std.specs.Prelude.{ℕ, zero, suc, ◌&&◌, ◌||◌, Bool, true, false, cond, List, length, Option, Some, None}
+use Rattle.std.specs.Prelude.{is_some}
 use Rattle.netlink_packet_core_grammar.specs.Attributes.{Attribute, first_attribute, if_some, proper_kind}
 use Rattle.netlink_packet_core_grammar.specs.AttributeViews.{viewed_kind, viewed_payload}
 use Rattle.attribute_tables_grammar.specs.Lists.{Row, is_of_kind_one}
@@ -41,7 +42,8 @@ table_may_allocate t b = line_may_allocate (line_at t (proper_kind (viewed_kind 
 -- The first attribute of kind 1, found in at most n steps; whole attributes of other kinds may precede it.
 unfoldable pub first_entry_within : ℕ → List ℕ → Option Attribute
 first_entry_within zero b = None
-first_entry_within (suc n) b = if_some (first_attribute b) (λ x. cond (is_of_kind_one x.0) (Some x.0) (first_entry_within n x.1))
+first_entry_within (suc n) b =
+    if_some (first_attribute b) (λ x. cond (is_of_kind_one x.0) (Some x.0) (first_entry_within n x.1))
 
 -- The first attribute of kind 1; whole attributes of other kinds may precede it.
 abbrev pub first_entry : List ℕ → Option Attribute

@@ -1,5 +1,6 @@
 -- Properties of the result of a reader, for contracts.
-use Rattle.std.specs.Prelude.{◌≡◌, ℕ, Bool, true, false, List, map, Option, Some, Result, IsTrue, IfSome, IfOk, IfErr, MatchResult, Vec}
+use Rattle.std.specs.Prelude.{◌≡◌, ℕ, Bool, true, false, List, map, Option, Some, Result, IsTrue, IfSome, IfOk, IfErr}
+use Rattle.std.specs.Prelude.{MatchResult, Vec}
 use Rattle.netlink_packet_core_grammar.specs.Attributes.{Attribute}
 use Rattle.netlink_packet_core.specs.declared.DecodeError.{DecodeError}
 use Rattle.netlink_packet_core.specs.Errors.{is_memory}
@@ -27,20 +28,26 @@ IfMemory result P = IfErr result (λ e. is_memory e ≡ true → P)
 
 -- A value that was read is written as the rule's canonical encoding of the bytes, and fits if and only if that does.
 abbrev pub IsWrittenBy : {V : Type 0} → Result V DecodeError → (V → List ℕ) → (V → Bool) → Rule → List ℕ → Type 0
-IsWrittenBy result text fits rule bytes = IfOk result (λ v. (text v ≡ rule.canonical bytes) × (fits v ≡ rule.fits bytes))
+IsWrittenBy result text fits rule bytes =
+    IfOk result (λ v. (text v ≡ rule.canonical bytes) × (fits v ≡ rule.fits bytes))
 
 -- A list that was read is written as the rule's canonical encoding of the bytes, and fits if and only if that does.
-abbrev pub ListIsWrittenBy : {V Z : Type 0} → Result (Vec V Z) DecodeError → (V → Attribute) → (V → Bool) → Rule → List ℕ → Type 0
-ListIsWrittenBy result entry inside_fits rule bytes = IsWrittenBy result (λ v. text_by entry v.items) (λ v. all_fit_by entry inside_fits v.items) rule bytes
+abbrev pub ListIsWrittenBy : {V Z : Type 0} → Result (Vec V Z) DecodeError → (V → Attribute) → (V → Bool) → Rule →
+    List ℕ → Type 0
+ListIsWrittenBy result entry inside_fits rule bytes =
+    IsWrittenBy result (λ v. text_by entry v.items) (λ v. all_fit_by entry inside_fits v.items) rule bytes
 
 -- A list that was read has this reading.
-abbrev pub ListIsReadAs : {V Z : Type 0} → Result (Vec V Z) DecodeError → (V → Attribute) → (V → Bool) → Option (List Written) → Type 0
-ListIsReadAs result entry inside_fits reading = IfOk result (λ v. reading ≡ Some (map (written_as entry inside_fits) v.items))
+abbrev pub ListIsReadAs : {V Z : Type 0} → Result (Vec V Z) DecodeError → (V → Attribute) → (V → Bool) →
+    Option (List Written) → Type 0
+ListIsReadAs result entry inside_fits reading =
+    IfOk result (λ v. reading ≡ Some (map (written_as entry inside_fits) v.items))
 
 -- A value that was read is written as the attribute's canonical form under the row, and everything inside fits if and
 -- only if the row says so.
 abbrev pub IsRewrittenBy : {V : Type 0} → Result V DecodeError → (V → Attribute) → (V → Bool) → Row → Attribute → Type 0
-IsRewrittenBy result entry inside_fits row attribute = IfOk result (λ v. (entry v ≡ rewrite row attribute) × (inside_fits v ≡ row.rule.fits attribute.payload))
+IsRewrittenBy result entry inside_fits row attribute =
+    IfOk result (λ v. (entry v ≡ rewrite row attribute) × (inside_fits v ≡ row.rule.fits attribute.payload))
 
 -- P holds for the value, if one was read.
 abbrev pub IfRead : {T E : Type 0} → Result (Option T) E → (T → Type 0) → Type 0
@@ -48,5 +55,7 @@ IfRead result P = IfOk result (λ o. IfSome o P)
 
 -- A value that was read under a row, if there is one, is written as the attribute's canonical form, and everything
 -- inside fits if and only if the row says so.
-abbrev pub RowIsRewrittenBy : {V : Type 0} → Result (Option V) DecodeError → (V → Attribute) → (V → Bool) → Row → Attribute → Type 0
-RowIsRewrittenBy result entry inside_fits row attribute = IfRead result (λ v. (entry v ≡ rewrite row attribute) × (inside_fits v ≡ row.rule.fits attribute.payload))
+abbrev pub RowIsRewrittenBy : {V : Type 0} → Result (Option V) DecodeError → (V → Attribute) → (V → Bool) → Row →
+    Attribute → Type 0
+RowIsRewrittenBy result entry inside_fits row attribute =
+    IfRead result (λ v. (entry v ≡ rewrite row attribute) × (inside_fits v ≡ row.rule.fits attribute.payload))

@@ -11,7 +11,7 @@ ghost use Rattle.attribute_tables.specs.Beginnings.{entries_begin_readable};
 ghost use Rattle.attribute_tables.specs.Outcomes.{IfMemory, IsRewrittenBy, ListIsReadAs, ListIsWrittenBy, SucceedsIf};
 
 use attribute_tables_grammar::laws::{
-    ports_are_entries, readings_unfold, readings_determine_rules,
+    ports_are_entries, readings_determine_rules, readings_unfold,
 };
 use netlink_packet_core::{DecodeError, Nla, NlaBuffer, skip_first};
 use netlink_packet_core_grammar::laws::{first_attributes_are_viewed, first_attributes_are_within};

@@ -14,8 +14,8 @@ ghost use Rattle.attribute_tables.specs.Outcomes.{IfMemory, IsRefusedUnless, IsW
 
 use super::reader::{Reader, parse_first_by, parse_list};
 use attribute_tables_grammar::laws::{
-    single_first_attributes_are_read, readings_determine_rules, rows_are_looked_up,
-    rows_without_lists_fit,
+    readings_determine_rules, rows_are_looked_up, rows_without_lists_fit,
+    single_first_attributes_are_read,
 };
 use netlink_packet_core::{DecodeError, Family, NlaBuffer, read_attribute};
 use netlink_packet_core_grammar::laws::first_attributes_are_viewed;

@@ -14,7 +14,7 @@ ghost use Rattle.attribute_tables.specs.Beginnings.{begins_readable};
 ghost use Rattle.attribute_tables.specs.Outcomes.{IfMemory, IsRewrittenBy, IsWrittenBy, ListIsReadAs, ListIsWrittenBy, SucceedsIf};
 
 use attribute_tables_grammar::laws::{
-    single_first_attributes_are_read, readings_unfold, readings_determine_rules,
+    readings_determine_rules, readings_unfold, single_first_attributes_are_read,
 };
 use netlink_packet_core::{DecodeError, Nla, NlaBuffer, skip_first};
 use netlink_packet_core_grammar::laws::first_attributes_are_viewed;

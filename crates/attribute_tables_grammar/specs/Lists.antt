@@ -1,6 +1,8 @@
 -- The rule of a list of attributes, made from the rules of its rows.
-use Rattle.std.specs.Prelude.{◌≡◌, ℕ, ◌+◌, ◌==◌, ◌&&◌, ◌||◌, nat_le, Bool, true, false, cond, List, [], ◌∷◌, length, filter, Option, Some, None, option_map}
-use Rattle.netlink_packet_core_grammar.specs.Attributes.{Attribute, proper_kind, list_text, first_attribute, if_some, attributes_of}
+use Rattle.std.specs.Prelude.{◌≡◌, ℕ, ◌+◌, ◌==◌, ◌&&◌, ◌||◌, nat_le, Bool, true, false, cond, List, [], ◌∷◌, length}
+use Rattle.std.specs.Prelude.{filter, Option, Some, None, option_map}
+use Rattle.netlink_packet_core_grammar.specs.Attributes.{Attribute, proper_kind, list_text, first_attribute, if_some}
+use Rattle.netlink_packet_core_grammar.specs.Attributes.{attributes_of}
 use Rattle.attribute_tables_grammar.specs.Rules.{Rule, Lawful, raw_rule}
 
 -- The kind in force and the port kind in force before an attribute of link info: the names that later data depend on.
@@ -51,7 +53,8 @@ same_kind r s k l = cond (r.is_typed && s.is_typed) (proper_kind k == proper_kin
 
 -- Two attributes are equivalent, each under its own row.
 abbrev pub same_attribute : Row → Row → Attribute → Attribute → Bool
-same_attribute r s e f = same_kind r s e.kind f.kind && (r.rule.same e.payload f.payload && s.rule.same e.payload f.payload)
+same_attribute r s e f = same_kind r s e.kind f.kind &&
+    (r.rule.same e.payload f.payload && s.rule.same e.payload f.payload)
 
 -- ---- attributes in order, each in its context
 
@@ -78,7 +81,8 @@ rewritten g c (e ∷ es) = rewrite (row_of g c e) e ∷ rewritten g (g.next c e)
 unfoldable pub all_fit : Grammar → Context → List Attribute → Bool
 all_fit g c [] = true
 all_fit g c (e ∷ es) =
-    nat_le (4 + length ((row_of g c e).rule.canonical e.payload)) 65535 && (row_of g c e).rule.fits e.payload && all_fit g (g.next c e) es
+    nat_le (4 + length ((row_of g c e).rule.canonical e.payload)) 65535 && (row_of g c e).rule.fits e.payload &&
+    all_fit g (g.next c e) es
 
 -- The number of attributes inside those of a list, at all depths.
 unfoldable pub attributes_inside : Grammar → Context → List Attribute → ℕ
@@ -90,7 +94,8 @@ unfoldable pub all_same : Grammar → Context → Context → List Attribute →
 all_same g c d [] [] = true
 all_same g c d [] (f ∷ fs) = false
 all_same g c d (e ∷ es) [] = false
-all_same g c d (e ∷ es) (f ∷ fs) = same_attribute (row_of g c e) (row_of g d f) e f && all_same g (g.next c e) (g.next d f) es fs
+all_same g c d (e ∷ es) (f ∷ fs) = same_attribute (row_of g c e) (row_of g d f) e f &&
+    all_same g (g.next c e) (g.next d f) es fs
 
 -- ---- lists as bytes
 
@@ -147,17 +152,22 @@ if_read d f (Some es) = f es
 abbrev pub list_rule : ListForm → Grammar → Rule
 list_rule form g = record {
   accepted = λ b. if_read false (λ es. all_accepted g nothing (kept form es)) (read_as form b);
-  same = λ a b. if_read false (λ es. if_read false (λ fs. all_same g nothing nothing (kept form es) (kept form fs)) (read_as form b)) (read_as form a);
+  same = λ a b. if_read false
+      (λ es. if_read false (λ fs. all_same g nothing nothing (kept form es) (kept form fs)) (read_as form b))
+      (read_as form a);
   canonical = λ b. if_read [] (λ es. list_text (rewritten g nothing (kept form es))) (read_as form b);
   attributes = λ b. if_read 0 (λ es. length es + attributes_inside g nothing (kept form es)) (read_as form b);
   fits = λ b. if_read true (λ es. all_fit g nothing (kept form es)) (read_as form b);
-  empty_ports = λ b. if_read false (λ es. is_empty_ports form (kept form es) || some_empty_ports g nothing (kept form es)) (read_as form b);
+  empty_ports =
+      λ b. if_read false (λ es. is_empty_ports form (kept form es) ||
+      some_empty_ports g nothing (kept form es)) (read_as form b);
 }
 
 -- Every row is lawful, and the context after an attribute depends only on its kind proper and its canonical payload.
 pub record LawfulGrammar (g : Grammar) : Type 0 where
   pub rows : (c : Context) (k : ℕ) → Lawful (g.row c k).rule
-  pub steps : (c : Context) (e f : Attribute) → proper_kind e.kind ≡ proper_kind f.kind → (row_of g c e).rule.canonical e.payload ≡ (row_of g c e).rule.canonical f.payload → g.next c e ≡ g.next c f
+  pub steps : (c : Context) (e f : Attribute) → proper_kind e.kind ≡ proper_kind f.kind →
+      (row_of g c e).rule.canonical e.payload ≡ (row_of g c e).rule.canonical f.payload → g.next c e ≡ g.next c f
 
 -- The context after a list.
 unfoldable pub context_after : Grammar → Context → List Attribute → Context

@@ -4,7 +4,8 @@ use Rattle.attribute_tables_grammar.specs.Shapes.{text, raw}
 use Rattle.attribute_tables_grammar.specs.Rules.{Rule, shape_rule, raw_rule}
 use Rattle.attribute_tables_grammar.specs.Lists.{Row, raw_row, ListForm, without_context, list_rule}
 use Rattle.attribute_tables_grammar.specs.Peers.{Peer, peer_rule}
-use Rattle.attribute_tables_grammar.specs.Tables.{Payload, Payload.plain, Payload.peer, Payload.list, Payload.link_info, Table, Table.end, Table.row, Names, Names.others, Names.name, rule}
+use Rattle.attribute_tables_grammar.specs.Tables.{Payload, Payload.plain, Payload.peer, Payload.list, Payload.link_info}
+use Rattle.attribute_tables_grammar.specs.Tables.{Table, Table.end, Table.row, Names, Names.others, Names.name, rule}
 
 -- The entry of a table for a kind: whether the kind is written with the nested bit, and the payload.
 pub record Line : Type 0 where

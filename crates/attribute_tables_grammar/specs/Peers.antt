@@ -15,8 +15,10 @@ pub record Peer : Type 0 where
 pub record LawfulPeer (p : Peer) : Type 0 where
   pub canonical_accepted : (b : List ℕ) → p.accepted b ≡ true → p.accepted (p.canonical b) ≡ true
   pub canonical_idempotent : (b : List ℕ) → p.accepted b ≡ true → p.canonical (p.canonical b) ≡ p.canonical b
-  pub same_implies_equal_text : (a b : List ℕ) → p.accepted a ≡ true → p.accepted b ≡ true → p.same a b ≡ true → p.canonical a ≡ p.canonical b
-  pub equal_text_implies_same : (a b : List ℕ) → p.accepted a ≡ true → p.accepted b ≡ true → p.canonical a ≡ p.canonical b → p.same a b ≡ true
+  pub same_implies_equal_text : (a b : List ℕ) → p.accepted a ≡ true → p.accepted b ≡ true → p.same a b ≡ true →
+      p.canonical a ≡ p.canonical b
+  pub equal_text_implies_same : (a b : List ℕ) → p.accepted a ≡ true → p.accepted b ≡ true →
+      p.canonical a ≡ p.canonical b → p.same a b ≡ true
   pub bounded : (b : List ℕ) → p.accepted b ≡ true → length (p.canonical b) ≤ 77 * length b
   pub counted : (b : List ℕ) → p.accepted b ≡ true → 4 * p.attributes b ≤ length b
   pub bytes : (b : List ℕ) → p.accepted b ≡ true → AreBytes b → AreBytes (p.canonical b)

@@ -3,7 +3,8 @@ use Rattle.std.specs.Prelude.{◌≡◌, ℕ, ◌&&◌, Bool, true, cond, List, 
 use Rattle.netlink_packet_core_grammar.specs.Attributes.{Attribute, list_text, if_some, attributes_of}
 use Rattle.netlink_packet_core_grammar.specs.Fits.{attribute_fits}
 use Rattle.attribute_tables_grammar.specs.Rules.{Rule}
-use Rattle.attribute_tables_grammar.specs.Lists.{Context, nothing, Row, Grammar, row_of, rewrite, ListForm, read_as, kept}
+use Rattle.attribute_tables_grammar.specs.Lists.{Context, nothing, Row, Grammar, row_of, rewrite, ListForm, read_as}
+use Rattle.attribute_tables_grammar.specs.Lists.{kept}
 
 -- The canonical form of an attribute, and whether everything inside it fits.
 pub record Written : Type 0 where
@@ -18,7 +19,8 @@ written_by r e = record { entry = rewrite r e; inside_fits = r.rule.fits e.paylo
 unfoldable pub written_list : Grammar → Context → List Attribute → Option (List Written)
 written_list g c [] = Some []
 written_list g c (e ∷ es) =
-    cond ((row_of g c e).rule.accepted e.payload) (option_map (λ ws. written_by (row_of g c e) e ∷ ws) (written_list g (g.next c e) es)) None
+    cond ((row_of g c e).rule.accepted e.payload) (option_map (λ ws. written_by (row_of g c e) e ∷
+    ws) (written_list g (g.next c e) es)) None
 
 -- The reading of the rest of a list, in the context at its start: the attributes that the list kind keeps; None if one
 -- is rejected.
@@ -39,7 +41,8 @@ abbrev pub followed_by : List Written → Option (List Written) → Option (List
 followed_by ws o = option_map (λ rest. ws ++ rest) o
 
 -- The reading of the whole list is what was read so far, followed by the reading of the rest in its context.
-pub record SoFar (form : ListForm) (g : Grammar) (bytes : List ℕ) (ws : List Written) (c : Context) (rest : List ℕ) : Type 0 where
+pub record SoFar (form : ListForm) (g : Grammar) (bytes : List ℕ) (ws : List Written) (c : Context) (rest : List ℕ) :
+    Type 0 where
   pub whole : reading form g nothing bytes ≡ followed_by ws (reading form g c rest)
 
 -- The rule accepts the bytes, and the reading determines their canonical encoding and whether it fits.
@@ -51,4 +54,5 @@ pub record Determines (r : Rule) (bytes : List ℕ) (ws : List Written) : Type 0
 -- Each value is the variant of its row, in the context after the values before it.
 abbrev pub all_named : {V : Type 0} → Grammar → (V → Attribute) → (Context → V → Type 0) → Context → List V → Type 0
 all_named g entry is_row_variant c [] = Unit {0}
-all_named g entry is_row_variant c (v ∷ vs) = is_row_variant c v × all_named g entry is_row_variant (g.next c (entry v)) vs
+all_named g entry is_row_variant c (v ∷ vs) = is_row_variant c v ×
+    all_named g entry is_row_variant (g.next c (entry v)) vs

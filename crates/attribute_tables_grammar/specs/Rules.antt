@@ -20,11 +20,14 @@ pub record Rule : Type 0 where
 -- The laws of a rule: canonical payloads are accepted, fit and are idempotent; they decide equivalence; they are at
 -- most 77 times as long, with headers; the attributes inside take at least 4 bytes each.
 pub record Lawful (r : Rule) : Type 0 where
-  pub canonical_accepted : (p : List ℕ) → r.accepted p ≡ true → r.empty_ports p ≡ false → (r.accepted (r.canonical p) ≡ true) × (r.empty_ports (r.canonical p) ≡ false)
+  pub canonical_accepted : (p : List ℕ) → r.accepted p ≡ true → r.empty_ports p ≡ false →
+      (r.accepted (r.canonical p) ≡ true) × (r.empty_ports (r.canonical p) ≡ false)
   pub canonical_fits : (p : List ℕ) → r.accepted p ≡ true → r.fits p ≡ true → r.fits (r.canonical p) ≡ true
   pub canonical_idempotent : (p : List ℕ) → r.accepted p ≡ true → r.canonical (r.canonical p) ≡ r.canonical p
-  pub same_implies_equal_text : (p q : List ℕ) → r.accepted p ≡ true → r.accepted q ≡ true → r.same p q ≡ true → r.canonical p ≡ r.canonical q
-  pub equal_text_implies_same : (p q : List ℕ) → r.accepted p ≡ true → r.accepted q ≡ true → r.canonical p ≡ r.canonical q → r.same p q ≡ true
+  pub same_implies_equal_text : (p q : List ℕ) → r.accepted p ≡ true → r.accepted q ≡ true → r.same p q ≡ true →
+      r.canonical p ≡ r.canonical q
+  pub equal_text_implies_same : (p q : List ℕ) → r.accepted p ≡ true → r.accepted q ≡ true →
+      r.canonical p ≡ r.canonical q → r.same p q ≡ true
   pub bounded : (p : List ℕ) → r.accepted p ≡ true → nla_align (4 + length (r.canonical p)) ≤ 77 * (4 + length p)
   pub counted : (p : List ℕ) → r.accepted p ≡ true → 4 * r.attributes p ≤ length p
   pub bytes : (p : List ℕ) → r.accepted p ≡ true → r.fits p ≡ true → AreBytes p → AreBytes (r.canonical p)
@@ -32,8 +35,10 @@ pub record Lawful (r : Rule) : Type 0 where
 -- Rule s migrates the canonical payloads of rule r: for a payload that both accept, s accepts its canonical payload
 -- under r, which has the same canonical payload under s as the payload itself.
 pub record Migrates (r s : Rule) : Type 0 where
-  pub accepted : (p : List ℕ) → r.accepted p ≡ true → s.accepted p ≡ true → r.empty_ports p ≡ false → s.accepted (r.canonical p) ≡ true
-  pub empty_ports : (p : List ℕ) → r.accepted p ≡ true → s.accepted p ≡ true → r.empty_ports p ≡ false → s.empty_ports (r.canonical p) ≡ false
+  pub accepted : (p : List ℕ) → r.accepted p ≡ true → s.accepted p ≡ true → r.empty_ports p ≡ false →
+      s.accepted (r.canonical p) ≡ true
+  pub empty_ports : (p : List ℕ) → r.accepted p ≡ true → s.accepted p ≡ true → r.empty_ports p ≡ false →
+      s.empty_ports (r.canonical p) ≡ false
   pub fits : (p : List ℕ) → r.accepted p ≡ true → s.accepted p ≡ true → s.fits p ≡ true → s.fits (r.canonical p) ≡ true
   pub canonical : (p : List ℕ) → r.accepted p ≡ true → s.accepted p ≡ true → s.canonical (r.canonical p) ≡ s.canonical p
 

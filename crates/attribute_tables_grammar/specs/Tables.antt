@@ -1,5 +1,6 @@
 -- Tables of rows, and the rules of their payloads.
-use Rattle.std.specs.Prelude.{ℕ, zero, suc, ◌==◌, ◌&&◌, ◌||◌, not, nat_lt, Bool, true, false, List, Option, Some, None, bytes_eq}
+use Rattle.std.specs.Prelude.{ℕ, zero, suc, ◌==◌, ◌&&◌, ◌||◌, not, nat_lt, Bool, true, false, List, Option, Some, None}
+use Rattle.std.specs.Prelude.{bytes_eq}
 use Rattle.netlink_packet_core_grammar.specs.Attributes.{proper_kind}
 use Rattle.netlink_packet_core_grammar.specs.Texts.{without_nul}
 use Rattle.attribute_tables_grammar.specs.Shapes.{Shape, text, raw, never, shape_bounded}
@@ -13,7 +14,8 @@ mutual
     plain : Shape → Payload
     peer : Payload
     list : ListForm → Table → Payload
-    link_info : ListForm → Names → Names → Payload  -- a list; the kind's name determines the data, the port kind's the port data
+    -- a list; the kind's name determines the data, the port kind's the port data
+    link_info : ListForm → Names → Names → Payload
 
   -- The rows of kinds without flag bits; a kind without a row is a raw attribute.
   pub data Table : Type 0 where
@@ -52,13 +54,16 @@ info_next c zero p = c
 info_next c (suc zero) p = record { kind = Some (without_nul p); port_kind = c.port_kind }  -- 1, IFLA_INFO_KIND
 info_next c (suc (suc zero)) p = c
 info_next c (suc (suc (suc zero))) p = c
-info_next c (suc (suc (suc (suc zero)))) p = record { kind = c.kind; port_kind = Some (without_nul p) }  -- 4, IFLA_INFO_SLAVE_KIND
-info_next c (suc (suc (suc (suc (suc zero))))) p = record { kind = c.kind; port_kind = None }  -- 5, IFLA_INFO_SLAVE_DATA
+-- 4, IFLA_INFO_SLAVE_KIND
+info_next c (suc (suc (suc (suc zero)))) p = record { kind = c.kind; port_kind = Some (without_nul p) }
+-- 5, IFLA_INFO_SLAVE_DATA
+info_next c (suc (suc (suc (suc (suc zero))))) p = record { kind = c.kind; port_kind = None }
 info_next c (suc (suc (suc (suc (suc (suc k)))))) p = c
 
 -- The rows of link info, from the rules of data and of port data by name.
 abbrev pub names_grammar : (List ℕ → Rule) → (List ℕ → Rule) → Grammar
-names_grammar data' ports = record { row = info_row data' ports; next = λ c e. info_next c (proper_kind e.kind) e.payload }
+names_grammar data' ports =
+    record { row = info_row data' ports; next = λ c e. info_next c (proper_kind e.kind) e.payload }
 
 -- ---- the rules
 
@@ -73,7 +78,8 @@ abbrev mutual
   -- The row of a kind in a table.
   pub row_in : Peer → Table → ℕ → Row
   row_in p end k = raw_row
-  row_in p (row l n s t) k = elim (k == l) [ true ↦ record { is_typed = true; is_nested = n; rule = rule p s } | false ↦ row_in p t k ]
+  row_in p (row l n s t) k =
+      elim (k == l) [ true ↦ record { is_typed = true; is_nested = n; rule = rule p s } | false ↦ row_in p t k ]
 
   -- The rule of the payload of a name.
   pub named : Peer → Names → List ℕ → Rule

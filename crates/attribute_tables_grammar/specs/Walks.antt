@@ -1,9 +1,11 @@
 -- The measure of a list, found in one walk: whether it is accepted, and then the size of its canonical encoding, its
 -- attributes, whether it fits, and whether a list of ports in it is empty.
-use Rattle.std.specs.Prelude.{◌≡◌, ℕ, ◌+◌, ◌*◌, ◌==◌, ◌<◌, ◌≤◌, ◌&&◌, ◌||◌, nat_le, Bool, true, false, cond, List, [], ◌∷◌, length, Option, Some, None, option_map}
+use Rattle.std.specs.Prelude.{◌≡◌, ℕ, ◌+◌, ◌*◌, ◌==◌, ◌<◌, ◌≤◌, ◌&&◌, ◌||◌, nat_le, Bool, true, false, cond, List, []}
+use Rattle.std.specs.Prelude.{◌∷◌, length, Option, Some, None, option_map}
 use Rattle.netlink_packet_core_grammar.specs.Attributes.{nla_align, Attribute, if_some, attributes_of}
 use Rattle.attribute_tables_grammar.specs.Rules.{Rule}
-use Rattle.attribute_tables_grammar.specs.Lists.{Context, nothing, Grammar, row_of, ListForm, any, non_empty, of_kind_one, ports, first_only, read_as, kept, is_kept, is_empty_ports}
+use Rattle.attribute_tables_grammar.specs.Lists.{Context, nothing, Grammar, row_of, ListForm, any, non_empty}
+use Rattle.attribute_tables_grammar.specs.Lists.{of_kind_one, ports, first_only, read_as, kept, is_kept, is_empty_ports}
 
 -- The measure of an accepted payload.
 pub record Measure : Type 0 where
@@ -15,11 +17,24 @@ pub record Measure : Type 0 where
 
 -- The measure of a payload under a rule; None if it is rejected.
 abbrev pub measure : Rule → List ℕ → Option Measure
-measure r p = cond (r.accepted p) (Some (record { size = length (r.canonical p); attributes = r.attributes p; fits = r.fits p; empty_ports = r.empty_ports p })) None
+measure r p =
+    cond (r.accepted p) (Some (record {
+      size = length (r.canonical p);
+      attributes = r.attributes p;
+      fits =
+          r.fits p;
+      empty_ports = r.empty_ports p;
+    })) None
 
 -- The measure of two attributes or lists, one after the other.
 abbrev pub plus : Measure → Measure → Measure
-plus m n = record { size = m.size + n.size; attributes = m.attributes + n.attributes; fits = m.fits && n.fits; empty_ports = m.empty_ports || n.empty_ports }
+plus m n = record {
+  size = m.size + n.size;
+  attributes = m.attributes + n.attributes;
+  fits = m.fits &&
+      n.fits;
+  empty_ports = m.empty_ports || n.empty_ports;
+}
 
 -- The measure of the empty list.
 abbrev pub none_yet : Measure
@@ -31,7 +46,14 @@ dropped = record { size = 0; attributes = 1; fits = true; empty_ports = false }
 
 -- The measure of an attribute, from that of its payload.
 abbrev pub with_header : Measure → Measure
-with_header m = record { size = nla_align (4 + m.size); attributes = 1 + m.attributes; fits = nat_le (4 + m.size) 65535 && m.fits; empty_ports = m.empty_ports }
+with_header m =
+    record {
+      size = nla_align (4 + m.size);
+      attributes = 1 + m.attributes;
+      fits = nat_le (4 + m.size) 65535 &&
+          m.fits;
+      empty_ports = m.empty_ports;
+    }
 
 -- The sum of two measures, if there are both.
 abbrev pub both : Option Measure → Option Measure → Option Measure
@@ -57,12 +79,15 @@ or_empty b m = record { size = m.size; attributes = m.attributes; fits = m.fits;
 
 -- The measure of whole bytes, by their list kind.
 unfoldable pub walk_as : ListForm → Grammar → List ℕ → Option Measure
-walk_as form g bytes = if_some (read_as form bytes) (λ es. option_map (or_empty (is_empty_ports form (kept form es))) (measures form g nothing es))
+walk_as form g bytes =
+    if_some (read_as form bytes)
+    (λ es. option_map (or_empty (is_empty_ports form (kept form es))) (measures form g nothing es))
 
 -- ---- the state of a loop
 
 -- The measure of the whole list is that of the attributes so far plus that of the rest in its context.
-pub record MeasuredSoFar (form : ListForm) (g : Grammar) (bytes : List ℕ) (m : Measure) (c : Context) (rest : List ℕ) : Type 0 where
+pub record MeasuredSoFar (form : ListForm) (g : Grammar) (bytes : List ℕ) (m : Measure) (c : Context) (rest : List ℕ) :
+    Type 0 where
   pub whole : walk form g nothing bytes ≡ both (Some m) (walk form g c rest)
 
 -- The measure of a whole list, from that of its attributes: a list of ports keeps no entry if and only if nothing is

@@ -15,10 +15,11 @@ pub record IsWritable (r : Rule) (p : List ℕ) (capacity : ℕ) : Type 0 where
 
 -- What was written so far, followed by the encoding of the rest, is the old bytes followed by the encoding of the whole
 -- list.
-pub record WrittenSoFar (form : ListForm) (g : Grammar) (bytes old out : List ℕ) (c : Context) (rest : List ℕ) : Type 0 where
-  pub rest_measure : Measure
-  pub walked : walk form g c rest ≡ Some rest_measure
-  pub fits : rest_measure.fits ≡ true
-  pub text : List ℕ
-  pub rest_text : text_from form g c rest ≡ Some text
-  pub whole : out ++ text ≡ old ++ (list_rule form g).canonical bytes
+pub record WrittenSoFar (form : ListForm) (g : Grammar) (bytes old out : List ℕ) (c : Context) (rest : List ℕ) : Type 0
+  where
+    pub rest_measure : Measure
+    pub walked : walk form g c rest ≡ Some rest_measure
+    pub fits : rest_measure.fits ≡ true
+    pub text : List ℕ
+    pub rest_text : text_from form g c rest ≡ Some text
+    pub whole : out ++ text ≡ old ++ (list_rule form g).canonical bytes

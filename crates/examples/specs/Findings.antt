@@ -6,7 +6,9 @@ use Rattle.examples.specs.declared.golden.Finding.TheVariants.{Golden, Changed, 
 
 -- The result of comparing a capture with a golden file under a limit.
 abbrev pub IsFinding : ℕ → List ℕ → List ℕ → Finding → Type 0
-IsFinding limit golden capture Golden = IsLegal limit golden × IsLegal limit capture × (texts limit golden ≡ texts limit capture)
-IsFinding limit golden capture Changed = IsLegal limit golden × IsLegal limit capture × (texts limit golden ≢ texts limit capture)
+IsFinding limit golden capture Golden = IsLegal limit golden × IsLegal limit capture ×
+    (texts limit golden ≡ texts limit capture)
+IsFinding limit golden capture Changed = IsLegal limit golden × IsLegal limit capture ×
+    (texts limit golden ≢ texts limit capture)
 IsFinding limit golden capture (Fault fault) = IsLegal limit golden × (first_fault limit capture ≡ Some fault)
 IsFinding limit golden capture (GoldenFault fault) = first_fault limit golden ≡ Some fault

@@ -1,5 +1,6 @@
 -- The contents of a table of interfaces, and how messages change it.
-use Rattle.std.specs.Prelude.{◌≡◌, ◌≢◌, ℕ, ◌+◌, Bool, true, false, List, [], ◌∷◌, drop, option_map, Option, None, Some, string_bytes}
+use Rattle.std.specs.Prelude.{◌≡◌, ◌≢◌, ℕ, ◌+◌, Bool, true, false, List, [], ◌∷◌, drop, option_map, Option, None, Some}
+use Rattle.std.specs.Prelude.{string_bytes}
 use Rattle.std.specs.BTreeMap.{get, BTreeMap}
 use Rattle.std.specs.Ordering.{nat_cmp}
 use Rattle.netlink_packet_core.specs.Attributes.{nla_align}
@@ -48,10 +49,12 @@ Learns _ old new = (index : ℕ) → known new index ≡ known old index
 -- The new table is the old one after some messages, in their order.
 abbrev pub LearnsAll : List (NetlinkMessage RouteLink) → Interfaces → Interfaces → Type 0
 LearnsAll [] old new = (index : ℕ) → known new index ≡ known old index
-LearnsAll (m ∷ messages) old new = (between : Interfaces) × Learns m.payload old between × LearnsAll messages between new
+LearnsAll (m ∷ messages) old new = (between : Interfaces) × Learns m.payload old between ×
+    LearnsAll messages between new
 
 -- These are the messages that a capture has before this offset.
 abbrev pub AreMessages : ℕ → List ℕ → List (NetlinkMessage RouteLink) → ℕ → Type 0
 AreMessages limit c [] offset = offset ≡ 0
 AreMessages limit c (m ∷ messages) offset =
-    (n : ℕ) × IsFirstMessage limit c n m × ((left : ℕ) × (offset ≡ nla_align n + left) × AreMessages limit (drop (nla_align n) c) messages left)
+    (n : ℕ) × IsFirstMessage limit c n m ×
+    ((left : ℕ) × (offset ≡ nla_align n + left) × AreMessages limit (drop (nla_align n) c) messages left)

@@ -13,7 +13,14 @@ use Rattle.link_capture.specs.Captures.{IsLegal, texts}
 -- struct nlmsghdr).
 abbrev pub request_text : ℕ → ℕ → TypedBody → List ℕ
 request_text flags sequence_number message =
-    header_text (record { length = 16 + length message.1; message_type = message.0; flags = flags; sequence_number = sequence_number; port_number = 0 })
+    header_text (record {
+      length = 16 + length message.1;
+      message_type = message.0;
+      flags = flags;
+      sequence_number =
+          sequence_number;
+      port_number = 0;
+    })
     ++ message.1
 
 -- The frame of a request to make a link: RTM_NEWLINK, with NLM_F_REQUEST, NLM_F_ACK, NLM_F_EXCL and NLM_F_CREATE.
@@ -28,7 +35,9 @@ IsNormal limit c = IsLegal limit c × (texts limit c ≡ c)
 -- already canonical and has a size that is a multiple of 4.
 abbrev pub NewLinksAreNormal : Type 0
 NewLinksAreNormal =
-    (sequence_number limit : ℕ) (b : List ℕ) → ruled_text link_body b ≡ Ok b → length b % 4 ≡ 0 → 16 + length b < 2 ^ 32 → length (new_link_text sequence_number b) ≤ limit → IsNormal limit (new_link_text sequence_number b)
+    (sequence_number limit : ℕ) (b : List ℕ) → ruled_text link_body b ≡ Ok b → length b % 4 ≡ 0 →
+    16 + length b < 2 ^ 32 → length (new_link_text sequence_number b) ≤ limit →
+    IsNormal limit (new_link_text sequence_number b)
 
 -- The settings of a vxlan: IFLA_VXLAN_ID, IFLA_VXLAN_LEARNING, which is off, and IFLA_VXLAN_PORT, the port of vxlan
 -- (IANA).
@@ -45,7 +54,8 @@ vxlan_info_text vni = list_text (vxlan_info vni)
 
 -- The attributes of a request to make a vxlan: IFLA_IFNAME, IFLA_MTU and IFLA_LINKINFO.
 abbrev pub vxlan_attributes : List ℕ → ℕ → ℕ → List Attribute
-vxlan_attributes name vni mtu = attribute 3 (name ++ 0 ∷ []) ∷ attribute 4 (le4 mtu) ∷ attribute 18 (vxlan_info_text vni) ∷ []
+vxlan_attributes name vni mtu =
+    attribute 3 (name ++ 0 ∷ []) ∷ attribute 4 (le4 mtu) ∷ attribute 18 (vxlan_info_text vni) ∷ []
 
 -- The body of a request to make a vxlan: 16 zeros (rtnetlink.h, struct ifinfomsg), and the attributes.
 abbrev pub vxlan_body : List ℕ → ℕ → ℕ → List ℕ

@@ -12,11 +12,11 @@ pub use link_capture_messages::{
 };
 pub use link_capture_numbers::clear_numbers;
 pub use link_capture_numbers::laws::cleared_captures_have_cleared_texts;
+pub use link_capture_quirks::{CaptureQuirks, Quirk, QuirkAt, quirks};
 pub use link_capture_reader::{
     CaptureReader, DeviceFailed, FirstBytes, ReadSource, Sink, SliceSource, Source, VecSink,
     WriteSink, normalize, normalize_bytes, read_all, read_all_keeping_first, write_all,
 };
-pub use link_capture_refusals::laws::{refused_bodies_have_refusals, refusals_are_independent};
+pub use link_capture_refusals::laws::{refusals_are_independent, refused_bodies_have_refusals};
 pub use link_capture_refusals::{Reason, Refusal, why, why_frame};
-pub use link_capture_quirks::{QuirkAt, Quirk, CaptureQuirks, quirks};
 pub use link_message::laws::equal_texts_mean_equal_messages;

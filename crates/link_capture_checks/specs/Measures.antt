@@ -43,7 +43,8 @@ written (Err why) = []
 
 -- The first frame is accepted, and the vector had less capacity than its text needs.
 abbrev pub LacksCapacity : {Z : Type 0} → ℕ → List ℕ → Vec ℕ Z → Type 0
-LacksCapacity limit c out = (n : ℕ) × (text : List ℕ) × (first_frame limit c ≡ Ok (n, text)) × (vec_capacity out < length out.items + length text)
+LacksCapacity limit c out = (n : ℕ) × (text : List ℕ) × (first_frame limit c ≡ Ok (n, text)) ×
+    (vec_capacity out < length out.items + length text)
 
 -- The measure m is that of a capture up to its first fault.
 pub record IsMeasure (limit : ℕ) (c : List ℕ) (m : Measure) : Type 0 where

@@ -7,7 +7,9 @@ ghost use Rattle.link_capture_checks.specs.Measures.{IsMeasure};
 use crate::frames::measure_frame;
 use crate::texts::Measure;
 use link_capture_grammar::fault::CaptureFault;
-use link_capture_grammar::laws::{captures_are_counted, captures_unfold_by_frames, texts_are_small};
+use link_capture_grammar::laws::{
+    captures_are_counted, captures_unfold_by_frames, texts_are_small,
+};
 use netlink_packet_core::nla_align;
 
 /// Returns the numbers of frames, attributes and bytes of text of a legal capture. `limit` is the

@@ -89,7 +89,13 @@ pub fn measure_frame(bytes: &[u8], limit: u32) -> Result<MeasuredFrame, FaultKin
 
 // Appends the text of the first frame, whose body has one, with this size in its header. `out` must
 // have capacity for it.
-fn write_frame_text(bytes: &[u8], size: u32, is_canonical: bool, canonical_prefix: usize, out: &mut Vec<u8>)
+fn write_frame_text(
+    bytes: &[u8],
+    size: u32,
+    is_canonical: bool,
+    canonical_prefix: usize,
+    out: &mut Vec<u8>,
+)
     requires frame { IsFrame bytes.now }
     requires text { is_ok (body_text (frame_type bytes.now) (frame_body bytes.now)) ≡ true }
     requires canonical { is_canonical ≡ true
@@ -105,7 +111,13 @@ fn write_frame_text(bytes: &[u8], size: u32, is_canonical: bool, canonical_prefi
     append(&size.to_le_bytes(), out);
     append(&bytes[4..NETLINK_HEADER_LEN], out);
     let message_type = NetlinkBuffer::new(bytes).message_type();
-    write_frame_body(message_type, frame_body(bytes), is_canonical, canonical_prefix, out);
+    write_frame_body(
+        message_type,
+        frame_body(bytes),
+        is_canonical,
+        canonical_prefix,
+        out,
+    );
     let size = size as usize;
     append_zeros(nla_align(size) - size, out);
 }

@@ -16,7 +16,8 @@ use crate::frames::{frame_body, measure_frame};
 use arrayvec::ArrayString;
 use link_capture_grammar::fault::CaptureFault;
 use link_capture_grammar::laws::{
-    captures_are_counted, faults_are_at_frames, sameness_unfolds_by_frames, texts_determine_meanings,
+    captures_are_counted, faults_are_at_frames, sameness_unfolds_by_frames,
+    texts_determine_meanings,
 };
 use link_capture_grammar::link_types::{RTM_NEWLINK, RTM_SETLINK};
 use link_message_checks::same as same_link;

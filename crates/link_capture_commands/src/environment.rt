@@ -38,5 +38,8 @@ impl Alloc for ArgumentsAfterName<'_> {
 /// Returns the arguments after the program's name, which itself needn't be UTF-8. Returns None if
 /// an argument isn't UTF-8, or if an allocation fails.
 pub fn arguments(rt: &HostRuntime) -> Option<Vec<String>> {
-    env::args(&ArgumentsAfterName { rt }).ok()?.collect(rt.alloc()).ok()
+    env::args(&ArgumentsAfterName { rt })
+        .ok()?
+        .collect(rt.alloc())
+        .ok()
 }

@@ -18,7 +18,9 @@ done_text b = cond (nat_eq (length b) 0) (Ok (0 ∷ 0 ∷ 0 ∷ 0 ∷ [])) (erro
 
 -- The text of a link's body under a rule.
 abbrev pub ruled_text : Rule → List ℕ → Result (List ℕ) Refusal
-ruled_text r b = cond (r.accepted b) (cond (r.empty_ports b) (Err empty_ports) (cond (r.fits b) (Ok (r.canonical b)) (Err unfit))) (Err refused)
+ruled_text r b =
+    cond (r.accepted b) (cond (r.empty_ports b) (Err empty_ports) (cond (r.fits b) (Ok (r.canonical b)) (Err unfit)))
+    (Err refused)
 
 -- The types 16 to 19, RTM_NEWLINK, RTM_DELLINK, RTM_GETLINK and RTM_SETLINK.
 abbrev pub is_link_type : ℕ → Bool

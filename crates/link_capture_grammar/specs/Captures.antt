@@ -1,11 +1,14 @@
 -- Captures: the first fault with its offset, and the normal text, under a rule of link bodies.
-use Rattle.std.specs.Prelude.{◌≡◌, ℕ, zero, suc, ◌+◌, ◌-◌, ◌%◌, ◌<◌, ◌≤◌, List, [], ◌∷◌, ◌++◌, length, take, drop, ◌⊎◌, Option, None, Some, Result, Ok, Err, nat_lt, cond}
+use Rattle.std.specs.Prelude.{◌≡◌, ℕ, zero, suc, ◌+◌, ◌-◌, ◌%◌, ◌<◌, ◌≤◌, List, [], ◌∷◌, ◌++◌, length, take, drop, ◌⊎◌}
+use Rattle.std.specs.Prelude.{Option, None, Some, Result, Ok, Err, nat_lt, cond}
 use Rattle.netlink_packet_core_grammar.specs.Attributes.{nla_align}
 use Rattle.netlink_packet_core_grammar.specs.Frames.{frame_length, frame_type, frame_body, frame_text}
 use Rattle.attribute_tables_grammar.specs.Rules.{Rule}
 use Rattle.link_message_grammar.specs.Body.{link_body}
 use Rattle.link_capture_grammar.specs.declared.fault.FaultKind.{FaultKind}
-use Rattle.link_capture_grammar.specs.declared.fault.FaultKind.TheVariants.{Cut, ShortLength, OverLimit, Refused, EmptyPorts, Unfit, TextOverLimit, Memory, Read, Write, TooLong, Failed}
+use Rattle.link_capture_grammar.specs.declared.fault.FaultKind.TheVariants.{Cut, ShortLength, OverLimit, Refused}
+use Rattle.link_capture_grammar.specs.declared.fault.FaultKind.TheVariants.{EmptyPorts, Unfit, TextOverLimit, Memory}
+use Rattle.link_capture_grammar.specs.declared.fault.FaultKind.TheVariants.{Read, Write, TooLong, Failed}
 use Rattle.link_capture_grammar.specs.declared.fault.CaptureFault.{CaptureFault}
 use Rattle.link_capture_grammar.specs.Bodies.{Refusal, refused, empty_ports, unfit, body_text_under}
 
@@ -27,7 +30,8 @@ Judged = Result (ℕ × List ℕ) FaultKind
 -- The result for a frame with an intact header, from the result for its body: the text must be within the limit.
 abbrev pub judged_text : ℕ → List ℕ → Result (List ℕ) Refusal → Judged
 judged_text limit c (Err why) = Err (fault_of why)
-judged_text limit c (Ok body) = cond (nat_lt limit (16 + length body)) (Err TextOverLimit) (Ok (frame_length c, frame_text c body))
+judged_text limit c (Ok body) =
+    cond (nat_lt limit (16 + length body)) (Err TextOverLimit) (Ok (frame_length c, frame_text c body))
 
 -- The result for a frame of which `size` bytes are there and whose header has the length length'. The tests are made in
 -- this order.
@@ -40,7 +44,9 @@ checked_header limit size length' judged =
 
 -- The result for the first frame: its length and its text, or its fault.
 unfoldable pub first_frame_under : Rule → ℕ → List ℕ → Judged
-first_frame_under r limit c = checked_header limit (length c) (frame_length c) (judged_text limit c (body_text_under r (frame_type c) (frame_body c)))
+first_frame_under r limit c =
+    checked_header limit (length c) (frame_length c)
+    (judged_text limit c (body_text_under r (frame_type c) (frame_body c)))
 
 -- An accepted frame: its bytes are there, and it has the length in its header, which is within the limit.
 pub record Accepted (limit : ℕ) (c : List ℕ) (frame : ℕ × List ℕ) : Type 0 where
@@ -71,7 +77,8 @@ next_fault (Err kind) after = Some (record { kind = kind; offset = 0 })
 unfoldable pub fault_after_under : Rule → ℕ → ℕ → List ℕ → Option CaptureFault
 fault_after_under r limit skip [] = None
 fault_after_under r limit (suc skip) (b ∷ c) = shifted 1 (fault_after_under r limit skip c)
-fault_after_under r limit zero (b ∷ c) = next_fault (first_frame_under r limit (b ∷ c)) (λ skip. fault_after_under r limit skip c)
+fault_after_under r limit zero (b ∷ c) =
+    next_fault (first_frame_under r limit (b ∷ c)) (λ skip. fault_after_under r limit skip c)
 
 -- The texts of a capture, from the result for its first frame and the texts of the bytes after it.
 abbrev pub next_texts : Judged → (ℕ → List ℕ) → List ℕ
@@ -82,7 +89,8 @@ next_texts (Err kind) after = []
 unfoldable pub texts_after_under : Rule → ℕ → ℕ → List ℕ → List ℕ
 texts_after_under r limit skip [] = []
 texts_after_under r limit (suc skip) (b ∷ c) = texts_after_under r limit skip c
-texts_after_under r limit zero (b ∷ c) = next_texts (first_frame_under r limit (b ∷ c)) (λ skip. texts_after_under r limit skip c)
+texts_after_under r limit zero (b ∷ c) =
+    next_texts (first_frame_under r limit (b ∷ c)) (λ skip. texts_after_under r limit skip c)
 
 -- The first fault of a capture with its offset.
 abbrev pub first_fault_under : Rule → ℕ → List ℕ → Option CaptureFault

@@ -1,5 +1,6 @@
 -- The laws of captures under a rule of link bodies, as the functions of `laws` state them.
-use Rattle.std.specs.Prelude.{◌≡◌, ◌≢◌, ℕ, ◌+◌, ◌*◌, ◌%◌, ◌^◌, ◌<◌, ◌≤◌, ◌↔◌, ◌⊎◌, true, false, List, [], ◌++◌, length, take, drop, None, Some, Ok, Err}
+use Rattle.std.specs.Prelude.{◌≡◌, ◌≢◌, ℕ, ◌+◌, ◌*◌, ◌%◌, ◌^◌, ◌<◌, ◌≤◌, ◌↔◌, ◌⊎◌, true, false, List, [], ◌++◌, length}
+use Rattle.std.specs.Prelude.{take, drop, None, Some, Ok, Err}
 use Rattle.netlink_packet_core_grammar.specs.Attributes.{Attribute, nla_align}
 use Rattle.netlink_packet_core_grammar.specs.Frames.{IsFrame, frame_length, frame_type, frame_body, frame_text}
 use Rattle.attribute_tables_grammar.specs.Rules.{Rule, Lawful, Migrates}
@@ -10,7 +11,9 @@ use Rattle.link_capture_grammar.specs.declared.fault.FaultKind.{FaultKind}
 use Rattle.link_capture_grammar.specs.declared.fault.CaptureFault.{CaptureFault}
 use Rattle.link_capture_grammar.specs.declared.fault.FaultKind.TheVariants.{Cut, Unfit, TextOverLimit}
 use Rattle.link_capture_grammar.specs.Bodies.{body_text_under, is_link_type}
-use Rattle.link_capture_grammar.specs.Captures.{Judged, Accepted, CutInBody, text_or_fault, checked_header, first_frame, first_frame_under, first_fault_under, texts_under, shifted, reach_under, IsLegalUnder, IsOfFrames}
+use Rattle.link_capture_grammar.specs.Captures.{Judged, Accepted, CutInBody, text_or_fault, checked_header, first_frame}
+use Rattle.link_capture_grammar.specs.Captures.{first_frame_under, first_fault_under, texts_under, shifted, reach_under}
+use Rattle.link_capture_grammar.specs.Captures.{IsLegalUnder, IsOfFrames}
 use Rattle.link_capture_grammar.specs.Numbers.{frame_attributes_under, frames_under, attributes_under}
 use Rattle.link_capture_grammar.specs.Same.{same_body_under, SameFrameUnder, SameCaptureUnder}
 use Rattle.link_capture_grammar.specs.Unlisted.{HoldsUnlisted, KeepsUnlisted}
@@ -25,34 +28,42 @@ TextsAreLegal r = (limit : ℕ) (c : List ℕ) → IsLimit limit → IsLegalUnde
 
 -- The texts of any bytes are already canonical.
 abbrev pub TextsAreNormal : Rule → Type 0
-TextsAreNormal r = (limit : ℕ) (c : List ℕ) → IsLimit limit → texts_under r limit (texts_under r limit c) ≡ texts_under r limit c
+TextsAreNormal r = (limit : ℕ) (c : List ℕ) → IsLimit limit →
+    texts_under r limit (texts_under r limit c) ≡ texts_under r limit c
 
 -- If a capture is legal under an old rule and a new one, its text under the old rule is legal under the new one, and
 -- the text of that under the new rule is the capture's text under the new rule.
 abbrev pub TextsAreMigrated : Rule → Rule → Type 0
-TextsAreMigrated old new = (limit : ℕ) (c : List ℕ) → IsLimit limit → IsLegalUnder old limit c → IsLegalUnder new limit c →
-    IsLegalUnder new limit (texts_under old limit c) × (texts_under new limit (texts_under old limit c) ≡ texts_under new limit c)
+TextsAreMigrated old new = (limit : ℕ) (c : List ℕ) → IsLimit limit → IsLegalUnder old limit c →
+    IsLegalUnder new limit c →
+    IsLegalUnder new limit (texts_under old limit c) ×
+    (texts_under new limit (texts_under old limit c) ≡ texts_under new limit c)
 
 -- The first fault of a legal capture whose size is a multiple of 4, followed by b, is that of b, its offset increased
 -- by that size.
 abbrev pub JoinedFaults : Rule → Type 0
-JoinedFaults r = (limit : ℕ) (a b : List ℕ) → IsLegalUnder r limit a → length a % 4 ≡ 0 → first_fault_under r limit (a ++ b) ≡ shifted (length a) (first_fault_under r limit b)
+JoinedFaults r = (limit : ℕ) (a b : List ℕ) → IsLegalUnder r limit a → length a % 4 ≡ 0 →
+    first_fault_under r limit (a ++ b) ≡ shifted (length a) (first_fault_under r limit b)
 
 -- A legal capture whose size is a multiple of 4, followed by b, is legal if and only if b is.
 abbrev pub JoinedLegal : Rule → Type 0
-JoinedLegal r = (limit : ℕ) (a b : List ℕ) → IsLegalUnder r limit a → length a % 4 ≡ 0 → IsLegalUnder r limit (a ++ b) ↔ IsLegalUnder r limit b
+JoinedLegal r = (limit : ℕ) (a b : List ℕ) → IsLegalUnder r limit a → length a % 4 ≡ 0 →
+    IsLegalUnder r limit (a ++ b) ↔ IsLegalUnder r limit b
 
 -- The texts of a legal capture whose size is a multiple of 4, followed by b, are the texts of both joined.
 abbrev pub JoinedTexts : Rule → Type 0
-JoinedTexts r = (limit : ℕ) (a b : List ℕ) → IsLegalUnder r limit a → length a % 4 ≡ 0 → texts_under r limit (a ++ b) ≡ texts_under r limit a ++ texts_under r limit b
+JoinedTexts r = (limit : ℕ) (a b : List ℕ) → IsLegalUnder r limit a → length a % 4 ≡ 0 →
+    texts_under r limit (a ++ b) ≡ texts_under r limit a ++ texts_under r limit b
 
 -- A first fault of a prefix, other than a cut frame, is that of the whole.
 abbrev pub PrefixFaults : Rule → Type 0
-PrefixFaults r = (limit : ℕ) (a b : List ℕ) (fault : CaptureFault) → first_fault_under r limit a ≡ Some fault → fault.kind ≢ Cut → first_fault_under r limit (a ++ b) ≡ Some fault
+PrefixFaults r = (limit : ℕ) (a b : List ℕ) (fault : CaptureFault) → first_fault_under r limit a ≡ Some fault →
+    fault.kind ≢ Cut → first_fault_under r limit (a ++ b) ≡ Some fault
 
 -- The texts of a prefix are a prefix of the texts of the whole.
 abbrev pub PrefixTexts : Rule → Type 0
-PrefixTexts r = (limit : ℕ) (a b : List ℕ) → (rest : List ℕ) × (texts_under r limit (a ++ b) ≡ texts_under r limit a ++ rest)
+PrefixTexts r = (limit : ℕ) (a b : List ℕ) →
+    (rest : List ℕ) × (texts_under r limit (a ++ b) ≡ texts_under r limit a ++ rest)
 
 -- Texts are at most 77 times as long as the capture.
 abbrev pub TextsAreSmall : Rule → Type 0
@@ -60,7 +71,8 @@ TextsAreSmall r = (limit : ℕ) (c : List ℕ) → length (texts_under r limit c
 
 -- A first fault is inside the capture, at a multiple of 4, and is of a kind that a frame can have.
 abbrev pub FaultsAreAtFrames : Rule → Type 0
-FaultsAreAtFrames r = (limit : ℕ) (c : List ℕ) (fault : CaptureFault) → first_fault_under r limit c ≡ Some fault → (fault.offset < length c) × (fault.offset % 4 ≡ 0) × IsOfFrames fault.kind
+FaultsAreAtFrames r = (limit : ℕ) (c : List ℕ) (fault : CaptureFault) → first_fault_under r limit c ≡ Some fault →
+    (fault.offset < length c) × (fault.offset % 4 ≡ 0) × IsOfFrames fault.kind
 
 -- The text of a body is already canonical.
 abbrev pub BodiesAreNormal : Rule → Type 0
@@ -68,24 +80,30 @@ BodiesAreNormal r = (t : ℕ) (b text : List ℕ) → body_text_under r t b ≡ 
 
 -- A legal capture and its normal text mean the same.
 abbrev pub TextsMeanTheSame : Rule → Type 0
-TextsMeanTheSame r = (limit : ℕ) (c : List ℕ) → IsLimit limit → IsLegalUnder r limit c → SameCaptureUnder r limit c (texts_under r limit c)
+TextsMeanTheSame r = (limit : ℕ) (c : List ℕ) → IsLimit limit → IsLegalUnder r limit c →
+    SameCaptureUnder r limit c (texts_under r limit c)
 
 -- Captures mean the same if and only if they are legal and their normal texts are equal.
 pub record TextsDetermineMeanings (r : Rule) : Type 0 where
-  pub same_implies_equal_text : (limit : ℕ) (a b : List ℕ) → SameCaptureUnder r limit a b → texts_under r limit a ≡ texts_under r limit b
-  pub equal_text_implies_same : (limit : ℕ) (a b : List ℕ) → IsLimit limit → IsLegalUnder r limit a → IsLegalUnder r limit b → texts_under r limit a ≡ texts_under r limit b → SameCaptureUnder r limit a b
+  pub same_implies_equal_text : (limit : ℕ) (a b : List ℕ) → SameCaptureUnder r limit a b →
+      texts_under r limit a ≡ texts_under r limit b
+  pub equal_text_implies_same : (limit : ℕ) (a b : List ℕ) → IsLimit limit → IsLegalUnder r limit a →
+      IsLegalUnder r limit b → texts_under r limit a ≡ texts_under r limit b → SameCaptureUnder r limit a b
   -- so equivalence is reflexive on legal captures, symmetric and transitive
   pub reflexive : (limit : ℕ) (a : List ℕ) → IsLimit limit → IsLegalUnder r limit a → SameCaptureUnder r limit a a
   pub symmetric : (limit : ℕ) (a b : List ℕ) → SameCaptureUnder r limit a b → SameCaptureUnder r limit b a
-  pub transitive : (limit : ℕ) (a b c : List ℕ) → SameCaptureUnder r limit a b → SameCaptureUnder r limit b c → SameCaptureUnder r limit a c
+  pub transitive : (limit : ℕ) (a b c : List ℕ) → SameCaptureUnder r limit a b → SameCaptureUnder r limit b c →
+      SameCaptureUnder r limit a c
 
 -- Two bodies of a type that have texts mean the same if and only if these texts are equal.
 abbrev pub BodiesDetermineMeanings : Rule → Type 0
-BodiesDetermineMeanings r = (t : ℕ) (a b x y : List ℕ) → body_text_under r t a ≡ Ok x → body_text_under r t b ≡ Ok y → (same_body_under r t a b ≡ true) ↔ (x ≡ y)
+BodiesDetermineMeanings r = (t : ℕ) (a b x y : List ℕ) → body_text_under r t a ≡ Ok x → body_text_under r t b ≡ Ok y →
+    (same_body_under r t a b ≡ true) ↔ (x ≡ y)
 
 -- Captures that mean the same are legal.
 abbrev pub SameAreLegal : Rule → Type 0
-SameAreLegal r = (limit : ℕ) (a b : List ℕ) → SameCaptureUnder r limit a b → IsLegalUnder r limit a × IsLegalUnder r limit b
+SameAreLegal r = (limit : ℕ) (a b : List ℕ) → SameCaptureUnder r limit a b →
+    IsLegalUnder r limit a × IsLegalUnder r limit b
 
 -- The first frame of c is legal: it is whole, its body has a text, and if it is a link's, the body has a header.
 pub record LegalFrameUnder (r : Rule) (limit : ℕ) (c : List ℕ) : Type 0 where
@@ -105,15 +123,20 @@ NeedsHeaders r = (b : List ℕ) → r.accepted b ≡ true → 16 ≤ length b
 -- Equivalence of captures is decided frame by frame.
 pub record SamenessUnfoldsByFrames (r : Rule) : Type 0 where
   -- an accepted frame is legal
-  pub judged : (limit : ℕ) (c : List ℕ) (frame : ℕ × List ℕ) → first_frame_under r limit c ≡ Ok frame → LegalFrameUnder r limit c
+  pub judged : (limit : ℕ) (c : List ℕ) (frame : ℕ × List ℕ) → first_frame_under r limit c ≡ Ok frame →
+      LegalFrameUnder r limit c
   -- a legal capture that isn't empty begins with a legal frame, and the bytes after that are a legal capture
   pub leading : (limit : ℕ) (c : List ℕ) → IsLegalUnder r limit c → 0 < length c → LegalFrameUnder r limit c
-  pub following : (limit : ℕ) (c : List ℕ) → IsLegalUnder r limit c → LegalFrameUnder r limit c → IsLegalUnder r limit (drop (nla_align (frame_length c)) c)
+  pub following : (limit : ℕ) (c : List ℕ) → IsLegalUnder r limit c → LegalFrameUnder r limit c →
+      IsLegalUnder r limit (drop (nla_align (frame_length c)) c)
   pub more : (limit : ℕ) (a b : List ℕ) → LegalFrameUnder r limit a → LegalFrameUnder r limit b → SameFrameUnder r a b →
-      SameCaptureUnder r limit (drop (nla_align (frame_length a)) a) (drop (nla_align (frame_length b)) b) ↔ SameCaptureUnder r limit a b
+      SameCaptureUnder r limit (drop (nla_align (frame_length a)) a) (drop (nla_align (frame_length b)) b) ↔
+      SameCaptureUnder r limit a b
   -- a frame with the bytes of a legal frame is legal, and means the same
-  pub equal : (limit : ℕ) (a b : List ℕ) → LegalFrameUnder r limit a → take (frame_length a) b ≡ take (frame_length a) a → LegalFrameUnder r limit b × SameFrameUnder r a b
-  pub differs : (limit : ℕ) (a b : List ℕ) → LegalFrameUnder r limit a → LegalFrameUnder r limit b → SameCaptureUnder r limit a b → SameFrameUnder r a b
+  pub equal : (limit : ℕ) (a b : List ℕ) → LegalFrameUnder r limit a →
+      take (frame_length a) b ≡ take (frame_length a) a → LegalFrameUnder r limit b × SameFrameUnder r a b
+  pub differs : (limit : ℕ) (a b : List ℕ) → LegalFrameUnder r limit a → LegalFrameUnder r limit b →
+      SameCaptureUnder r limit a b → SameFrameUnder r a b
   pub ended : (limit : ℕ) (a b : List ℕ) → length a ≡ 0 → length b ≡ 0 → SameCaptureUnder r limit a b
   pub left_longer : (limit : ℕ) (a b : List ℕ) → 0 < length a → length b ≡ 0 → SameCaptureUnder r limit a b → ⊥
   pub right_longer : (limit : ℕ) (a b : List ℕ) → length a ≡ 0 → 0 < length b → SameCaptureUnder r limit a b → ⊥
@@ -128,19 +151,27 @@ pub record IsBodyKept (t : ℕ) (b : List ℕ) : Type 0 where
 -- What the text of a legal frame keeps of the frame.
 pub record TextsKeepFrames (r : Rule) : Type 0 where
   -- its type, flags, sequence number and port number, the bytes 4 to 16
-  pub header : (limit : ℕ) (c : List ℕ) (frame : ℕ × List ℕ) → first_frame_under r limit c ≡ Ok frame → take 12 (drop 4 frame.1) ≡ take 12 (drop 4 c)
+  pub header : (limit : ℕ) (c : List ℕ) (frame : ℕ × List ℕ) → first_frame_under r limit c ≡ Ok frame →
+      take 12 (drop 4 frame.1) ≡ take 12 (drop 4 c)
   -- its length and its body, if `IsBodyKept`
-  pub length : (limit : ℕ) (c : List ℕ) (frame : ℕ × List ℕ) → IsLimit limit → IsBodyKept (frame_type c) (frame_body c) → first_frame_under r limit c ≡ Ok frame → frame_length frame.1 ≡ frame_length c
-  pub body : (limit : ℕ) (c : List ℕ) (frame : ℕ × List ℕ) → IsLimit limit → IsBodyKept (frame_type c) (frame_body c) → first_frame_under r limit c ≡ Ok frame → frame_body frame.1 ≡ frame_body c
+  pub length : (limit : ℕ) (c : List ℕ) (frame : ℕ × List ℕ) → IsLimit limit →
+      IsBodyKept (frame_type c) (frame_body c) → first_frame_under r limit c ≡ Ok frame →
+      frame_length frame.1 ≡ frame_length c
+  pub body : (limit : ℕ) (c : List ℕ) (frame : ℕ × List ℕ) → IsLimit limit → IsBodyKept (frame_type c) (frame_body c) →
+      first_frame_under r limit c ≡ Ok frame → frame_body frame.1 ≡ frame_body c
   -- for a link the rule accepts the body, and the text has the canonical text of the body
-  pub link : (limit : ℕ) (c : List ℕ) (frame : ℕ × List ℕ) → IsLimit limit → is_link_type (frame_type c) ≡ true → first_frame_under r limit c ≡ Ok frame → (r.accepted (frame_body c) ≡ true) × (frame_body frame.1 ≡ r.canonical (frame_body c))
+  pub link : (limit : ℕ) (c : List ℕ) (frame : ℕ × List ℕ) → IsLimit limit → is_link_type (frame_type c) ≡ true →
+      first_frame_under r limit c ≡ Ok frame →
+      (r.accepted (frame_body c) ≡ true) × (frame_body frame.1 ≡ r.canonical (frame_body c))
 
 -- A frame of at most 883 bytes, of any type, is never refused because of the lengths in its text: those inside fit, and
 -- the text is within a limit of 65559 or more. 883 is the sum of two headers of 16 bytes, the frame's and a link
 -- body's, and 851 bytes of attributes. 65559 is the sum of the same headers and 65527 bytes, 77 times as many, which a
 -- length of 2 bytes can hold.
 abbrev pub SmallFramesFit : Type 0
-SmallFramesFit = (p : Peer) → LawfulPeer p → (limit : ℕ) (c : List ℕ) → 65559 ≤ limit → frame_length c ≤ 883 → (first_frame_under (body_rule p) limit c ≢ Err Unfit) × (first_frame_under (body_rule p) limit c ≢ Err TextOverLimit)
+SmallFramesFit = (p : Peer) → LawfulPeer p → (limit : ℕ) (c : List ℕ) → 65559 ≤ limit → frame_length c ≤ 883 →
+    (first_frame_under (body_rule p) limit c ≢ Err Unfit) ×
+    (first_frame_under (body_rule p) limit c ≢ Err TextOverLimit)
 
 -- Normal texts of older versions are migrated.
 pub record OldCapturesAreMigrated : Type 0 where
@@ -152,67 +183,96 @@ pub record OldCapturesAreMigrated : Type 0 where
 -- An attribute that no table lists is kept with its kind, flag bits and payload.
 pub record UnlistedAttributesAreKept : Type 0 where
   -- in the text of an accepted list
-  pub of_lists : (depth : ℕ) (form : ListForm) (g : Grammar) (bytes : List ℕ) (e : Attribute) → LawfulGrammar g → (list_rule form g).accepted bytes ≡ true →
+  pub of_lists : (depth : ℕ) (form : ListForm) (g : Grammar) (bytes : List ℕ) (e : Attribute) → LawfulGrammar g →
+      (list_rule form g).accepted bytes ≡ true →
       HoldsUnlisted depth form g bytes e → HoldsUnlisted depth form g ((list_rule form g).canonical bytes) e
   -- in the text of a link's frame
-  pub of_frames : (limit : ℕ) (c : List ℕ) (frame : ℕ × List ℕ) → IsLimit limit → is_link_type (frame_type c) ≡ true → first_frame limit c ≡ Ok frame →
+  pub of_frames : (limit : ℕ) (c : List ℕ) (frame : ℕ × List ℕ) → IsLimit limit → is_link_type (frame_type c) ≡ true →
+      first_frame limit c ≡ Ok frame →
       KeepsUnlisted attribute_row (frame_body c) (frame_body frame.1)
   -- the same under every lawful rule of peers, by its rows
-  pub of_frames_under : (p : Peer) → LawfulPeer p → (limit : ℕ) (c : List ℕ) (frame : ℕ × List ℕ) → IsLimit limit → is_link_type (frame_type c) ≡ true → first_frame_under (body_rule p) limit c ≡ Ok frame →
+  pub of_frames_under : (p : Peer) → LawfulPeer p → (limit : ℕ) (c : List ℕ) (frame : ℕ × List ℕ) → IsLimit limit →
+      is_link_type (frame_type c) ≡ true → first_frame_under (body_rule p) limit c ≡ Ok frame →
       KeepsUnlisted (attribute_row_under p) (frame_body c) (frame_body frame.1)
 
 -- The result for a frame depends only on the frame's bytes.
 pub record FramesAreIndependent (r : Rule) : Type 0 where
   -- an accepted frame has the length in its header
-  pub accepted : (limit : ℕ) (c : List ℕ) (frame : ℕ × List ℕ) → first_frame_under r limit c ≡ Ok frame → Accepted limit c frame
+  pub accepted : (limit : ℕ) (c : List ℕ) (frame : ℕ × List ℕ) → first_frame_under r limit c ≡ Ok frame →
+      Accepted limit c frame
   -- a cut frame has no whole header, or fewer bytes than the length in its header
   pub cut : (limit : ℕ) (c : List ℕ) → first_frame_under r limit c ≡ Err Cut → (length c < 16) ⊎ CutInBody limit c
   -- if a frame isn't cut, appended bytes don't change its result
-  pub unchanged_by_more : (limit : ℕ) (c more : List ℕ) → first_frame_under r limit c ≢ Err Cut → first_frame_under r limit (c ++ more) ≡ first_frame_under r limit c
+  pub unchanged_by_more : (limit : ℕ) (c more : List ℕ) → first_frame_under r limit c ≢ Err Cut →
+      first_frame_under r limit (c ++ more) ≡ first_frame_under r limit c
 
 -- A capture is judged and written frame by frame.
 pub record CapturesUnfoldByFrames (r : Rule) : Type 0 where
   -- an accepted frame with nothing after it but its padding, or a part of that, is legal, and the capture has the
   -- frame's text
-  pub one_legal : (limit : ℕ) (c : List ℕ) (frame : ℕ × List ℕ) → first_frame_under r limit c ≡ Ok frame → IsLegalUnder r limit (take (nla_align frame.0) c)
-  pub one_frame_text : (limit : ℕ) (c : List ℕ) (frame : ℕ × List ℕ) → first_frame_under r limit c ≡ Ok frame → texts_under r limit (take (nla_align frame.0) c) ≡ frame.1
+  pub one_legal : (limit : ℕ) (c : List ℕ) (frame : ℕ × List ℕ) → first_frame_under r limit c ≡ Ok frame →
+      IsLegalUnder r limit (take (nla_align frame.0) c)
+  pub one_frame_text : (limit : ℕ) (c : List ℕ) (frame : ℕ × List ℕ) → first_frame_under r limit c ≡ Ok frame →
+      texts_under r limit (take (nla_align frame.0) c) ≡ frame.1
   -- a fault of the first frame is the first fault, and there is no text before it
-  pub first_frame_fault : (limit : ℕ) (c : List ℕ) (kind : FaultKind) → 0 < length c → first_frame_under r limit c ≡ Err kind → first_fault_under r limit c ≡ Some (record { kind = kind; offset = 0 })
-  pub first_frame_texts : (limit : ℕ) (c : List ℕ) (kind : FaultKind) → first_frame_under r limit c ≡ Err kind → texts_under r limit c ≡ []
+  pub first_frame_fault : (limit : ℕ) (c : List ℕ) (kind : FaultKind) → 0 < length c →
+      first_frame_under r limit c ≡ Err kind → first_fault_under r limit c ≡ Some (record { kind = kind; offset = 0 })
+  pub first_frame_texts : (limit : ℕ) (c : List ℕ) (kind : FaultKind) → first_frame_under r limit c ≡ Err kind →
+      texts_under r limit c ≡ []
   -- the frame at the offset of the first fault has that fault
-  pub fault_there : (limit : ℕ) (c : List ℕ) (fault : CaptureFault) → first_fault_under r limit c ≡ Some fault → first_frame_under r limit (drop fault.offset c) ≡ Err fault.kind
+  pub fault_there : (limit : ℕ) (c : List ℕ) (fault : CaptureFault) → first_fault_under r limit c ≡ Some fault →
+      first_frame_under r limit (drop fault.offset c) ≡ Err fault.kind
   -- whole frames reach to a multiple of 4
   pub reach_start : (limit : ℕ) (c : List ℕ) → reach_under r limit c % 4 ≡ 0
   -- the bytes before that offset are legal and have these texts, whatever follows
   pub reach_legal : (limit : ℕ) (c more : List ℕ) → IsLegalUnder r limit (take (reach_under r limit c) (c ++ more))
-  pub reach_texts : (limit : ℕ) (c more : List ℕ) → texts_under r limit (take (reach_under r limit c) (c ++ more)) ≡ texts_under r limit c
+  pub reach_texts : (limit : ℕ) (c more : List ℕ) →
+      texts_under r limit (take (reach_under r limit c) (c ++ more)) ≡ texts_under r limit c
   -- the bytes after that offset are judged and written independently
-  pub rest_fault : (limit : ℕ) (c more : List ℕ) → first_fault_under r limit (c ++ more) ≡ shifted (reach_under r limit c) (first_fault_under r limit (drop (reach_under r limit c) (c ++ more)))
-  pub rest_texts : (limit : ℕ) (c more : List ℕ) → texts_under r limit (c ++ more) ≡ texts_under r limit c ++ texts_under r limit (drop (reach_under r limit c) (c ++ more))
+  pub rest_fault : (limit : ℕ) (c more : List ℕ) →
+      first_fault_under r limit (c ++ more) ≡
+      shifted (reach_under r limit c) (first_fault_under r limit (drop (reach_under r limit c) (c ++ more)))
+  pub rest_texts : (limit : ℕ) (c more : List ℕ) →
+      texts_under r limit (c ++ more) ≡
+      texts_under r limit c ++ texts_under r limit (drop (reach_under r limit c) (c ++ more))
 
 -- The first frame is judged by its header, then by its body, then by the size of its text.
 pub record FramesAreJudged (r : Rule) : Type 0 where
-  pub header : (limit : ℕ) (c : List ℕ) (kind : FaultKind) → ((judged : Judged) → checked_header limit (length c) (frame_length c) judged ≡ Err kind) → first_frame_under r limit c ≡ Err kind
-  pub body : (limit : ℕ) (c : List ℕ) (kind : FaultKind) → IsFrame c → frame_length c ≤ limit → text_or_fault (body_text_under r (frame_type c) (frame_body c)) ≡ Err kind → first_frame_under r limit c ≡ Err kind
-  pub over : (limit : ℕ) (c text : List ℕ) → IsFrame c → frame_length c ≤ limit → body_text_under r (frame_type c) (frame_body c) ≡ Ok text → limit < 16 + length text → first_frame_under r limit c ≡ Err TextOverLimit
-  pub ok : (limit : ℕ) (c text : List ℕ) → IsFrame c → frame_length c ≤ limit → body_text_under r (frame_type c) (frame_body c) ≡ Ok text → 16 + length text ≤ limit → first_frame_under r limit c ≡ Ok (frame_length c, frame_text c text)
+  pub header : (limit : ℕ) (c : List ℕ) (kind : FaultKind) →
+      ((judged : Judged) → checked_header limit (length c) (frame_length c) judged ≡ Err kind) →
+      first_frame_under r limit c ≡ Err kind
+  pub body : (limit : ℕ) (c : List ℕ) (kind : FaultKind) → IsFrame c → frame_length c ≤ limit →
+      text_or_fault (body_text_under r (frame_type c) (frame_body c)) ≡ Err kind →
+      first_frame_under r limit c ≡ Err kind
+  pub over : (limit : ℕ) (c text : List ℕ) → IsFrame c → frame_length c ≤ limit →
+      body_text_under r (frame_type c) (frame_body c) ≡ Ok text → limit < 16 + length text →
+      first_frame_under r limit c ≡ Err TextOverLimit
+  pub ok : (limit : ℕ) (c text : List ℕ) → IsFrame c → frame_length c ≤ limit →
+      body_text_under r (frame_type c) (frame_body c) ≡ Ok text → 16 + length text ≤ limit →
+      first_frame_under r limit c ≡ Ok (frame_length c, frame_text c text)
   -- the text of a frame is its header, the body's text, and padding
   pub size : (c text : List ℕ) → 16 ≤ length c → length (frame_text c text) ≡ nla_align (16 + length text)
 
 -- Frames, attributes and texts of a capture are counted frame by frame.
 pub record CapturesAreCounted (r : Rule) : Type 0 where
   -- after an accepted frame and its padding, or at the end
-  pub next_fault : (limit start : ℕ) (c : List ℕ) (frame : ℕ × List ℕ) → first_frame_under r limit c ≡ Ok frame → shifted start (first_fault_under r limit c) ≡ shifted (start + nla_align frame.0) (first_fault_under r limit (drop (nla_align frame.0) c))
-  pub next_text : (limit : ℕ) (c : List ℕ) (frame : ℕ × List ℕ) → first_frame_under r limit c ≡ Ok frame → texts_under r limit c ≡ frame.1 ++ texts_under r limit (drop (nla_align frame.0) c)
-  pub next_frames : (limit : ℕ) (c : List ℕ) (frame : ℕ × List ℕ) → first_frame_under r limit c ≡ Ok frame → frames_under r limit c ≡ 1 + frames_under r limit (drop (nla_align frame.0) c)
-  pub next_attributes : (limit : ℕ) (c : List ℕ) (frame : ℕ × List ℕ) → first_frame_under r limit c ≡ Ok frame → attributes_under r limit c ≡ frame_attributes_under r c + attributes_under r limit (drop (nla_align frame.0) c)
+  pub next_fault : (limit start : ℕ) (c : List ℕ) (frame : ℕ × List ℕ) → first_frame_under r limit c ≡ Ok frame →
+      shifted start (first_fault_under r limit c) ≡
+      shifted (start + nla_align frame.0) (first_fault_under r limit (drop (nla_align frame.0) c))
+  pub next_text : (limit : ℕ) (c : List ℕ) (frame : ℕ × List ℕ) → first_frame_under r limit c ≡ Ok frame →
+      texts_under r limit c ≡ frame.1 ++ texts_under r limit (drop (nla_align frame.0) c)
+  pub next_frames : (limit : ℕ) (c : List ℕ) (frame : ℕ × List ℕ) → first_frame_under r limit c ≡ Ok frame →
+      frames_under r limit c ≡ 1 + frames_under r limit (drop (nla_align frame.0) c)
+  pub next_attributes : (limit : ℕ) (c : List ℕ) (frame : ℕ × List ℕ) → first_frame_under r limit c ≡ Ok frame →
+      attributes_under r limit c ≡ frame_attributes_under r c + attributes_under r limit (drop (nla_align frame.0) c)
   -- an empty capture
   pub no_fault : (limit : ℕ) → first_fault_under r limit [] ≡ None
   pub no_text : (limit : ℕ) → texts_under r limit [] ≡ []
   pub no_frames : (limit : ℕ) → frames_under r limit [] ≡ 0
   pub no_attributes : (limit : ℕ) → attributes_under r limit [] ≡ 0
   -- an attribute has at least 4 bytes
-  pub frame_counted : (limit : ℕ) (c : List ℕ) (frame : ℕ × List ℕ) → first_frame_under r limit c ≡ Ok frame → 4 * frame_attributes_under r c ≤ frame.0
+  pub frame_counted : (limit : ℕ) (c : List ℕ) (frame : ℕ × List ℕ) → first_frame_under r limit c ≡ Ok frame →
+      4 * frame_attributes_under r c ≤ frame.0
   pub counted : (limit : ℕ) (c : List ℕ) → 4 * attributes_under r limit c ≤ length c
 
 -- Two captures have the same first n bytes, and the same bytes after the padding of these: they may differ in that
@@ -223,11 +283,16 @@ pub record DifferInPadding (n : ℕ) (c d : List ℕ) : Type 0 where
 
 -- The padding after an accepted frame changes no result.
 pub record PaddingIsIgnored (r : Rule) : Type 0 where
-  pub frame : (limit : ℕ) (c d : List ℕ) (frame : ℕ × List ℕ) → first_frame_under r limit c ≡ Ok frame → DifferInPadding frame.0 c d → first_frame_under r limit d ≡ Ok frame
-  pub fault : (limit : ℕ) (c d : List ℕ) (frame : ℕ × List ℕ) → first_frame_under r limit c ≡ Ok frame → DifferInPadding frame.0 c d → first_fault_under r limit d ≡ first_fault_under r limit c
-  pub texts : (limit : ℕ) (c d : List ℕ) (frame : ℕ × List ℕ) → first_frame_under r limit c ≡ Ok frame → DifferInPadding frame.0 c d → texts_under r limit d ≡ texts_under r limit c
-  pub frames : (limit : ℕ) (c d : List ℕ) (frame : ℕ × List ℕ) → first_frame_under r limit c ≡ Ok frame → DifferInPadding frame.0 c d → frames_under r limit d ≡ frames_under r limit c
-  pub attributes : (limit : ℕ) (c d : List ℕ) (frame : ℕ × List ℕ) → first_frame_under r limit c ≡ Ok frame → DifferInPadding frame.0 c d → attributes_under r limit d ≡ attributes_under r limit c
+  pub frame : (limit : ℕ) (c d : List ℕ) (frame : ℕ × List ℕ) → first_frame_under r limit c ≡ Ok frame →
+      DifferInPadding frame.0 c d → first_frame_under r limit d ≡ Ok frame
+  pub fault : (limit : ℕ) (c d : List ℕ) (frame : ℕ × List ℕ) → first_frame_under r limit c ≡ Ok frame →
+      DifferInPadding frame.0 c d → first_fault_under r limit d ≡ first_fault_under r limit c
+  pub texts : (limit : ℕ) (c d : List ℕ) (frame : ℕ × List ℕ) → first_frame_under r limit c ≡ Ok frame →
+      DifferInPadding frame.0 c d → texts_under r limit d ≡ texts_under r limit c
+  pub frames : (limit : ℕ) (c d : List ℕ) (frame : ℕ × List ℕ) → first_frame_under r limit c ≡ Ok frame →
+      DifferInPadding frame.0 c d → frames_under r limit d ≡ frames_under r limit c
+  pub attributes : (limit : ℕ) (c d : List ℕ) (frame : ℕ × List ℕ) → first_frame_under r limit c ≡ Ok frame →
+      DifferInPadding frame.0 c d → attributes_under r limit d ≡ attributes_under r limit c
 
 -- The laws under one rule of link bodies. That of old captures isn't among them, as it is about two rules, nor are
 -- those of unlisted attributes and small frames, which are about tables.

@@ -25,7 +25,8 @@ next_sum (Err kind) here after = 0
 unfoldable pub sum_after_under : Rule → (List ℕ → ℕ) → ℕ → ℕ → List ℕ → ℕ
 sum_after_under r number limit skip [] = 0
 sum_after_under r number limit (suc skip) (b ∷ c) = sum_after_under r number limit skip c
-sum_after_under r number limit zero (b ∷ c) = next_sum (first_frame_under r limit (b ∷ c)) (number (b ∷ c)) (λ skip. sum_after_under r number limit skip c)
+sum_after_under r number limit zero (b ∷ c) =
+    next_sum (first_frame_under r limit (b ∷ c)) (number (b ∷ c)) (λ skip. sum_after_under r number limit skip c)
 
 -- The number of frames before the first fault.
 abbrev pub frames_under : Rule → ℕ → List ℕ → ℕ

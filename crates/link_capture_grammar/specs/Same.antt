@@ -1,5 +1,6 @@
 -- When two captures mean the same, under a rule of link bodies. The definition doesn't use normal texts.
-use Rattle.std.specs.Prelude.{◌≡◌, ℕ, zero, suc, Bool, true, List, [], ◌∷◌, length, take, drop, Ok, cond, nat_eq, bytes_eq}
+use Rattle.std.specs.Prelude.{◌≡◌, ℕ, zero, suc, Bool, true, List, [], ◌∷◌, length, take, drop, Ok, cond, nat_eq}
+use Rattle.std.specs.Prelude.{bytes_eq}
 use Rattle.netlink_packet_core_grammar.specs.Attributes.{nla_align}
 use Rattle.netlink_packet_core_grammar.specs.Frames.{frame_type, frame_body}
 use Rattle.attribute_tables_grammar.specs.Rules.{Rule}

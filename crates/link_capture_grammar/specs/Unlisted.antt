@@ -1,7 +1,8 @@
 -- Attributes that no table lists, at any depth of a list, including those inside peers that are judged.
 use Rattle.std.specs.Prelude.{◌≡◌, ℕ, zero, suc, List, ◌∷◌, ◌++◌, Some, ◌⊎◌}
 use Rattle.netlink_packet_core_grammar.specs.Attributes.{Attribute}
-use Rattle.attribute_tables_grammar.specs.Lists.{nothing, Row, raw_row, Grammar, LawfulGrammar, row_of, context_after, ListForm, any, read_as, kept, list_rule, without_context}
+use Rattle.attribute_tables_grammar.specs.Lists.{nothing, Row, raw_row, Grammar, LawfulGrammar, row_of, context_after}
+use Rattle.attribute_tables_grammar.specs.Lists.{ListForm, any, read_as, kept, list_rule, without_context}
 use Rattle.attribute_tables_grammar.specs.Peers.{Peer, LawfulPeer, peer_rule}
 use Rattle.link_message_grammar.specs.Body.{attribute_bytes, attribute_row_under, family, link_peer_under}
 use Rattle.link_message_grammar.specs.LinkMessage.{Family}
@@ -24,12 +25,15 @@ abbrev pub HoldsUnlisted : ℕ → ListForm → Grammar → List ℕ → Attribu
 HoldsUnlisted zero form g bytes e = (k : Keeps form bytes e) × (row_there g k ≡ raw_row)
 HoldsUnlisted (suc depth) form g bytes e =
     (outer : Attribute) × (k : Keeps form bytes outer)
-    × (((inner : ListForm) × (h : Grammar) × LawfulGrammar h × ((row_there g k).rule ≡ list_rule inner h) × HoldsUnlisted depth inner h outer.payload e)
+    × (((inner : ListForm) × (h : Grammar) × LawfulGrammar h × ((row_there g k).rule ≡ list_rule inner h) ×
+    HoldsUnlisted depth inner h outer.payload e)
     ⊎ ((p : Peer) × LawfulPeer p × ((row_there g k).rule ≡ peer_rule (link_peer_under p))
-    × HoldsUnlisted depth any (without_context (attribute_row_under p (family outer.payload))) (attribute_bytes outer.payload) e))
+    × HoldsUnlisted depth any (without_context (attribute_row_under p (family outer.payload)))
+    (attribute_bytes outer.payload) e))
 
 -- Under these rows of each family, the text of a link's body has all attributes that no table lists and that the body
 -- has.
 abbrev pub KeepsUnlisted : (Family → ℕ → Row) → List ℕ → List ℕ → Type 0
-KeepsUnlisted row b text = (depth : ℕ) (e : Attribute) → HoldsUnlisted depth any (without_context (row (family b))) (attribute_bytes b) e →
+KeepsUnlisted row b text = (depth : ℕ) (e : Attribute) →
+    HoldsUnlisted depth any (without_context (row (family b))) (attribute_bytes b) e →
     HoldsUnlisted depth any (without_context (row (family b))) (attribute_bytes text) e

@@ -24,12 +24,15 @@ pub record AreLeftOut (s : MessagesLeft) : Type 0 where
 pub record YieldsFault (s : MessagesLeft) (fault : CaptureFault) : Type 0 where
   pub offset : fault.offset ≡ s.offset
   pub first : fault.kind ≢ FaultKind.Memory → first_fault s.limit s.capture ≡ Some fault
-  pub memory : fault.kind ≡ FaultKind.Memory → (n : ℕ) × (text : List ℕ) × (first_frame s.limit (drop s.offset s.capture) ≡ Ok (n, text))
+  pub memory : fault.kind ≡ FaultKind.Memory →
+      (n : ℕ) × (text : List ℕ) × (first_frame s.limit (drop s.offset s.capture) ≡ Ok (n, text))
 
 -- A step of the iterator yields the next message, the fault, or the end of a legal capture.
 abbrev pub IsNext : MessagesLeft → Option (Result (NetlinkMessage RouteLink) CaptureFault) → MessagesLeft → Type 0
 IsNext s None t = (length s.capture ≤ s.offset) × IsLegal s.limit s.capture × (t ≡ s)
 IsNext s (Some (Ok message)) t =
     (s.offset < length s.capture)
-    × ((n : ℕ) × IsFirstMessage s.limit (drop s.offset s.capture) n message × (t ≡ record { limit = s.limit; capture = s.capture; offset = s.offset + nla_align n }))
-IsNext s (Some (Err fault)) t = (s.offset < length s.capture) × YieldsFault s fault × (t ≡ record { limit = s.limit; capture = []; offset = 0 })
+    × ((n : ℕ) × IsFirstMessage s.limit (drop s.offset s.capture) n message ×
+    (t ≡ record { limit = s.limit; capture = s.capture; offset = s.offset + nla_align n }))
+IsNext s (Some (Err fault)) t = (s.offset < length s.capture) × YieldsFault s fault ×
+    (t ≡ record { limit = s.limit; capture = []; offset = 0 })

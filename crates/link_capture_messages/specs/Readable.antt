@@ -21,7 +21,8 @@ equal_messages = (link_message_eq.ghosts).eq
 
 -- The message n is equal to m, fits, and is written as the same bytes.
 abbrev pub is_read_back_as : LinkMessage → LinkMessage → Bool
-is_read_back_as m n = equal_messages n m && (link_message_fits n && bytes_eq (link_message_text n) (link_message_text m))
+is_read_back_as m n = equal_messages n m &&
+    (link_message_fits n && bytes_eq (link_message_text n) (link_message_text m))
 
 -- The message fits, and the bytes that it is written as are legal, and are read as an equal message that is written as
 -- the same bytes.

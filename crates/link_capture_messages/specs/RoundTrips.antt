@@ -21,7 +21,13 @@ not_listed : (t : ℕ) → IsKeptType t → NotListed t
 not_listed t k =
     let a = k.no_control in
     let b = k.no_link in
-    record { noop = grind (arith, nat_tests); error = grind (arith, nat_tests); done = grind (arith, nat_tests); link = grind (arith, nat_tests) }
+    record {
+      noop = grind (arith, nat_tests);
+      error = grind (arith, nat_tests);
+      done = grind (arith, nat_tests);
+      link =
+          grind (arith, nat_tests);
+    }
 
 -- The body of a message of another type is kept.
 pub other_text : (t : ℕ) (b : List ℕ) → IsKeptType t → body_text t b ≡ Ok b
@@ -35,7 +41,9 @@ with_bytes false b h = h
 
 -- Reading a message of another type may run out of memory if its body has bytes.
 pub other_needs_memory : (t : ℕ) (b : List ℕ) → IsKeptType t → 0 < length b → route_may_run_out_of_memory t b ≡ true
-other_needs_memory t b k l = and_from (is_ok (body_text t b)) _ (ap is_ok (other_text t b k)) (with_bytes (is_link_type t) (nat_lt 0 (length b)) (lt-ltb 0 (length b) l))
+other_needs_memory t b k l =
+    and_from (is_ok (body_text t b)) _ (ap is_ok (other_text t b k))
+    (with_bytes (is_link_type t) (nat_lt 0 (length b)) (lt-ltb 0 (length b) l))
 
 -- A message is read from its type and body.
 pub round_trip : (x : RouteLink) → reads_route (route_entry x).0 (route_entry x).1 ≡ Some (route_entry x)
@@ -44,7 +52,8 @@ round_trip (RouteLink.NewLink link) = ap (typed_text 16) link.readable.text
 round_trip (RouteLink.DelLink link) = ap (typed_text 17) link.readable.text
 round_trip (RouteLink.GetLink link) = ap (typed_text 18) link.readable.text
 round_trip (RouteLink.SetLink link) = ap (typed_text 19) link.readable.text
-round_trip (RouteLink.Other message) = ap (typed_text message.message_type) (other_text message.message_type message.bytes message.kept)
+round_trip (RouteLink.Other message) =
+    ap (typed_text message.message_type) (other_text message.message_type message.bytes message.kept)
 
 -- Messages of links and others aren't control messages.
 pub route_inner : (x : RouteLink) → IsInner (route_entry x).0

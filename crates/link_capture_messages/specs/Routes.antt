@@ -1,5 +1,6 @@
 -- Messages of captures: their types and bodies, how these are read, and why a body is refused.
-use Rattle.std.specs.Prelude.{◌≡◌, ◌&&◌, ◌||◌, nat_lt, ℕ, List, length, Bool, true, false, Option, Some, None, Result, Ok, Err, is_ok}
+use Rattle.std.specs.Prelude.{◌≡◌, ◌&&◌, ◌||◌, nat_lt, ℕ, List, length, Bool, true, false, Option, Some, None, Result}
+use Rattle.std.specs.Prelude.{Ok, Err, is_ok}
 use Rattle.netlink_packet_core.specs.TypedBodies.{TypedBody}
 use Rattle.link_capture_grammar.specs.Bodies.{Refusal, refused, empty_ports, unfit, body_text, is_link_type}
 use Rattle.link_capture_messages.specs.declared.fault.RouteFault.{RouteFault}

@@ -1,5 +1,6 @@
 -- Captures with zeros for their sequence and port numbers.
-use Rattle.std.specs.Prelude.{ℕ, zero, suc, ◌+◌, ◌-◌, ◌&&◌, nat_eq, nat_le, Bool, cond, List, [], ◌∷◌, ◌++◌, length, take, drop}
+use Rattle.std.specs.Prelude.{ℕ, zero, suc, ◌+◌, ◌-◌, ◌&&◌, nat_eq, nat_le, Bool, cond, List, [], ◌∷◌, ◌++◌, length}
+use Rattle.std.specs.Prelude.{take, drop}
 use Rattle.netlink_packet_core_grammar.specs.Attributes.{nla_align, zeros}
 use Rattle.netlink_packet_core_grammar.specs.Frames.{frame_length, frame_type}
 
@@ -26,7 +27,8 @@ unfoldable pub cleared_after : ℕ → List ℕ → List ℕ
 cleared_after skip [] = []
 cleared_after (suc skip) (b ∷ c) = cleared_after skip c
 cleared_after zero (b ∷ c) =
-    cond (is_frame (b ∷ c)) (take (nla_align (frame_length (b ∷ c))) (first_frame_cleared (b ∷ c)) ++ cleared_after (nla_align (frame_length (b ∷ c)) - 1) c) (b ∷ c)
+    cond (is_frame (b ∷ c)) (take (nla_align (frame_length (b ∷ c))) (first_frame_cleared (b ∷ c)) ++
+    cleared_after (nla_align (frame_length (b ∷ c)) - 1) c) (b ∷ c)
 
 -- A capture with the numbers of its frames cleared.
 unfoldable pub numbers_cleared : List ℕ → List ℕ

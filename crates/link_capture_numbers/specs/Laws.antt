@@ -7,10 +7,13 @@ use Rattle.link_capture_numbers.specs.Cleared.{is_frame, first_frame_cleared, nu
 
 -- Numbers are cleared frame by frame.
 pub record NumbersAreClearedByFrames : Type 0 where
-  pub frame : (c : List ℕ) → is_frame c ≡ true → numbers_cleared c ≡ take (nla_align (frame_length c)) (first_frame_cleared c) ++ numbers_cleared (drop (nla_align (frame_length c)) c)
+  pub frame : (c : List ℕ) → is_frame c ≡ true →
+      numbers_cleared c ≡ take (nla_align (frame_length c)) (first_frame_cleared c) ++
+      numbers_cleared (drop (nla_align (frame_length c)) c)
   pub none : (c : List ℕ) → is_frame c ≡ false → numbers_cleared c ≡ c
 
 -- A capture whose numbers are cleared has the first fault of the capture, and the cleared texts of the capture.
 pub record ClearedCapturesHaveClearedTexts : Type 0 where
   pub fault : (limit : ℕ) (c : List ℕ) → limit < 2 ^ 32 → first_fault limit (numbers_cleared c) ≡ first_fault limit c
-  pub texts_cleared : (limit : ℕ) (c : List ℕ) → limit < 2 ^ 32 → texts limit (numbers_cleared c) ≡ numbers_cleared (texts limit c)
+  pub texts_cleared : (limit : ℕ) (c : List ℕ) → limit < 2 ^ 32 →
+      texts limit (numbers_cleared c) ≡ numbers_cleared (texts limit c)

@@ -100,7 +100,7 @@ fed_fault E R W limit s p out TooLong at z o h =
       long = omega (arith, h.0, length-append s p);
       inside = omega (arith, h.1, length-append s p);
       last = omega (arith, h.1, length-append s p);
-      open = subst (λ x. IsOpen (first_fault limit x)) (sym e) o;
+      is_open = subst (λ x. IsOpen (first_fault limit x)) (sym e) o;
       written = ap (λ x. texts limit s ++ x) h.2 ∙ append-nil (texts limit s) ∙ ap (texts limit) (sym e);
     }
 fed_fault E R W limit s p out Failed at z o h = absurd h

@@ -1,5 +1,6 @@
 -- What sources and sinks count.
-use Rattle.std.specs.Prelude.{◌≡◌, ℕ, ◌+◌, ◌-◌, ◌^◌, ◌&&◌, min, List, Option, Result, Ok, Err, nat_lt, nat_eq, cond, Bool, false, true}
+use Rattle.std.specs.Prelude.{◌≡◌, ℕ, ◌+◌, ◌-◌, ◌^◌, ◌&&◌, min, List, Option, Result, Ok, Err, nat_lt, nat_eq, cond}
+use Rattle.std.specs.Prelude.{Bool, false, true}
 use Rattle.std.specs.Io.KnownBytes.{IsAtEnd}
 use Rattle.link_capture_reader.specs.declared.devices.DeviceFailed.{DeviceFailed}
 

@@ -1,5 +1,6 @@
 -- The strings that a reader of a capture is consistent with, and what its calls append.
-use Rattle.std.specs.Prelude.{◌≡◌, ℕ, ◌+◌, ◌-◌, ◌^◌, ◌%◌, ◌<◌, ◌≤◌, List, [], ◌++◌, length, take, drop, Option, None, Some, IfSome, ◌⊎◌, Ok, Err, Vec, vec_capacity}
+use Rattle.std.specs.Prelude.{◌≡◌, ℕ, ◌+◌, ◌-◌, ◌^◌, ◌%◌, ◌<◌, ◌≤◌, List, [], ◌++◌, length, take, drop, Option, None}
+use Rattle.std.specs.Prelude.{Some, IfSome, ◌⊎◌, Ok, Err, Vec, vec_capacity}
 use Rattle.link_capture_grammar.specs.declared.fault.FaultKind.{FaultKind}
 use Rattle.link_capture_grammar.specs.declared.fault.FaultKind.TheVariants.{Cut, Memory, Read, Write, TooLong, Failed}
 use Rattle.link_capture_grammar.specs.declared.fault.CaptureFault.{CaptureFault}
@@ -34,7 +35,8 @@ Resumes (Some fault) s kept owed = (fault.kind ≡ Cut) × (kept ≡ drop fault.
 
 -- The state of a reader without a fault.
 abbrev pub unfailed : ℕ → ℕ → List ℕ → ℕ → ReaderState
-unfailed limit accepted kept owed = record { limit = limit; accepted = accepted; kept = kept; owed = owed; failed = None }
+unfailed limit accepted kept owed =
+    record { limit = limit; accepted = accepted; kept = kept; owed = owed; failed = None }
 
 -- The reader is consistent with the string s: it has met no fault, and it has accepted and kept what a reader of s has.
 pub record IsConsistentWith (r : ReaderState) (s : List ℕ) : Type 0 where
@@ -48,14 +50,16 @@ Gains limit s t old new = (more : List ℕ) × (texts limit t ≡ texts limit s 
 
 -- What holds if `feed` returns a fault of this kind at the offset `at`: s was accepted before, and this piece was fed.
 abbrev pub FeedFault : ℕ → List ℕ → List ℕ → List ℕ → List ℕ → FaultKind → ℕ → Type 0
-FeedFault limit s piece old new Memory at = (length s + length piece < 2 ^ 64) × StopsAt limit (s ++ piece) at × Gains limit s (take at (s ++ piece)) old new
+FeedFault limit s piece old new Memory at = (length s + length piece < 2 ^ 64) × StopsAt limit (s ++ piece) at ×
+    Gains limit s (take at (s ++ piece)) old new
 FeedFault limit s piece old new TooLong at = (2 ^ 64 ≤ length s + length piece) × (at ≡ length s) × (new ≡ old)
 FeedFault limit s piece old new Cut at = ⊥
 FeedFault limit s piece old new Read at = ⊥
 FeedFault limit s piece old new Write at = ⊥
 FeedFault limit s piece old new Failed at = ⊥
 FeedFault limit s piece old new kind at =
-    (length s + length piece < 2 ^ 64) × (first_fault limit (s ++ piece) ≡ Some (record { kind = kind; offset = at })) × Gains limit s (s ++ piece) old new
+    (length s + length piece < 2 ^ 64) × (first_fault limit (s ++ piece) ≡ Some (record { kind = kind; offset = at })) ×
+    Gains limit s (s ++ piece) old new
 
 -- At the offset `at` of c a frame can start.
 abbrev pub IsFrameOffsetOf : List ℕ → ℕ → Type 0
@@ -65,7 +69,8 @@ IsFrameOffsetOf c at = (at < length c) × (at % 4 ≡ 0)
 -- it need.
 abbrev pub LacksCapacityAt : {Z : Type 0} → ℕ → List ℕ → ℕ → Vec ℕ Z → Type 0
 LacksCapacityAt limit c at old =
-    (n : ℕ) × (text : List ℕ) × (first_frame limit (drop at c) ≡ Ok (n, text)) × (vec_capacity old < length old.items + (length (texts limit (take at c)) + length text))
+    (n : ℕ) × (text : List ℕ) × (first_frame limit (drop at c) ≡ Ok (n, text)) ×
+    (vec_capacity old < length old.items + (length (texts limit (take at c)) + length text))
 
 -- Why an allocation failed at the offset `at`: the vector lacked capacity, or the frame is cut, and its bytes had to be
 -- kept.
@@ -74,7 +79,8 @@ NeedsMemory limit c at old = LacksCapacityAt limit c at old ⊎ (first_frame lim
 
 -- The fault, whose offset counts from `start` bytes before c, has the kind `Memory` only for such a reason.
 abbrev pub MemoryFaultIsJustified : {Z : Type 0} → ℕ → ℕ → List ℕ → CaptureFault → Vec ℕ Z → Type 0
-MemoryFaultIsJustified limit start c fault old = fault.kind ≡ Memory → (at : ℕ) × (fault.offset ≡ start + at) × NeedsMemory limit c at old
+MemoryFaultIsJustified limit start c fault old = fault.kind ≡ Memory →
+    (at : ℕ) × (fault.offset ≡ start + at) × NeedsMemory limit c at old
 
 -- The vector has gained the texts of c up to its first fault.
 abbrev pub GainsTexts : {Y Z : Type 0} → ℕ → List ℕ → Vec ℕ Y → Vec ℕ Z → Type 0

@@ -17,7 +17,8 @@ pub record SinkState : Type 0 where
 
 -- The state of a source, by the ghost functions of its trait.
 abbrev pub source_state : {S : Type 0} → (S → Option (List ℕ)) → (S → ℕ) → (S → ℕ) → S → SourceState
-source_state to_come failures ends_reported s = record { to_come = to_come s; failures = failures s; ends_reported = ends_reported s }
+source_state to_come failures ends_reported s =
+    record { to_come = to_come s; failures = failures s; ends_reported = ends_reported s }
 
 -- The state of a sink, by the ghost functions of its trait.
 abbrev pub sink_state : {K : Type 0} → (K → Option (List ℕ)) → (K → ℕ) → K → SinkState
@@ -26,7 +27,8 @@ sink_state holds failures k = record { holds = holds k; failures = failures k }
 -- All of a text was written to a sink, or a prefix of it, after which the sink failed.
 abbrev pub IsReported : SinkState → SinkState → List ℕ → Bool → Type 0
 IsReported before after text true = Appends before.holds after.holds text × (after.failures ≡ before.failures)
-IsReported before after text false = Rises before.failures after.failures × ((prefix : List ℕ) × IsPrefix prefix text × Appends before.holds after.holds prefix)
+IsReported before after text false = Rises before.failures after.failures ×
+    ((prefix : List ℕ) × IsPrefix prefix text × Appends before.holds after.holds prefix)
 
 -- A text was written to a sink, all of it or a prefix.
 abbrev pub IsReportedOrCut : SinkState → SinkState → List ℕ → Type 0

@@ -11,12 +11,14 @@ ReadsTo limit c old new kept owed = Resumes (first_fault limit c) c kept owed ×
 
 -- The fault, unless its kind is `Memory`, isn't `Cut`, and is the first fault of c, which is at the offset `start`.
 abbrev pub Faults : ℕ → ℕ → List ℕ → List ℕ → List ℕ → CaptureFault → Type 0
-Faults limit start c old new fault = fault.kind ≢ Memory → (fault.kind ≢ Cut) × (shifted start (first_fault limit c) ≡ Some fault) × (new ≡ old ++ texts limit c)
+Faults limit start c old new fault = fault.kind ≢ Memory →
+    (fault.kind ≢ Cut) × (shifted start (first_fault limit c) ≡ Some fault) × (new ≡ old ++ texts limit c)
 
 -- If the kind of the fault is `Memory`, memory ran out at the start of a frame of c, which is at the offset `start`,
 -- and the texts before that are appended.
 abbrev pub RunsOutOfMemory : ℕ → ℕ → List ℕ → List ℕ → List ℕ → CaptureFault → Type 0
-RunsOutOfMemory limit start c old new fault = fault.kind ≡ Memory → (at : ℕ) × (fault.offset ≡ start + at) × StopsAt limit c at × (new ≡ old ++ texts limit (take at c))
+RunsOutOfMemory limit start c old new fault = fault.kind ≡ Memory →
+    (at : ℕ) × (fault.offset ≡ start + at) × StopsAt limit c at × (new ≡ old ++ texts limit (take at c))
 
 -- The first `at` bytes of c were read: they are legal, and end at a multiple of 4.
 pub record Passed (limit : ℕ) (c : List ℕ) (at : ℕ) : Type 0 where

@@ -8,16 +8,16 @@ mod first;
 mod frames;
 mod pieces;
 mod reader;
+mod reporting;
 mod sinks;
 mod sources;
-mod reporting;
 mod whole;
 
 pub use devices::{DeviceFailed, Sink, Source};
 pub use engine::{normalize, read_all, read_all_keeping_first, write_all};
 pub use first::{FirstBytes, keep_first};
 pub use reader::CaptureReader;
+pub use reporting::report_text;
 pub use sinks::{VecSink, WriteSink};
 pub use sources::{ReadSource, SliceSource};
-pub use reporting::report_text;
 pub use whole::normalize_bytes;

@@ -12,7 +12,7 @@ use super::frames::push_frames;
 use link_capture_checks::{frame_len, push_frame};
 use link_capture_grammar::fault::{CaptureFault, FaultKind};
 use link_capture_grammar::laws::{
-    captures_unfold_by_frames, faults_are_at_frames, frames_are_judged, frames_are_independent,
+    captures_unfold_by_frames, faults_are_at_frames, frames_are_independent, frames_are_judged,
 };
 use netlink_packet_core::{NETLINK_HEADER_LEN, NetlinkBuffer, nla_align};
 use netlink_packet_core_grammar::laws::numbers_are_independent;

@@ -4,7 +4,10 @@ use Rattle.std.specs.Fmt.{decimal}
 use Rattle.link_tables.specs.declared.rows.Shape.{Shape}
 use Rattle.link_tables.specs.declared.rows.Shape.TheVariants.{Text, Never}
 use Rattle.link_capture_refusals.specs.declared.reason.Reason.{Reason}
-use Rattle.link_capture_refusals.specs.declared.reason.Reason.TheVariants.{PayloadSize, NotUtf8, EmptyList, NoKind, NoPortKind, NoPayload, CutHeader, WrongLength, CutLink, EmptyPorts, Unfit, CutCode}
+use Rattle.link_capture_refusals.specs.declared.reason.Reason.TheVariants.{PayloadSize, NotUtf8, EmptyList, NoKind}
+use Rattle.link_capture_refusals.specs.declared.reason.Reason.TheVariants.{NoPortKind, NoPayload, CutHeader}
+use Rattle.link_capture_refusals.specs.declared.reason.Reason.TheVariants.{WrongLength, CutLink, EmptyPorts, Unfit}
+use Rattle.link_capture_refusals.specs.declared.reason.Reason.TheVariants.{CutCode}
 
 -- A number in decimal between two texts.
 abbrev pub counted : List ℕ → ℕ → List ℕ → List ℕ

@@ -1,5 +1,6 @@
 -- The lists of links: the names of their attributes, and what these contain.
-use Rattle.std.specs.Prelude.{ℕ, zero, suc, ◌==◌, ◌<◌, ◌||◌, nat_le, nat_lt, Bool, cond, List, [], ◌∷◌, ◌++◌, codes, get_or, map, Option, Some, None, option_map}
+use Rattle.std.specs.Prelude.{ℕ, zero, suc, ◌==◌, ◌<◌, ◌||◌, nat_le, nat_lt, Bool, cond, List, [], ◌∷◌, ◌++◌, codes}
+use Rattle.std.specs.Prelude.{get_or, map, Option, Some, None, option_map}
 use Rattle.std.specs.List.{list_all}
 use Rattle.attribute_tables_grammar.specs.Lists.{Context, nothing}
 use Rattle.link_tables.specs.declared.rows.Form.{Form}
@@ -7,7 +8,8 @@ use Rattle.link_tables.specs.declared.rows.Form.TheVariants.{NonEmpty}
 use Rattle.link_tables.specs.declared.rows.Held.{Held}
 use Rattle.link_tables.specs.declared.rows.Held.TheVariants as H
 use Rattle.link_tables.specs.declared.table.Table.{Table}
-use Rattle.link_tables.specs.declared.table.TheConstants.{AMT, LINK_INFO, LINK_UNSPEC, MACVLAN_ADDRESS, SPECIFIC, VF, VF_INFOS, VF_PORTS, VLAN}
+use Rattle.link_tables.specs.declared.table.TheConstants.{AMT, LINK_INFO, LINK_UNSPEC, MACVLAN_ADDRESS, SPECIFIC, VF}
+use Rattle.link_tables.specs.declared.table.TheConstants.{VF_INFOS, VF_PORTS, VLAN}
 use Rattle.link_tables.specs.InForce.{held_in_force, in_force}
 use Rattle.link_tables.specs.Tables.{is_link_info}
 use Rattle.link_capture_refusals.specs.declared.reason.Reason.TheVariants.{NoKind, NoPortKind}
@@ -118,7 +120,8 @@ data_depth judged t = cond (t == MACVLAN_ADDRESS.0) 1 (cond judged 5 2)
 -- How deeply attributes are nested in a table.
 abbrev pub depth : Bool → ℕ → ℕ
 depth judged t =
-    cond (nat_lt t LINK_UNSPEC.0) (nested_depth t) (cond (nat_lt t LINK_INFO.0) (cond judged 7 4) (cond (nat_lt t AMT.0) (cond judged 6 3)
+    cond (nat_lt t LINK_UNSPEC.0) (nested_depth t)
+    (cond (nat_lt t LINK_INFO.0) (cond judged 7 4) (cond (nat_lt t AMT.0) (cond judged 6 3)
     (cond (nat_lt t VLAN.0) (data_depth judged t) 1)))
 
 -- How deeply attributes are nested inside an attribute with this content.

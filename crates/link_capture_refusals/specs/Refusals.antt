@@ -1,7 +1,9 @@
 -- The refusal of a body: the first attribute, in the order of the bytes, that isn't accepted, its offset and the
 -- reason.
-use Rattle.std.specs.Prelude.{ℕ, zero, suc, ◌+◌, nat_lt, Bool, true, false, cond, List, [], ◌∷◌, length, drop, slice_index, Option, Some, None, option_map}
-use Rattle.netlink_packet_core_grammar.specs.Attributes.{Attribute, attribute_length, first_attribute, nla_align, proper_kind}
+use Rattle.std.specs.Prelude.{ℕ, zero, suc, ◌+◌, nat_lt, Bool, true, false, cond, List, [], ◌∷◌, length, drop}
+use Rattle.std.specs.Prelude.{slice_index, Option, Some, None, option_map}
+use Rattle.netlink_packet_core_grammar.specs.Attributes.{Attribute, attribute_length, first_attribute, nla_align}
+use Rattle.netlink_packet_core_grammar.specs.Attributes.{proper_kind}
 use Rattle.netlink_packet_core_grammar.specs.Frames.{frame_body, frame_type}
 use Rattle.netlink_packet_core_grammar.specs.Numbers.{u16_at}
 use Rattle.attribute_tables_grammar.specs.Peers.{bytes_peer}
@@ -68,13 +70,15 @@ whole_refusal list l attribute_offset (b ∷ p) = list l (attribute_offset + 4) 
 -- The refusal of a link's body at `offset`: of its header, or of one of its attributes.
 abbrev pub link_refusal : ListRefusal → Bool → ℕ → ℕ → List ℕ → Option Found
 link_refusal list judged attribute_offset offset b =
-    cond (nat_lt (length b) 16) (Some (found_at attribute_offset (R.CutLink (length b)))) (list (whole Any (family_table (slice_index b 0)) judged) (offset + 16) (drop 16 b))
+    cond (nat_lt (length b) 16) (Some (found_at attribute_offset (R.CutLink (length b))))
+    (list (whole Any (family_table (slice_index b 0)) judged) (offset + 16) (drop 16 b))
 
 -- The refusal of a peer that isn't accepted: that of the link's body in it, or, if that is accepted, the reason why it
 -- can't be written.
 abbrev pub peer_refusal : ListRefusal → ℕ → List ℕ → Option Found
 peer_refusal list attribute_offset p =
-    or_else (link_refusal list false attribute_offset (attribute_offset + 4) p) (Some (found_at attribute_offset (cond ((body_rule bytes_peer).empty_ports p) R.EmptyPorts R.Unfit)))
+    or_else (link_refusal list false attribute_offset (attribute_offset + 4) p)
+    (Some (found_at attribute_offset (cond ((body_rule bytes_peer).empty_ports p) R.EmptyPorts R.Unfit)))
 
 -- The refusal of a payload that isn't accepted, in the attribute at `attribute_offset`.
 abbrev pub inside_refusal : ListRefusal → Bool → Inside → ℕ → List ℕ → Option Found
@@ -86,11 +90,14 @@ inside_refusal list judged (I.Refused r) attribute_offset p = Some (found_at att
 -- The refusal of a payload that isn't accepted, by the name and the content of its attribute.
 abbrev pub row_refusal : ListRefusal → Bool → Option (List ℕ × Inside) → ℕ → List ℕ → Option Found
 row_refusal list judged None attribute_offset p = None
-row_refusal list judged (Some x) attribute_offset p = option_map (named x.0) (inside_refusal list judged x.1 attribute_offset p)
+row_refusal list judged (Some x) attribute_offset p =
+    option_map (named x.0) (inside_refusal list judged x.1 attribute_offset p)
 
 -- The refusal of an attribute at `offset`; an accepted one has none.
 abbrev pub attribute_refusal : ListRefusal → Listing → ℕ → Attribute → Option Found
-attribute_refusal list l offset e = cond (is_accepted l e) None (row_refusal list l.judged (row_in l.table l.context (proper_kind e.kind)) offset e.payload)
+attribute_refusal list l offset e =
+    cond (is_accepted l e) None
+    (row_refusal list l.judged (row_in l.table l.context (proper_kind e.kind)) offset e.payload)
 
 -- The bytes with which a list continues after an attribute.
 abbrev pub list_rest : Form → List ℕ → List ℕ
@@ -101,7 +108,8 @@ list_rest _ after = after
 abbrev pub next_refusal : ListRefusal → Listing → ℕ → List ℕ → Option (Attribute × List ℕ) → Option Found
 next_refusal list l offset bytes None = Some (found_at offset (no_attribute bytes))
 next_refusal list l offset bytes (Some x) =
-    or_else (attribute_refusal list l offset x.0) (list (following l x.0) (offset + nla_align (attribute_length x.0)) (list_rest l.form x.1))
+    or_else (attribute_refusal list l offset x.0)
+    (list (following l x.0) (offset + nla_align (attribute_length x.0)) (list_rest l.form x.1))
 
 -- ---- lists, in at most n steps
 
@@ -109,7 +117,8 @@ next_refusal list l offset bytes (Some x) =
 unfoldable pub refusal_within : ℕ → ListRefusal
 refusal_within zero l offset bytes = None
 refusal_within (suc n) l offset [] = None
-refusal_within (suc n) l offset (b ∷ bytes) = next_refusal (λ m q d. refusal_within n m q d) l offset (b ∷ bytes) (first_attribute (b ∷ bytes))
+refusal_within (suc n) l offset (b ∷ bytes) =
+    next_refusal (λ m q d. refusal_within n m q d) l offset (b ∷ bytes) (first_attribute (b ∷ bytes))
 
 -- The refusal of a list.
 unfoldable pub list_refusal : ListRefusal
@@ -124,7 +133,8 @@ code_refusal b = record { path = []; offset = None; reason = R.CutCode (length b
 -- The refusal of c's first frame, whose fault is a refused body and which is at `offset`.
 unfoldable pub frame_refusal : ℕ → List ℕ → Option Found
 frame_refusal offset c =
-    cond (is_link_type (frame_type c)) (link_refusal list_refusal true (offset + 16) (offset + 16) (frame_body c)) (Some (code_refusal (frame_body c)))
+    cond (is_link_type (frame_type c)) (link_refusal list_refusal true (offset + 16) (offset + 16) (frame_body c))
+    (Some (code_refusal (frame_body c)))
 
 -- The refusal of the frame with a fault, by the fault's offset and kind.
 abbrev pub fault_refusal : List ℕ → ℕ → FaultKind → Option Found

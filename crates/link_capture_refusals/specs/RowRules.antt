@@ -22,7 +22,8 @@ peer_of judged = cond judged link_peer bytes_peer
 
 -- The rows of a table, and the context after each attribute.
 unfoldable pub grammar_at : Bool → Table → Grammar
-grammar_at judged t = cond (is_link_info t) (info_grammar_under (peer_of judged)) (rows_of (peer_of judged) (table_of t.0))
+grammar_at judged t =
+    cond (is_link_info t) (info_grammar_under (peer_of judged)) (rows_of (peer_of judged) (table_of t.0))
 
 -- The rows of the table of a list, and the context after each attribute.
 abbrev pub grammar_of : Listing → Grammar
@@ -34,7 +35,14 @@ is_accepted l e = cond (is_kept (form_of l.form) e) ((row_of (grammar_of l) l.co
 
 -- The rest of a list after an attribute.
 abbrev pub following : Listing → Attribute → Listing
-following l e = record { form = l.form; table = l.table; context = cond (is_kept (form_of l.form) e) ((grammar_of l).next l.context e) l.context; judged = l.judged }
+following l e =
+    record {
+      form = l.form;
+      table = l.table;
+      context =
+          cond (is_kept (form_of l.form) e) ((grammar_of l).next l.context e) l.context;
+      judged = l.judged;
+    }
 
 -- ---- the rules of contents
 
@@ -52,8 +60,10 @@ row_rule judged (Some x) = inside_rule judged x.1
 
 -- The content of each row is that of the row in the grammar's table; a kind without a row is kept as it is.
 abbrev pub RowsAreTheTables : Type 0
-RowsAreTheTables = (judged : Bool) (t : Table) (c : Context) (k : ℕ) → ((grammar_at judged t).row c k).rule ≡ row_rule judged (row_in t c k)
+RowsAreTheTables = (judged : Bool) (t : Table) (c : Context) (k : ℕ) →
+    ((grammar_at judged t).row c k).rule ≡ row_rule judged (row_in t c k)
 
 -- The attributes of a link of an address family are those of its table.
 abbrev pub LinksAreTables : Type 0
-LinksAreTables = (judged : Bool) (n : ℕ) → list_rule_of (peer_of judged) (family_of n) ≡ list_rule any (grammar_at judged (family_table n))
+LinksAreTables = (judged : Bool) (n : ℕ) →
+    list_rule_of (peer_of judged) (family_of n) ≡ list_rule any (grammar_at judged (family_table n))

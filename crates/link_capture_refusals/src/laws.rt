@@ -5,7 +5,7 @@ ghost use Rattle.link_capture_refusals.specs.RefusalLaws.{LinksAreAccepted, List
 ghost use Rattle.link_capture_refusals.specs.RefusalLaws.{RefusedBodiesHaveRefusals, RefusedFramesAreWhole, RefusalsAreIndependent};
 
 use attribute_tables_grammar::laws::{
-    measures_unfold, measures_determine_rules, names_are_looked_up, rows_are_looked_up,
+    measures_determine_rules, measures_unfold, names_are_looked_up, rows_are_looked_up,
 };
 use link_capture_grammar::laws::captures_unfold_by_frames;
 use netlink_packet_core_grammar::laws::{first_attributes_are_within, numbers_are_independent};

@@ -5,8 +5,8 @@ use crate::named_rows;
 use link_tables::Form::{Any, OfKindOne, Ports};
 use link_tables::Held::{LinkInfo, List, Peer, Plain};
 use link_tables::Shape::{
-    AtMost, Either, Exact, FixedRecord, IdAndBoolean, NonzeroByte, OneByte, Presence, Raw, Resized,
-    Text, BooleanOfFour,
+    AtMost, BooleanOfFour, Either, Exact, FixedRecord, IdAndBoolean, NonzeroByte, OneByte,
+    Presence, Raw, Resized, Text,
 };
 use link_tables::table::{
     BRIDGE_PORT, BRIDGE_SPECIFIC, DEVLINK_PORT, DPLL_PIN, INET, INET6, INET6_PROTOCOL,

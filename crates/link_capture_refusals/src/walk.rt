@@ -11,7 +11,9 @@ ghost use Rattle.link_capture_refusals.specs.Refusals.{attribute_refusal, found_
 ghost use Rattle.link_capture_refusals.specs.Refusals.{list_refusal, no_attribute, peer_refusal, whole_refusal};
 ghost use Rattle.link_capture_refusals.specs.RefusalViews.{all_found};
 
-use crate::laws::{links_are_accepted, lists_are_accepted, lists_unfold_by_attributes, rows_are_the_tables};
+use crate::laws::{
+    links_are_accepted, lists_are_accepted, lists_unfold_by_attributes, rows_are_the_tables,
+};
 use crate::reason::{Reason, shape_reason};
 use crate::refusal::Refusal;
 use crate::tables::{Inside, Listed, is_kept, next_list, row_in};
@@ -48,7 +50,12 @@ fn value_refusal(shape: Shape, attribute_offset: u64, payload: &[u8]) -> Option<
 
 /// Returns the refusal of a link's body at `offset`: of its header, or of one of its attributes.
 #[cycle(refusal)]
-pub(crate) fn link_refusal(judged: bool, attribute_offset: u64, offset: u64, body: &[u8]) -> Option<Refusal>
+pub(crate) fn link_refusal(
+    judged: bool,
+    attribute_offset: u64,
+    offset: u64,
+    body: &[u8],
+) -> Option<Refusal>
     requires near { offset + length body.now < 2 ^ 63 }
     ensures found { all_found result ≡ link_refusal list_refusal judged attribute_offset offset body.now }
     ensures path_fits { IfSome result (λ r. length r.path.items ≤ cond judged 7 4) }
@@ -104,7 +111,12 @@ fn whole_refusal(list: Listed<'_>, attribute_offset: u64, payload: &[u8]) -> Opt
 
 /// Returns the refusal of a payload in the attribute at `attribute_offset`.
 #[cycle(refusal)]
-fn inside_refusal(judged: bool, inside: Inside, attribute_offset: u64, payload: &[u8]) -> Option<Refusal>
+fn inside_refusal(
+    judged: bool,
+    inside: Inside,
+    attribute_offset: u64,
+    payload: &[u8],
+) -> Option<Refusal>
     requires near { attribute_offset + 4 + length payload.now < 2 ^ 63 }
     ensures found { all_found result ≡ cond ((inside_rule judged inside).accepted payload.now) None
         (inside_refusal list_refusal judged inside attribute_offset payload.now) }
@@ -114,7 +126,11 @@ fn inside_refusal(judged: bool, inside: Inside, attribute_offset: u64, payload: 
     match inside {
         Inside::Refused(reason) => Some(Refusal::at(attribute_offset, reason)),
         Inside::Value(shape) => value_refusal(shape, attribute_offset, payload),
-        Inside::List(form, table) => whole_refusal(Listed::new(form, table, judged), attribute_offset, payload),
+        Inside::List(form, table) => whole_refusal(
+            Listed::new(form, table, judged),
+            attribute_offset,
+            payload,
+        ),
         Inside::Peer => peer_refusal(judged, attribute_offset, payload),
     }
 }

@@ -13,4 +13,5 @@ LinkInfoIsLawful = (p : Peer) → LawfulPeer p → Lawful (info_rule_under p)
 
 -- Each listed name is that of one variant, in the order of the names.
 abbrev pub KindsAreTheNames : Type 0
-KindsAreTheNames = (map info_kind_text listed_kinds ≡ kind_names) × (map info_port_kind_text listed_port_kinds ≡ port_kind_names)
+KindsAreTheNames = (map info_kind_text listed_kinds ≡ kind_names) ×
+    (map info_port_kind_text listed_port_kinds ≡ port_kind_names)

@@ -41,7 +41,8 @@ link_info_fits _ = true
 
 -- The context in which a kind and a port kind, borrowed from the list, are in force.
 abbrev pub context_of : Option (Bor (List ℕ)) → Option (Bor (List ℕ)) → Context
-context_of kind port_kind = record { kind = option_map (λ b. b.now) kind; port_kind = option_map (λ b. b.now) port_kind }
+context_of kind port_kind =
+    record { kind = option_map (λ b. b.now) kind; port_kind = option_map (λ b. b.now) port_kind }
 
 -- The context of the names that a reader of the list holds.
 abbrev pub in_force : InForce → Context

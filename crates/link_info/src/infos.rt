@@ -18,9 +18,7 @@ ghost use Rattle.link_info.specs.LinkInfo.{link_info_entry, link_info_fits, link
 ghost use Rattle.attribute_tables.specs.Outcomes.{IsRefusedUnless, IsWrittenBy, ListIsReadAs, ListIsWrittenBy, SucceedsIf};
 
 use super::laws::{names_determine_rules, port_data_have_one_rule, port_names_determine_rules};
-use attribute_tables_grammar::laws::{
-    contexts_unfold, readings_unfold, readings_determine_rules,
-};
+use attribute_tables_grammar::laws::{contexts_unfold, readings_determine_rules, readings_unfold};
 use link_info_data::{InfoData, InfoPortData, LinkXstats};
 use link_info_grammar::laws::info_grammar_is_lawful;
 use link_info_kinds::{InfoKind, InfoPortKind};

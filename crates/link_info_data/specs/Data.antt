@@ -168,7 +168,8 @@ info_data_is_row_variant k (Data.Xfrm vs) = (k ≡ Kind.Xfrm) × All xfrm_is_row
 info_data_is_row_variant k (Data.MacSec vs) = (k ≡ Kind.MacSec) × All macsec_is_row_variant vs.items
 info_data_is_row_variant k (Data.Hsr vs) = k ≡ Kind.Hsr
 info_data_is_row_variant k (Data.Geneve vs) = (k ≡ Kind.Geneve) × All geneve_is_row_variant vs.items
-info_data_is_row_variant k (Data.IpTunnel vs) = ((k ≡ Kind.IpIp) ⊎ (k ≡ Kind.Ip6Tnl) ⊎ (k ≡ Kind.SitTun)) × All (ip_tunnel_is_row_variant k) vs.items
+info_data_is_row_variant k (Data.IpTunnel vs) = ((k ≡ Kind.IpIp) ⊎ (k ≡ Kind.Ip6Tnl) ⊎ (k ≡ Kind.SitTun)) ×
+    All (ip_tunnel_is_row_variant k) vs.items
 info_data_is_row_variant k (Data.Netkit vs) = (k ≡ Kind.Netkit) × All netkit_is_row_variant vs.items
 info_data_is_row_variant k (Data.Vxcan v) = (k ≡ Kind.Vxcan) × pair_is_row_variant v
 info_data_is_row_variant k (Data.Amt vs) = (k ≡ Kind.Amt) × All amt_is_row_variant vs.items

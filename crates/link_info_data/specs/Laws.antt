@@ -11,15 +11,18 @@ use Rattle.link_info_data.specs.PortData.{port_data_rule_of_under}
 
 -- Data under a name have the rule of the kind with that name.
 abbrev pub NamesDetermineRules : Type 0
-NamesDetermineRules = (p : Peer) (name : List ℕ) (kind : InfoKind) → IsNamedBy name kind → data_rule_under p name ≡ data_rule_of_under p kind
+NamesDetermineRules = (p : Peer) (name : List ℕ) (kind : InfoKind) → IsNamedBy name kind →
+    data_rule_under p name ≡ data_rule_of_under p kind
 
 -- Port data under a name have the rule of the port kind with that name.
 abbrev pub PortNamesDetermineRules : Type 0
-PortNamesDetermineRules = (p : Peer) (name : List ℕ) (kind : InfoPortKind) → IsPortNamedBy name kind → port_data_rule_under p name ≡ port_data_rule_of_under p kind
+PortNamesDetermineRules = (p : Peer) (name : List ℕ) (kind : InfoPortKind) → IsPortNamedBy name kind →
+    port_data_rule_under p name ≡ port_data_rule_of_under p kind
 
 -- The rule of data without peers is the same under all rules of peers.
 abbrev pub DataWithoutPeersHaveOneRule : Type 0
-DataWithoutPeersHaveOneRule = (p q : Peer) (kind : InfoKind) → has_peers kind ≡ false → data_rule_of_under p kind ≡ data_rule_of_under q kind
+DataWithoutPeersHaveOneRule = (p q : Peer) (kind : InfoKind) → has_peers kind ≡ false →
+    data_rule_of_under p kind ≡ data_rule_of_under q kind
 
 -- The rule of port data is the same under all rules of peers.
 abbrev pub PortDataHaveOneRule : Type 0

@@ -4,7 +4,8 @@ use Rattle.std.specs.List.{All}
 use Rattle.netlink_packet_core.specs.Attributes.{Attribute, proper_kind, attribute_text}
 use Rattle.netlink_packet_core.specs.Fits.{attribute_fits}
 use Rattle.netlink_packet_core.specs.Numbers.{le2, le4, signed_bits}
-use Rattle.link_info_types.specs.MacVlanTypes.{mac_vlan_mode_number, mac_vlan_mode_of, mac_vlan_flags_bits, mac_vlan_mac_address_mode_number, mac_vlan_mac_address_mode_of}
+use Rattle.link_info_types.specs.MacVlanTypes.{mac_vlan_mode_number, mac_vlan_mode_of, mac_vlan_flags_bits}
+use Rattle.link_info_types.specs.MacVlanTypes.{mac_vlan_mac_address_mode_number, mac_vlan_mac_address_mode_of}
 use Rattle.link_info_grammar.specs.Families.{macvlan, macvlan_address}
 use Rattle.attribute_tables_grammar.specs.Lists.{row_at}
 use Rattle.attribute_tables_grammar.specs.LookUps.{has_no_row}
@@ -12,7 +13,11 @@ use Rattle.attribute_tables_grammar.specs.Tables.{Table}
 use Rattle.attribute_tables.specs.Beginnings.{begins_accepted}
 use Rattle.netlink_packet_core.specs.AttributeViews.{viewed_attribute, viewed_kind, viewed_payload}
 use Rattle.netlink_packet_core.specs.Families.{Gives, attribute, family_row, may_allocate}
-use Rattle.link_info_devices.specs.declared.mac_vlan.InfoMacVlan.{InfoMacVlan, Row_of-InfoMacVlan, end_of-InfoMacVlan, more_of-InfoMacVlan, items-the_row-InfoMacVlan, Mode, Flags, MacAddrMode, MacAddr, MacAddrData', MacAddrCount, BcQueueLen, BcQueueLenUsed, BcCutoff, Other}
+use Rattle.link_info_devices.specs.declared.mac_vlan.InfoMacVlan.{InfoMacVlan, Row_of-InfoMacVlan, end_of-InfoMacVlan}
+use Rattle.link_info_devices.specs.declared.mac_vlan.InfoMacVlan.{more_of-InfoMacVlan, items-the_row-InfoMacVlan, Mode}
+use Rattle.link_info_devices.specs.declared.mac_vlan.InfoMacVlan.{Flags, MacAddrMode, MacAddr, MacAddrData'}
+use Rattle.link_info_devices.specs.declared.mac_vlan.InfoMacVlan.{MacAddrCount, BcQueueLen, BcQueueLenUsed, BcCutoff}
+use Rattle.link_info_devices.specs.declared.mac_vlan.InfoMacVlan.{Other}
 
 -- The attribute of a value, and the encoding of a list of values.
 abbrev mutual
@@ -40,7 +45,8 @@ abbrev mutual
 
   pub mac_vlan_all_fit : {m : _} → Row_of-InfoMacVlan m → Bool
   mac_vlan_all_fit end_of-InfoMacVlan = true
-  mac_vlan_all_fit (more_of-InfoMacVlan v row) = (attribute_fits (mac_vlan_entry v) && mac_vlan_fits v) && mac_vlan_all_fit row
+  mac_vlan_all_fit (more_of-InfoMacVlan v row) = (attribute_fits (mac_vlan_entry v) && mac_vlan_fits v) &&
+      mac_vlan_all_fit row
 
 -- The value is the variant of its row in this table: a listed number is no `Other`, and neither is an attribute whose
 -- kind has a row.
@@ -62,7 +68,9 @@ mac_vlan_is_row_variant = mac_vlan_named_by macvlan (All mac_vlan_address_is_row
 -- Reading an attribute may run out of memory: the list of source addresses if its first attribute is accepted, another
 -- one if its row holds bytes and accepts it.
 abbrev pub mac_vlan_may_allocate : List ℕ → Bool
-mac_vlan_may_allocate b = cond (proper_kind (viewed_kind b) == 5) (begins_accepted (family_row macvlan_address) (viewed_payload b)) (may_allocate macvlan b)
+mac_vlan_may_allocate b =
+    cond (proper_kind (viewed_kind b) == 5) (begins_accepted (family_row macvlan_address) (viewed_payload b))
+    (may_allocate macvlan b)
 
 -- The value is that of the attribute at the start of the bytes.
 pub record MacVlanGives (b : List ℕ) (v : InfoMacVlan) : Type 0 where

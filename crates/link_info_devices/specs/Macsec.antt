@@ -2,7 +2,8 @@
 use Rattle.std.specs.Prelude.{◌≡◌, ◌∷◌, []}
 use Rattle.netlink_packet_core.specs.Attributes.{Attribute, proper_kind}
 use Rattle.netlink_packet_core.specs.Numbers.{be2, le4, le8}
-use Rattle.link_info_types.specs.MacSecTypes.{mac_sec_cipher_id_number, mac_sec_cipher_id_of, mac_sec_validate_number, mac_sec_validate_of, mac_sec_offload_number, mac_sec_offload_of}
+use Rattle.link_info_types.specs.MacSecTypes.{mac_sec_cipher_id_number, mac_sec_cipher_id_of, mac_sec_validate_number}
+use Rattle.link_info_types.specs.MacSecTypes.{mac_sec_validate_of, mac_sec_offload_number, mac_sec_offload_of}
 use Rattle.link_info_grammar.specs.Families.{macsec}
 use Rattle.attribute_tables_grammar.specs.LookUps.{has_no_row}
 use Rattle.netlink_packet_core.specs.Families.{attribute}

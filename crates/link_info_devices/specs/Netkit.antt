@@ -6,7 +6,8 @@ use Rattle.netlink_packet_core.specs.Numbers.{le2, le4}
 use Rattle.netlink_packet_core.specs.Booleans.{boolean_byte}
 use Rattle.attribute_tables_grammar.specs.LookUps.{has_no_row}
 use Rattle.link_info_grammar.specs.Families.{netkit}
-use Rattle.link_info_types.specs.NetkitTypes.{netkit_mode_number, netkit_mode_of, netkit_policy_number, netkit_policy_of, netkit_scrub_number}
+use Rattle.link_info_types.specs.NetkitTypes.{netkit_mode_number, netkit_mode_of, netkit_policy_number}
+use Rattle.link_info_types.specs.NetkitTypes.{netkit_policy_of, netkit_scrub_number}
 use Rattle.link_info_devices.specs.declared.netkit.InfoNetkit.{InfoNetkit}
 use Rattle.link_info_devices.specs.declared.netkit.InfoNetkit.TheVariants as Netkit
 

@@ -2,7 +2,8 @@
 -- in a line, in the order of its header: the kind, its payload, and the kernel's name of the kind, which `tools/rows.py
 -- --check` compares with the name that linkshow prints. A kind without a row is a raw attribute.
 use Rattle.std.specs.Prelude.{ℕ, List, [], ◌∷◌, codes}
-use Rattle.attribute_tables_grammar.specs.Shapes.{Shape, exact, either, at_most, nonzero_byte, one_byte, boolean_of_four}
+use Rattle.attribute_tables_grammar.specs.Shapes.{Shape, exact, either, at_most, nonzero_byte, one_byte}
+use Rattle.attribute_tables_grammar.specs.Shapes.{boolean_of_four}
 use Rattle.attribute_tables_grammar.specs.Shapes.{presence, text}
 use Rattle.attribute_tables_grammar.specs.Lists.{any, first_only}
 use Rattle.attribute_tables_grammar.specs.Tables.{Payload, Payload.peer, Payload.list, Table, Table.end}

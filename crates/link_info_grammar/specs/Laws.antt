@@ -11,7 +11,8 @@ use Rattle.link_info_grammar.specs.LinkInfo.{info_grammar_under, info_rule_under
 
 -- No canonical attribute is more than 77 times as long as the attribute, kinds ascend, and no name occurs twice.
 abbrev pub TablesPass : Type 0
-TablesPass = (form : ListForm) → (payload_bounded (link_info form kinds port_kinds) ≡ true) × (rising (link_info form kinds port_kinds) ≡ true)
+TablesPass = (form : ListForm) →
+    (payload_bounded (link_info form kinds port_kinds) ≡ true) × (rising (link_info form kinds port_kinds) ≡ true)
 
 -- Link info is lawful under every lawful rule of peers.
 abbrev pub InfoIsLawful : Type 0

@@ -1,5 +1,6 @@
 -- The kind of a link, by its name.
-use Rattle.std.specs.Prelude.{◌≡◌, ◌==◌, ◌&&◌, ℕ, Bool, true, List, [], ◌∷◌, ◌++◌, codes, string_bytes, Option, Some, None}
+use Rattle.std.specs.Prelude.{◌≡◌, ◌==◌, ◌&&◌, ℕ, Bool, true, List, [], ◌∷◌, ◌++◌, codes, string_bytes, Option, Some}
+use Rattle.std.specs.Prelude.{None}
 use Rattle.netlink_packet_core.specs.Attributes.{Attribute, proper_kind}
 use Rattle.netlink_packet_core.specs.AttributeViews.{viewed_kind, viewed_payload}
 use Rattle.netlink_packet_core.specs.Texts.{is_text, without_nul}
@@ -60,15 +61,19 @@ info_kind_text (Kind.Other s) = string_bytes s
 -- The first half of the variants except `Other`, up to `Vrf`: those that `with_early_name` finds.
 abbrev pub early_kinds : List InfoKind
 early_kinds =
-    Kind.Dummy ∷ Kind.Ifb ∷ Kind.Bridge ∷ Kind.Tun ∷ Kind.Nlmon ∷ Kind.Vlan ∷ Kind.Veth ∷ Kind.Vxlan ∷ Kind.Bond ∷ Kind.IpVlan ∷ Kind.IpVtap ∷
-    Kind.MacVlan ∷ Kind.MacVtap ∷ Kind.GreTap ∷ Kind.GreTap6 ∷ Kind.IpIp ∷ Kind.Ip6Tnl ∷ Kind.SitTun ∷ Kind.GreTun ∷ Kind.GreTun6 ∷ Kind.Vti ∷
+    Kind.Dummy ∷ Kind.Ifb ∷ Kind.Bridge ∷ Kind.Tun ∷ Kind.Nlmon ∷ Kind.Vlan ∷ Kind.Veth ∷ Kind.Vxlan ∷ Kind.Bond ∷
+    Kind.IpVlan ∷ Kind.IpVtap ∷
+    Kind.MacVlan ∷ Kind.MacVtap ∷ Kind.GreTap ∷ Kind.GreTap6 ∷ Kind.IpIp ∷ Kind.Ip6Tnl ∷ Kind.SitTun ∷ Kind.GreTun ∷
+    Kind.GreTun6 ∷ Kind.Vti ∷
     Kind.Vti6 ∷ Kind.Vrf ∷ []
 
 -- The second half of the variants except `Other`, from `Gtp` on: those that `with_late_name` finds.
 abbrev pub late_kinds : List InfoKind
 late_kinds =
-    Kind.Gtp ∷ Kind.Ipoib ∷ Kind.Wireguard ∷ Kind.Xfrm ∷ Kind.MacSec ∷ Kind.Hsr ∷ Kind.Geneve ∷ Kind.Netkit ∷ Kind.Vcan ∷ Kind.Vxcan ∷ Kind.Amt ∷
-    Kind.BatAdv ∷ Kind.BareUdp ∷ Kind.Netdevsim ∷ Kind.VirtWifi ∷ Kind.Wwan ∷ Kind.Can ∷ Kind.Dsa ∷ Kind.Team ∷ Kind.ErSpan ∷ Kind.Ip6ErSpan ∷
+    Kind.Gtp ∷ Kind.Ipoib ∷ Kind.Wireguard ∷ Kind.Xfrm ∷ Kind.MacSec ∷ Kind.Hsr ∷ Kind.Geneve ∷ Kind.Netkit ∷
+    Kind.Vcan ∷ Kind.Vxcan ∷ Kind.Amt ∷
+    Kind.BatAdv ∷ Kind.BareUdp ∷ Kind.Netdevsim ∷ Kind.VirtWifi ∷ Kind.Wwan ∷ Kind.Can ∷ Kind.Dsa ∷ Kind.Team ∷
+    Kind.ErSpan ∷ Kind.Ip6ErSpan ∷
     Kind.Pfcp ∷ Kind.RmNet ∷ []
 
 -- The variants except `Other`, in the order of `kind_names`.

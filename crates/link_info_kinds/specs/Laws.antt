@@ -7,10 +7,12 @@ use Rattle.link_info_kinds.specs.declared.info_port_kind.InfoPortKind.{InfoPortK
 
 -- Kinds with one name are the same variant, or both `Other`.
 abbrev pub NamesDetermineKinds : Type 0
-NamesDetermineKinds = (k m : InfoKind) → info_kind_is_named k ≡ true → info_kind_is_named m ≡ true → info_kind_text k ≡ info_kind_text m → listed_kind k ≡ listed_kind m
+NamesDetermineKinds = (k m : InfoKind) → info_kind_is_named k ≡ true → info_kind_is_named m ≡ true →
+    info_kind_text k ≡ info_kind_text m → listed_kind k ≡ listed_kind m
 
 -- Port kinds with one name are the same variant, or both `Other`.
 abbrev pub NamesDeterminePortKinds : Type 0
 NamesDeterminePortKinds =
-    (k m : InfoPortKind) → info_port_kind_is_named k ≡ true → info_port_kind_is_named m ≡ true → info_port_kind_text k ≡ info_port_kind_text m →
+    (k m : InfoPortKind) → info_port_kind_is_named k ≡ true → info_port_kind_is_named m ≡ true →
+    info_port_kind_text k ≡ info_port_kind_text m →
     listed_port_kind k ≡ listed_port_kind m

@@ -1,5 +1,6 @@
 -- The kind of a port, by its name.
-use Rattle.std.specs.Prelude.{◌≡◌, ◌==◌, ◌&&◌, ℕ, Bool, true, List, [], ◌∷◌, ◌++◌, codes, string_bytes, Option, Some, None}
+use Rattle.std.specs.Prelude.{◌≡◌, ◌==◌, ◌&&◌, ℕ, Bool, true, List, [], ◌∷◌, ◌++◌, codes, string_bytes, Option, Some}
+use Rattle.std.specs.Prelude.{None}
 use Rattle.netlink_packet_core.specs.Attributes.{Attribute, proper_kind}
 use Rattle.netlink_packet_core.specs.AttributeViews.{viewed_kind, viewed_payload}
 use Rattle.netlink_packet_core.specs.Texts.{is_text, without_nul}

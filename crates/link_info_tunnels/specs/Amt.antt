@@ -8,7 +8,8 @@ use Rattle.link_info_grammar.specs.Families.{amt}
 use Rattle.attribute_tables_grammar.specs.LookUps.{has_no_row}
 use Rattle.netlink_packet_core.specs.Families.{attribute}
 use Rattle.link_info_tunnels.specs.declared.amt.InfoAmt.{InfoAmt}
-use Rattle.link_info_tunnels.specs.declared.amt.InfoAmt.TheVariants.{Mode, RelayPort, GatewayPort, Link, LocalIp, RemoteIp, DiscoveryIp, MaxTunnels, Other}
+use Rattle.link_info_tunnels.specs.declared.amt.InfoAmt.TheVariants.{Mode, RelayPort, GatewayPort, Link, LocalIp}
+use Rattle.link_info_tunnels.specs.declared.amt.InfoAmt.TheVariants.{RemoteIp, DiscoveryIp, MaxTunnels, Other}
 
 -- The attribute of a value.
 abbrev pub amt_entry : InfoAmt → Attribute

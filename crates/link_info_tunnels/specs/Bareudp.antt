@@ -7,7 +7,8 @@ use Rattle.link_info_grammar.specs.Families.{bareudp}
 use Rattle.attribute_tables_grammar.specs.LookUps.{has_no_row}
 use Rattle.netlink_packet_core.specs.Families.{attribute}
 use Rattle.link_info_tunnels.specs.declared.bareudp.InfoBareUdp.{InfoBareUdp}
-use Rattle.link_info_tunnels.specs.declared.bareudp.InfoBareUdp.TheVariants.{Port, Ethertype, SrcPortMin, MultiprotoMode, Other}
+use Rattle.link_info_tunnels.specs.declared.bareudp.InfoBareUdp.TheVariants.{Port, Ethertype, SrcPortMin}
+use Rattle.link_info_tunnels.specs.declared.bareudp.InfoBareUdp.TheVariants.{MultiprotoMode, Other}
 
 -- The attribute of a value.
 abbrev pub bareudp_entry : InfoBareUdp → Attribute

@@ -9,7 +9,10 @@ use Rattle.link_info_grammar.specs.Families.{geneve}
 use Rattle.attribute_tables_grammar.specs.LookUps.{has_no_row}
 use Rattle.netlink_packet_core.specs.Families.{attribute}
 use Rattle.link_info_tunnels.specs.declared.geneve.InfoGeneve.{InfoGeneve}
-use Rattle.link_info_tunnels.specs.declared.geneve.InfoGeneve.TheVariants.{Id, Remote, Ttl, Tos, Port, CollectMetadata, Remote6, UdpCsum, UdpZeroCsum6Tx, UdpZeroCsum6Rx, Label, TtlInherit, Df, InnerProtoInherit, Local, Local6, Other}
+use Rattle.link_info_tunnels.specs.declared.geneve.InfoGeneve.TheVariants.{Id, Remote, Ttl, Tos, Port, CollectMetadata}
+use Rattle.link_info_tunnels.specs.declared.geneve.InfoGeneve.TheVariants.{Remote6, UdpCsum, UdpZeroCsum6Tx}
+use Rattle.link_info_tunnels.specs.declared.geneve.InfoGeneve.TheVariants.{UdpZeroCsum6Rx, Label, TtlInherit, Df}
+use Rattle.link_info_tunnels.specs.declared.geneve.InfoGeneve.TheVariants.{InnerProtoInherit, Local, Local6, Other}
 
 -- The attribute of a value.
 abbrev pub geneve_entry : InfoGeneve → Attribute

@@ -4,12 +4,17 @@ use Rattle.std.specs.Net.Addr.{ipv4_octets}
 use Rattle.netlink_packet_core.specs.Attributes.{Attribute, proper_kind}
 use Rattle.netlink_packet_core.specs.Numbers.{be2, be4, le2, le4}
 use Rattle.netlink_packet_core.specs.Booleans.{boolean_byte}
-use Rattle.link_info_types.specs.GreTypes.{gre_io_flags_bits, gre_encap_flags_bits, gre_encap_type_number, gre_encap_type_of, er_span_dir_number, er_span_dir_of}
+use Rattle.link_info_types.specs.GreTypes.{gre_io_flags_bits, gre_encap_flags_bits, gre_encap_type_number}
+use Rattle.link_info_types.specs.GreTypes.{gre_encap_type_of, er_span_dir_number, er_span_dir_of}
 use Rattle.link_info_grammar.specs.Families.{gre}
 use Rattle.attribute_tables_grammar.specs.LookUps.{has_no_row}
 use Rattle.netlink_packet_core.specs.Families.{attribute}
 use Rattle.link_info_tunnels.specs.declared.gre.InfoGre.{InfoGre}
-use Rattle.link_info_tunnels.specs.declared.gre.InfoGre.TheVariants.{Link, IFlags, OFlags, IKey, OKey, Local, Remote, Ttl, Tos, PathMTUDiscovery, EncapType, EncapFlags, SourcePort, DestinationPort, CollectMetadata, FwMask, ErSpanIndex, ErSpanVer, ErSpanDir, ErSpanHwId, Other}
+use Rattle.link_info_tunnels.specs.declared.gre.InfoGre.TheVariants.{Link, IFlags, OFlags, IKey, OKey, Local, Remote}
+use Rattle.link_info_tunnels.specs.declared.gre.InfoGre.TheVariants.{Ttl, Tos, PathMTUDiscovery, EncapType, EncapFlags}
+use Rattle.link_info_tunnels.specs.declared.gre.InfoGre.TheVariants.{SourcePort, DestinationPort, CollectMetadata}
+use Rattle.link_info_tunnels.specs.declared.gre.InfoGre.TheVariants.{FwMask, ErSpanIndex, ErSpanVer, ErSpanDir}
+use Rattle.link_info_tunnels.specs.declared.gre.InfoGre.TheVariants.{ErSpanHwId, Other}
 
 -- The attribute of a value.
 abbrev pub gre_entry : InfoGre → Attribute

@@ -3,12 +3,17 @@ use Rattle.std.specs.Prelude.{◌≡◌, ◌∷◌, []}
 use Rattle.std.specs.Net.Addr.{ipv6_octets}
 use Rattle.netlink_packet_core.specs.Attributes.{Attribute, proper_kind}
 use Rattle.netlink_packet_core.specs.Numbers.{be2, be4, le2, le4}
-use Rattle.link_info_types.specs.GreTypes.{gre_io_flags_bits, gre_encap_flags_bits, gre_encap_type_number, gre_encap_type_of, er_span_dir_number, er_span_dir_of}
+use Rattle.link_info_types.specs.GreTypes.{gre_io_flags_bits, gre_encap_flags_bits, gre_encap_type_number}
+use Rattle.link_info_types.specs.GreTypes.{gre_encap_type_of, er_span_dir_number, er_span_dir_of}
 use Rattle.link_info_grammar.specs.Families.{gre6}
 use Rattle.attribute_tables_grammar.specs.LookUps.{has_no_row}
 use Rattle.netlink_packet_core.specs.Families.{attribute}
 use Rattle.link_info_tunnels.specs.declared.gre6.InfoGre6.{InfoGre6}
-use Rattle.link_info_tunnels.specs.declared.gre6.InfoGre6.TheVariants.{Link, IFlags, OFlags, IKey, OKey, Local, Remote, Ttl, Tos, EncapLimit, FlowLabel, EncapType, EncapFlags, SourcePort, DestinationPort, CollectMetadata, FwMask, ErSpanIndex, ErSpanVer, ErSpanDir, ErSpanHwId, Other}
+use Rattle.link_info_tunnels.specs.declared.gre6.InfoGre6.TheVariants.{Link, IFlags, OFlags, IKey, OKey, Local, Remote}
+use Rattle.link_info_tunnels.specs.declared.gre6.InfoGre6.TheVariants.{Ttl, Tos, EncapLimit, FlowLabel, EncapType}
+use Rattle.link_info_tunnels.specs.declared.gre6.InfoGre6.TheVariants.{EncapFlags, SourcePort, DestinationPort}
+use Rattle.link_info_tunnels.specs.declared.gre6.InfoGre6.TheVariants.{CollectMetadata, FwMask, ErSpanIndex, ErSpanVer}
+use Rattle.link_info_tunnels.specs.declared.gre6.InfoGre6.TheVariants.{ErSpanDir, ErSpanHwId, Other}
 
 -- The attribute of a value.
 abbrev pub gre6_entry : InfoGre6 → Attribute

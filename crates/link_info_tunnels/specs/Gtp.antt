@@ -9,7 +9,8 @@ use Rattle.link_info_grammar.specs.Families.{gtp}
 use Rattle.attribute_tables_grammar.specs.LookUps.{has_no_row}
 use Rattle.netlink_packet_core.specs.Families.{attribute}
 use Rattle.link_info_tunnels.specs.declared.gtp.InfoGtp.{InfoGtp}
-use Rattle.link_info_tunnels.specs.declared.gtp.InfoGtp.TheVariants.{Fd0, Fd1, PdpHashsize, Role, CreateSockets, RestartCount, Local, Local6, Other}
+use Rattle.link_info_tunnels.specs.declared.gtp.InfoGtp.TheVariants.{Fd0, Fd1, PdpHashsize, Role, CreateSockets}
+use Rattle.link_info_tunnels.specs.declared.gtp.InfoGtp.TheVariants.{RestartCount, Local, Local6, Other}
 
 -- The attribute of a value.
 abbrev pub gtp_entry : InfoGtp → Attribute

@@ -17,9 +17,17 @@ use Rattle.link_info_grammar.specs.Families.{ip_tunnel}
 use Rattle.link_info_kinds.specs.declared.info_kind.InfoKind.{InfoKind}
 use Rattle.link_info_kinds.specs.declared.info_kind.InfoKind.TheVariants as Kind
 use Rattle.link_info_types.specs.IpProtocols.{ip_protocol_number, ip_protocol_of}
-use Rattle.link_info_types.specs.IpTunnelTypes.{ip6_tunnel_flags_bits, tunnel_encap_flags_bits, tunnel_encap_type_number, tunnel_encap_type_of}
+use Rattle.link_info_types.specs.IpTunnelTypes.{ip6_tunnel_flags_bits, tunnel_encap_flags_bits}
+use Rattle.link_info_types.specs.IpTunnelTypes.{tunnel_encap_type_number, tunnel_encap_type_of}
 use Rattle.link_info_tunnels.specs.declared.iptunnel.InfoIpTunnel.{InfoIpTunnel}
-use Rattle.link_info_tunnels.specs.declared.iptunnel.InfoIpTunnel.TheVariants.{Link, Local, Remote, Ttl, Tos, EncapLimit, FlowInfo, Ipv4Flags, Ipv6SitFlags, Ipv6Flags, Protocol, PMtuDisc, Ipv6RdPrefix, Ipv6RdRelayPrefix, Ipv6RdPrefixLen, Ipv6RdRelayPrefixLen, EncapType, EncapFlags, EncapSPort, EncapDPort, CollectMetadata, FwMark, Other}
+use Rattle.link_info_tunnels.specs.declared.iptunnel.InfoIpTunnel.TheVariants.{Link, Local, Remote, Ttl, Tos}
+use Rattle.link_info_tunnels.specs.declared.iptunnel.InfoIpTunnel.TheVariants.{EncapLimit, FlowInfo, Ipv4Flags}
+use Rattle.link_info_tunnels.specs.declared.iptunnel.InfoIpTunnel.TheVariants.{Ipv6SitFlags, Ipv6Flags, Protocol}
+use Rattle.link_info_tunnels.specs.declared.iptunnel.InfoIpTunnel.TheVariants.{PMtuDisc, Ipv6RdPrefix}
+use Rattle.link_info_tunnels.specs.declared.iptunnel.InfoIpTunnel.TheVariants.{Ipv6RdRelayPrefix, Ipv6RdPrefixLen}
+use Rattle.link_info_tunnels.specs.declared.iptunnel.InfoIpTunnel.TheVariants.{Ipv6RdRelayPrefixLen, EncapType}
+use Rattle.link_info_tunnels.specs.declared.iptunnel.InfoIpTunnel.TheVariants.{EncapFlags, EncapSPort, EncapDPort}
+use Rattle.link_info_tunnels.specs.declared.iptunnel.InfoIpTunnel.TheVariants.{CollectMetadata, FwMark, Other}
 
 -- The shape of the flags under a kind of link; other kinds have none.
 abbrev pub tunnel_flags : InfoKind → Shape

@@ -9,7 +9,14 @@ use Rattle.link_info_grammar.specs.Families.{vxlan}
 use Rattle.attribute_tables_grammar.specs.LookUps.{has_no_row}
 use Rattle.netlink_packet_core.specs.Families.{attribute}
 use Rattle.link_info_tunnels.specs.declared.vxlan.InfoVxlan.{InfoVxlan}
-use Rattle.link_info_tunnels.specs.declared.vxlan.InfoVxlan.TheVariants.{Id, Group, Link, Local, Ttl, Tos, Learning, Ageing, Limit, PortRange, Proxy, Rsc, L2Miss, L3Miss, Port, Group6, Local6, UDPCsum, UDPZeroCsumTX, UDPZeroCsumRX, RemCsumTX, RemCsumRX, Gbp, RemCsumNoPartial, CollectMetadata, Label, Gpe, TtlInheritFlag, TtlInherit, Df, Vnifilter, Localbypass, LabelPolicy, ReservedBits, McRoute, Other}
+use Rattle.link_info_tunnels.specs.declared.vxlan.InfoVxlan.TheVariants.{Id, Group, Link, Local, Ttl, Tos, Learning}
+use Rattle.link_info_tunnels.specs.declared.vxlan.InfoVxlan.TheVariants.{Ageing, Limit, PortRange, Proxy, Rsc, L2Miss}
+use Rattle.link_info_tunnels.specs.declared.vxlan.InfoVxlan.TheVariants.{L3Miss, Port, Group6, Local6, UDPCsum}
+use Rattle.link_info_tunnels.specs.declared.vxlan.InfoVxlan.TheVariants.{UDPZeroCsumTX, UDPZeroCsumRX, RemCsumTX}
+use Rattle.link_info_tunnels.specs.declared.vxlan.InfoVxlan.TheVariants.{RemCsumRX, Gbp, RemCsumNoPartial}
+use Rattle.link_info_tunnels.specs.declared.vxlan.InfoVxlan.TheVariants.{CollectMetadata, Label, Gpe, TtlInheritFlag}
+use Rattle.link_info_tunnels.specs.declared.vxlan.InfoVxlan.TheVariants.{TtlInherit, Df, Vnifilter, Localbypass}
+use Rattle.link_info_tunnels.specs.declared.vxlan.InfoVxlan.TheVariants.{LabelPolicy, ReservedBits, McRoute, Other}
 
 -- The attribute of a value.
 abbrev pub vxlan_entry : InfoVxlan → Attribute

@@ -7,7 +7,9 @@ use Rattle.link_info_types.specs.RmNetTypes.{rm_net_flags_bits, rm_net_flags_tab
 use Rattle.link_info_types.specs.declared.ipvlan.TheConstants.IpVlanFlags.{Private, Vepa}
 use Rattle.link_info_types.specs.declared.mac_vlan.TheConstants.MacVlanFlags.{NoPromisc, NoDst}
 use Rattle.link_info_types.specs.declared.netkit.TheConstants.NetkitPolicy.{Forward}
-use Rattle.link_info_types.specs.declared.rmnet.TheConstants.RmNetFlags.{IngressDeaggregation, IngressCommands, IngressMapCksumV4, EgressMapCksumV4, IngressMapCksumV5, EgressMapCksumV5}
+use Rattle.link_info_types.specs.declared.rmnet.TheConstants.RmNetFlags.{IngressDeaggregation, IngressCommands}
+use Rattle.link_info_types.specs.declared.rmnet.TheConstants.RmNetFlags.{IngressMapCksumV4, EgressMapCksumV4}
+use Rattle.link_info_types.specs.declared.rmnet.TheConstants.RmNetFlags.{IngressMapCksumV5, EgressMapCksumV5}
 
 -- The constants of IPVLAN flags, each with its name and its bits.
 abbrev pub ip_vlan_flags_constants : List (List ℕ × ℕ)

@@ -1,7 +1,9 @@
 -- The laws of constants, as the functions of `laws` state them.
 use Rattle.std.specs.Prelude.{◌≡◌, ℕ, List, [], ◌∷◌, codes}
-use Rattle.link_info_types.specs.GreTypes.{gre_io_flags_bits, gre_io_flags_table, gre_encap_flags_bits, gre_encap_flags_table}
-use Rattle.link_info_types.specs.IpTunnelTypes.{tunnel_encap_flags_bits, tunnel_encap_flags_table, ip6_tunnel_flags_bits, ip6_tunnel_flags_table}
+use Rattle.link_info_types.specs.GreTypes.{gre_io_flags_bits, gre_io_flags_table, gre_encap_flags_bits}
+use Rattle.link_info_types.specs.GreTypes.{gre_encap_flags_table}
+use Rattle.link_info_types.specs.IpTunnelTypes.{tunnel_encap_flags_bits, tunnel_encap_flags_table}
+use Rattle.link_info_types.specs.IpTunnelTypes.{ip6_tunnel_flags_bits, ip6_tunnel_flags_table}
 use Rattle.link_info_types.specs.declared.gre.TheConstants.GreIOFlags as Gre
 use Rattle.link_info_types.specs.declared.gre.TheConstants.GreEncapFlags as GreEncap
 use Rattle.link_info_types.specs.declared.iptunnel.TheConstants.TunnelEncapFlags as TunnelEncap

@@ -12,4 +12,5 @@ pub record RestIsIndependent (r : Rule) (bytes prefix rest : List ℕ) : Type 0 
 -- encoded independently.
 pub record IsCanonicalPrefix (r : Rule) (bytes : List ℕ) (n : ℕ) : Type 0 where
   pub within : n ≤ length bytes
-  pub continues : r.accepted bytes ≡ true → r.fits bytes ≡ true → RestIsIndependent r bytes (take n bytes) (drop n bytes)
+  pub continues : r.accepted bytes ≡ true → r.fits bytes ≡ true →
+      RestIsIndependent r bytes (take n bytes) (drop n bytes)

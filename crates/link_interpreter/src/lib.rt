@@ -3,12 +3,12 @@
 #![tactic(auto)]
 
 mod attribute;
+mod capacity;
 mod data;
 mod info;
 mod link_info;
 mod measure;
 mod peers;
-mod capacity;
 mod same;
 mod same_shapes;
 mod shapes;
@@ -17,13 +17,13 @@ mod write;
 mod write_shapes;
 
 pub use attribute::{Attribute, KIND_BOUND, first_attribute};
+pub use capacity::{append, append_zeros};
 pub use data::{accepts_data, accepts_port_data, data_error};
 pub use link_info::{
     ListMeasure, check_list, check_list_with, list_error_with, same_list, same_list_with,
 };
 pub use measure::{measure_held, walk_list};
 pub use peers::{BytesPeer, PeerMeasure, PeerRule, PeerSet, Ruled, WritePeer};
-pub use capacity::{append, append_zeros};
 pub use same::same_held;
 pub use shapes::{Measured, measure_shape};
 pub use tables::{Found, find};

@@ -16,7 +16,7 @@ use crate::peers::PeerSet;
 use crate::shapes::{Measured, NOTHING_YET, measure_shape};
 use crate::tables::find;
 use attribute_tables_grammar::laws::{
-    measures_unfold, measures_determine_rules, canonical_lists_unfold, rows_are_looked_up,
+    canonical_lists_unfold, measures_determine_rules, measures_unfold, rows_are_looked_up,
 };
 use link_tables::{Form, Held, NO_KINDS, Table, info_held, next_force};
 
@@ -266,7 +266,8 @@ pub fn measure_info<P: PeerSet>(peers: &P, bytes: &[u8]) -> Option<Measured>
             return None;
         };
         let is_canonical = is_canonical_attribute(rest, attribute, after);
-        let is_canonical_kind = is_canonical & (written_info_kind(attribute.kind) == attribute.kind);
+        let is_canonical_kind = is_canonical
+            & (written_info_kind(attribute.kind) == attribute.kind);
         total = with_attribute(total, inside, is_canonical_kind);
         force = next_force(force, kind, attribute.payload);
         rest = after;

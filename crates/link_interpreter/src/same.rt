@@ -18,7 +18,7 @@ use crate::peers::PeerSet;
 use crate::same_shapes::same_shape;
 use crate::tables::find;
 use attribute_tables_grammar::laws::{
-    attributes_are_compared, rows_are_looked_up, sameness_unfolds, kept_attributes_unfold,
+    attributes_are_compared, kept_attributes_unfold, rows_are_looked_up, sameness_unfolds,
 };
 use link_tables::{Form, Held, InForce, NO_KINDS, Table, info_held, next_force};
 

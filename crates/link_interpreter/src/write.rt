@@ -10,10 +10,10 @@ ghost use Rattle.link_interpreter.specs.Capacity.{HasCapacity};
 ghost use Rattle.link_tables.specs.Tables.{held_rule, info_payload, table_of};
 
 use crate::attribute::{KIND_BOUND, first_attribute};
+use crate::capacity::{append, append_padding, write_header};
 use crate::info::{info_is_a_list_inside, written_info_kind};
 use crate::measure::is_kept;
 use crate::peers::WritePeer;
-use crate::capacity::{append, append_padding, write_header};
 use crate::tables::find;
 use crate::write_shapes::write_shape;
 use attribute_tables_grammar::laws::{

@@ -30,29 +30,36 @@ pub record PassesLength (o : Choice) (limit : ℕ) (s w : List ℕ) (at : ℕ) :
 -- The bytes s were read, w was written, and the result is a fault of this kind at this offset. The propositions ended,
 -- read_failed and write_failed are what the devices reported.
 abbrev pub ShownAt : Choice → Type 0 → Type 0 → Type 0 → ℕ → List ℕ → List ℕ → FaultKind → ℕ → Type 0
-ShownAt o ended read_failed write_failed limit s w Cut at = ended × (first_fault limit s ≡ Some (record { kind = Cut; offset = at })) × (w ≡ lines o limit s)
+ShownAt o ended read_failed write_failed limit s w Cut at = ended ×
+    (first_fault limit s ≡ Some (record { kind = Cut; offset = at })) × (w ≡ lines o limit s)
 ShownAt o ended read_failed write_failed limit s w Memory at = ShowsPrefix o limit s w at
-ShownAt o ended read_failed write_failed limit s w Read at = read_failed × (at ≡ length s) × IsOpen (first_fault limit s) × (w ≡ lines o limit s)
-ShownAt o ended read_failed write_failed limit s w Write at = write_failed × (at ≡ min (length w) (2 ^ 64 - 1)) × IsPrefix w (lines o limit s)
+ShownAt o ended read_failed write_failed limit s w Read at = read_failed × (at ≡ length s) ×
+    IsOpen (first_fault limit s) × (w ≡ lines o limit s)
+ShownAt o ended read_failed write_failed limit s w Write at = write_failed × (at ≡ min (length w) (2 ^ 64 - 1)) ×
+    IsPrefix w (lines o limit s)
 ShownAt o ended read_failed write_failed limit s w TooLong at = PassesLength o limit s w at
 ShownAt o ended read_failed write_failed limit s w Failed at = ⊥
-ShownAt o ended read_failed write_failed limit s w kind at = (first_fault limit s ≡ Some (record { kind = kind; offset = at })) × (w ≡ lines o limit s)
+ShownAt o ended read_failed write_failed limit s w kind at =
+    (first_fault limit s ≡ Some (record { kind = kind; offset = at })) × (w ≡ lines o limit s)
 
 -- The bytes s were read, w was written, and this is the result, with the reason of a refused body.
 abbrev pub Shown : Choice → Type 0 → Type 0 → Type 0 → ℕ → List ℕ → List ℕ → Result (Unit {0}) ShowFault → Type 0
 Shown o ended read_failed write_failed limit s w (Ok x) = ended × IsLegal limit s × (w ≡ lines o limit s)
 Shown o ended read_failed write_failed limit s w (Err e) =
-    ShownAt o ended read_failed write_failed limit s w e.fault.kind e.fault.offset × (all_found e.refusal ≡ reported_refusal s e.fault.kind e.fault.offset)
+    ShownAt o ended read_failed write_failed limit s w e.fault.kind e.fault.offset ×
+    (all_found e.refusal ≡ reported_refusal s e.fault.kind e.fault.offset)
 
 -- What was read has left the source, which had the first bytes and has the second. What was written has come to the
 -- sink, which held the third and holds the fourth.
 abbrev pub Shows : Choice → Option (List ℕ) → Option (List ℕ) → Option (List ℕ) → Option (List ℕ)
     → Type 0 → Type 0 → Type 0 → ℕ → Result (Unit {0}) ShowFault → Type 0
 Shows o from left held holds ended read_failed write_failed limit result =
-    (s w : List ℕ) × Consumes from left s × Appends held holds w × Shown o ended read_failed write_failed limit s w result
+    (s w : List ℕ) × Consumes from left s × Appends held holds w ×
+    Shown o ended read_failed write_failed limit s w result
 
 -- The same relation for a call that keeps the first bytes of what was read, which are these.
 abbrev pub ShowsKeeping : List ℕ → Choice → Option (List ℕ) → Option (List ℕ) → Option (List ℕ) → Option (List ℕ)
     → Type 0 → Type 0 → Type 0 → ℕ → Result (Unit {0}) ShowFault → Type 0
 ShowsKeeping first o from left held holds ended read_failed write_failed limit result =
-    (s w : List ℕ) × Consumes from left s × Appends held holds w × Shown o ended read_failed write_failed limit s w result × (first ≡ take 4 s)
+    (s w : List ℕ) × Consumes from left s × Appends held holds w ×
+    Shown o ended read_failed write_failed limit s w result × (first ≡ take 4 s)

@@ -1,5 +1,6 @@
 -- The reason of a refused body, and the texts of faults.
-use Rattle.std.specs.Prelude.{ℕ, ◌+◌, ◌-◌, ◌^◌, ◌<◌, ◌≤◌, nat_lt, cond, List, [], ◌++◌, codes, length, drop, Option, None, Some}
+use Rattle.std.specs.Prelude.{ℕ, ◌+◌, ◌-◌, ◌^◌, ◌<◌, ◌≤◌, nat_lt, cond, List, [], ◌++◌, codes, length, drop, Option}
+use Rattle.std.specs.Prelude.{None, Some}
 use Rattle.netlink_packet_core_grammar.specs.Frames.{IsFrame}
 use Rattle.link_capture_grammar.specs.declared.fault.CaptureFault.{CaptureFault}
 use Rattle.link_capture_grammar.specs.declared.fault.FaultKind.{FaultKind}

@@ -87,7 +87,12 @@ fn refusal_at(fault: CaptureFault, start: u64, bytes: &[u8]) -> Option<Refusal>
 
 /// Returns a fault that came with a piece, with its refusal. `prefix` has the bytes of the frame
 /// that was cut before the piece, and these begin at the offset `start`.
-pub(crate) fn with_refusal(fault: CaptureFault, start: u64, prefix: &mut Vec<u8>, piece: &[u8]) -> ShowFault
+pub(crate) fn with_refusal(
+    fault: CaptureFault,
+    start: u64,
+    prefix: &mut Vec<u8>,
+    piece: &[u8],
+) -> ShowFault
     requires frame { fault.kind ≡ FaultKind.Refused
         → HasFrameAt start (prefix.old.items ++ piece.now) fault.offset }
     requires capacity { 0 < length prefix.old.items

@@ -13,8 +13,8 @@ use crate::lines::push_lines;
 use crate::options::LineOptions;
 use link_capture_grammar::fault::{CaptureFault, FaultKind};
 use link_capture_grammar::laws::{
-    captures_unfold_by_frames, frames_are_independent, joined_captures_have_joined_texts, texts_are_normal,
-    texts_of_a_prefix_stay, texts_determine_meanings,
+    captures_unfold_by_frames, frames_are_independent, joined_captures_have_joined_texts,
+    texts_are_normal, texts_determine_meanings, texts_of_a_prefix_stay,
 };
 use link_capture_reader::normalize_bytes;
 use link_lines_texts::laws::lines_are_joined;

@@ -23,7 +23,8 @@ pub data Inside : Type 0 where
   PortData : Inside
 
 -- The way of showing a payload that a value in code represents.
-abbrev pub inside_of : {N T R : Type 0} → (N → List ℕ) → (T → List (ℕ × N)) → (R → List (FieldOf N)) → FormatBy (ShownBy T R) → Inside
+abbrev pub inside_of : {N T R : Type 0} → (N → List ℕ) → (T → List (ℕ × N)) → (R → List (FieldOf N)) →
+    FormatBy (ShownBy T R) → Inside
 inside_of f g h (B.Value shown) = Value (format_of f g h shown)
 inside_of f g h B.Peer = Peer
 inside_of f g h (B.List form table) = Nested table

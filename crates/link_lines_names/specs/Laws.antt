@@ -11,4 +11,5 @@ pub record RawAttributesAreDetermined : Type 0 where
   pub name : (table kind : ℕ) (n : Named Raw) → raw_name table kind ≡ Some n → is_name n.0 ≡ true
   pub space : (raw : Raw) (p : List ℕ) → BeginsWithSpace (raw_payload raw p)
   pub line : (table kind : ℕ) (p : List ℕ) → IsLine (raw_text table kind p)
-  pub determined : (table k l : ℕ) (p q : List ℕ) → k < 65536 → l < 65536 → AreBytes p → AreBytes q → raw_text table k p ≡ raw_text table l q → (k ≡ l) × (p ≡ q)
+  pub determined : (table k l : ℕ) (p q : List ℕ) → k < 65536 → l < 65536 → AreBytes p → AreBytes q →
+      raw_text table k p ≡ raw_text table l q → (k ≡ l) × (p ≡ q)

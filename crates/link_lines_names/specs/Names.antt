@@ -1,5 +1,6 @@
 -- Rows of kinds and their names, with any information attached to a name.
-use Rattle.std.specs.Prelude.{ℕ, ◌&&◌, not, nat_le, nat_lt, Bool, true, false, List, [], ◌∷◌, Option, Some, None, bytes_eq, option_map}
+use Rattle.std.specs.Prelude.{ℕ, ◌&&◌, not, nat_le, nat_lt, Bool, true, false, List, [], ◌∷◌, Option, Some, None}
+use Rattle.std.specs.Prelude.{bytes_eq, option_map}
 
 -- A name, with the information attached to it.
 abbrev pub Named : Type 0 → Type 0

@@ -3,24 +3,36 @@ use Rattle.std.specs.Prelude.{◌≡◌, ◌==◌, ◌+◌, ◌&&◌, nat_le, �
 use Rattle.std.specs.List.{after_first}
 use Rattle.link_lines_values.specs.Names.{Text, texts_of}
 use Rattle.link_lines_values.specs.declared.flags.TheConstants.{LINK_FLAGS}
-use Rattle.link_lines_values.specs.declared.number_texts.TheConstants.{AMT_MODE, GENEVE_DF, VXLAN_DF, GTP_ROLE, TUNNEL_ENCAP_TYPE, GRE_ENCAP_TYPE, ER_SPAN_DIR, IP_VLAN_MODE, MAC_VLAN_MODE, NETKIT_MODE, NETKIT_POLICY, NETKIT_SCRUB, STATE, LINK_MODE, IN6_ADDR_GEN_MODE, MCTP_PHYS_BINDING, LINK_LAYER_TYPE, MESSAGE_TYPE}
+use Rattle.link_lines_values.specs.declared.number_texts.TheConstants.{AMT_MODE, GENEVE_DF, VXLAN_DF, GTP_ROLE}
+use Rattle.link_lines_values.specs.declared.number_texts.TheConstants.{TUNNEL_ENCAP_TYPE, GRE_ENCAP_TYPE, ER_SPAN_DIR}
+use Rattle.link_lines_values.specs.declared.number_texts.TheConstants.{IP_VLAN_MODE, MAC_VLAN_MODE, NETKIT_MODE}
+use Rattle.link_lines_values.specs.declared.number_texts.TheConstants.{NETKIT_POLICY, NETKIT_SCRUB, STATE, LINK_MODE}
+use Rattle.link_lines_values.specs.declared.number_texts.TheConstants.{IN6_ADDR_GEN_MODE, MCTP_PHYS_BINDING}
+use Rattle.link_lines_values.specs.declared.number_texts.TheConstants.{LINK_LAYER_TYPE, MESSAGE_TYPE}
 use Rattle.linkshow_program.specs.declared.types.TheConstants.{TYPE_WORDS}
 use Rattle.linkshow_program.specs.Types.{message_labels}
 use Rattle.link_info_types.specs.AmtTypes.{amt_mode_number, amt_mode_text, listed_amt_modes}
 use Rattle.link_info_types.specs.GeneveTypes.{geneve_df_number, geneve_df_text, listed_geneve_dfs}
-use Rattle.link_info_types.specs.GreTypes.{er_span_dir_number, er_span_dir_text, gre_encap_type_number, gre_encap_type_text, listed_er_span_dirs, listed_gre_encap_types}
+use Rattle.link_info_types.specs.GreTypes.{er_span_dir_number, er_span_dir_text, gre_encap_type_number}
+use Rattle.link_info_types.specs.GreTypes.{gre_encap_type_text, listed_er_span_dirs, listed_gre_encap_types}
 use Rattle.link_info_types.specs.GtpTypes.{gtp_role_number, gtp_role_text, listed_gtp_roles}
-use Rattle.link_info_types.specs.IpTunnelTypes.{listed_tunnel_encap_types, tunnel_encap_type_number, tunnel_encap_type_text}
+use Rattle.link_info_types.specs.IpTunnelTypes.{listed_tunnel_encap_types, tunnel_encap_type_number}
+use Rattle.link_info_types.specs.IpTunnelTypes.{tunnel_encap_type_text}
 use Rattle.link_info_types.specs.VxlanTypes.{listed_vxlan_dfs, vxlan_df_number, vxlan_df_text}
 use Rattle.link_info_types.specs.IpVlanTypes.{ip_vlan_mode_number, ip_vlan_mode_text, listed_ip_vlan_modes}
 use Rattle.link_info_types.specs.MacVlanTypes.{listed_mac_vlan_modes, mac_vlan_mode_number, mac_vlan_mode_text}
-use Rattle.link_info_types.specs.NetkitTypes.{listed_netkit_modes, listed_netkit_policies, listed_netkit_scrubs, netkit_mode_number, netkit_mode_text, netkit_policy_number, netkit_policy_text, netkit_scrub_number, netkit_scrub_text}
-use Rattle.link_message_types.specs.Inet6Types.{in_6_addr_gen_mode_number, in_6_addr_gen_mode_text, listed_in_6_addr_gen_modes}
+use Rattle.link_info_types.specs.NetkitTypes.{listed_netkit_modes, listed_netkit_policies, listed_netkit_scrubs}
+use Rattle.link_info_types.specs.NetkitTypes.{netkit_mode_number, netkit_mode_text, netkit_policy_number}
+use Rattle.link_info_types.specs.NetkitTypes.{netkit_policy_text, netkit_scrub_number, netkit_scrub_text}
+use Rattle.link_message_types.specs.Inet6Types.{in_6_addr_gen_mode_number, in_6_addr_gen_mode_text}
+use Rattle.link_message_types.specs.Inet6Types.{listed_in_6_addr_gen_modes}
 use Rattle.link_message_types.specs.LinkFlagTypes.{link_flags_table}
-use Rattle.link_message_types.specs.LinkLayerTypes.{link_layer_type_number, link_layer_type_text, listed_link_layer_types}
+use Rattle.link_message_types.specs.LinkLayerTypes.{link_layer_type_number, link_layer_type_text}
+use Rattle.link_message_types.specs.LinkLayerTypes.{listed_link_layer_types}
 use Rattle.link_message_types.specs.LinkModes.{link_mode_number, link_mode_text, listed_link_modes}
 use Rattle.link_message_types.specs.LinkStates.{listed_states, state_number, state_text}
-use Rattle.link_message_types.specs.MctpTypes.{listed_mctp_phys_bindings, mctp_phys_binding_number, mctp_phys_binding_text}
+use Rattle.link_message_types.specs.MctpTypes.{listed_mctp_phys_bindings, mctp_phys_binding_number}
+use Rattle.link_message_types.specs.MctpTypes.{mctp_phys_binding_text}
 
 -- The numbers of values, each with the value's display.
 abbrev pub displayed : {V : Type 0} → (V → ℕ) → (V → List ℕ) → List V → List Text
@@ -30,22 +42,35 @@ displayed number text values = map (λ v. (number v, text v)) values
 -- same holds for the flags of links.
 pub record NumbersAreDisplayed : Type 0 where
   pub amt_modes : texts_of (λ name. name.now) AMT_MODE.now ≡ displayed amt_mode_number amt_mode_text listed_amt_modes
-  pub geneve_dfs : texts_of (λ name. name.now) GENEVE_DF.now ≡ displayed geneve_df_number geneve_df_text listed_geneve_dfs
+  pub geneve_dfs : texts_of (λ name. name.now) GENEVE_DF.now ≡
+      displayed geneve_df_number geneve_df_text listed_geneve_dfs
   pub vxlan_dfs : texts_of (λ name. name.now) VXLAN_DF.now ≡ displayed vxlan_df_number vxlan_df_text listed_vxlan_dfs
   pub gtp_roles : texts_of (λ name. name.now) GTP_ROLE.now ≡ displayed gtp_role_number gtp_role_text listed_gtp_roles
-  pub tunnel_encap_types : texts_of (λ name. name.now) TUNNEL_ENCAP_TYPE.now ≡ displayed tunnel_encap_type_number tunnel_encap_type_text listed_tunnel_encap_types
-  pub gre_encap_types : texts_of (λ name. name.now) GRE_ENCAP_TYPE.now ≡ displayed gre_encap_type_number gre_encap_type_text listed_gre_encap_types
-  pub er_span_dirs : texts_of (λ name. name.now) ER_SPAN_DIR.now ≡ displayed er_span_dir_number er_span_dir_text listed_er_span_dirs
-  pub ip_vlan_modes : texts_of (λ name. name.now) IP_VLAN_MODE.now ≡ displayed ip_vlan_mode_number ip_vlan_mode_text listed_ip_vlan_modes
-  pub mac_vlan_modes : texts_of (λ name. name.now) MAC_VLAN_MODE.now ≡ displayed mac_vlan_mode_number mac_vlan_mode_text listed_mac_vlan_modes
-  pub netkit_modes : texts_of (λ name. name.now) NETKIT_MODE.now ≡ displayed netkit_mode_number netkit_mode_text listed_netkit_modes
-  pub netkit_policies : texts_of (λ name. name.now) NETKIT_POLICY.now ≡ displayed netkit_policy_number netkit_policy_text listed_netkit_policies
-  pub netkit_scrubs : texts_of (λ name. name.now) NETKIT_SCRUB.now ≡ displayed netkit_scrub_number netkit_scrub_text listed_netkit_scrubs
+  pub tunnel_encap_types : texts_of (λ name. name.now) TUNNEL_ENCAP_TYPE.now ≡
+      displayed tunnel_encap_type_number tunnel_encap_type_text listed_tunnel_encap_types
+  pub gre_encap_types : texts_of (λ name. name.now) GRE_ENCAP_TYPE.now ≡
+      displayed gre_encap_type_number gre_encap_type_text listed_gre_encap_types
+  pub er_span_dirs : texts_of (λ name. name.now) ER_SPAN_DIR.now ≡
+      displayed er_span_dir_number er_span_dir_text listed_er_span_dirs
+  pub ip_vlan_modes : texts_of (λ name. name.now) IP_VLAN_MODE.now ≡
+      displayed ip_vlan_mode_number ip_vlan_mode_text listed_ip_vlan_modes
+  pub mac_vlan_modes : texts_of (λ name. name.now) MAC_VLAN_MODE.now ≡
+      displayed mac_vlan_mode_number mac_vlan_mode_text listed_mac_vlan_modes
+  pub netkit_modes : texts_of (λ name. name.now) NETKIT_MODE.now ≡
+      displayed netkit_mode_number netkit_mode_text listed_netkit_modes
+  pub netkit_policies : texts_of (λ name. name.now) NETKIT_POLICY.now ≡
+      displayed netkit_policy_number netkit_policy_text listed_netkit_policies
+  pub netkit_scrubs : texts_of (λ name. name.now) NETKIT_SCRUB.now ≡
+      displayed netkit_scrub_number netkit_scrub_text listed_netkit_scrubs
   pub states : texts_of (λ name. name.now) STATE.now ≡ displayed state_number state_text listed_states
-  pub link_modes : texts_of (λ name. name.now) LINK_MODE.now ≡ displayed link_mode_number link_mode_text listed_link_modes
-  pub in_6_addr_gen_modes : texts_of (λ name. name.now) IN6_ADDR_GEN_MODE.now ≡ displayed in_6_addr_gen_mode_number in_6_addr_gen_mode_text listed_in_6_addr_gen_modes
-  pub mctp_phys_bindings : texts_of (λ name. name.now) MCTP_PHYS_BINDING.now ≡ displayed mctp_phys_binding_number mctp_phys_binding_text listed_mctp_phys_bindings
-  pub link_layer_types : texts_of (λ name. name.now) LINK_LAYER_TYPE.now ≡ displayed link_layer_type_number link_layer_type_text listed_link_layer_types
+  pub link_modes : texts_of (λ name. name.now) LINK_MODE.now ≡
+      displayed link_mode_number link_mode_text listed_link_modes
+  pub in_6_addr_gen_modes : texts_of (λ name. name.now) IN6_ADDR_GEN_MODE.now ≡
+      displayed in_6_addr_gen_mode_number in_6_addr_gen_mode_text listed_in_6_addr_gen_modes
+  pub mctp_phys_bindings : texts_of (λ name. name.now) MCTP_PHYS_BINDING.now ≡
+      displayed mctp_phys_binding_number mctp_phys_binding_text listed_mctp_phys_bindings
+  pub link_layer_types : texts_of (λ name. name.now) LINK_LAYER_TYPE.now ≡
+      displayed link_layer_type_number link_layer_type_text listed_link_layer_types
   pub link_flags : texts_of (λ name. name.now) LINK_FLAGS.now ≡ map (λ row. (row.1, row.0)) link_flags_table
 
 -- A byte in lower case.
@@ -55,4 +80,9 @@ in_lower_case c = cond (nat_le 65 c && nat_le c 90) (c + 32) c
 -- The words by which linkshow knows message types are the names that lines show, in lower case, without the part up to
 -- the first `_`.
 abbrev pub TypesHaveWords : Type 0
-TypesHaveWords = message_labels (λ word. word.now) TYPE_WORDS.now ≡ map (λ row. (row.0, map in_lower_case (after_first (λ c. c == 95) row.1))) (texts_of (λ name. name.now) MESSAGE_TYPE.now)
+TypesHaveWords =
+    message_labels (λ word. word.now) TYPE_WORDS.now ≡
+    map (λ row. (
+      row.0,
+      map in_lower_case (after_first (λ c. c == 95) row.1),
+    )) (texts_of (λ name. name.now) MESSAGE_TYPE.now)

@@ -1,5 +1,6 @@
 -- The lines of a capture: those of its normal text, message by message.
-use Rattle.std.specs.Prelude.{ℕ, zero, suc, ◌-◌, ◌==◌, ◌&&◌, ◌||◌, nat_le, Bool, true, false, cond, List, [], ◌∷◌, ◌++◌, length, take, Option, Some, None}
+use Rattle.std.specs.Prelude.{ℕ, zero, suc, ◌-◌, ◌==◌, ◌&&◌, ◌||◌, nat_le, Bool, true, false, cond, List, [], ◌∷◌, ◌++◌}
+use Rattle.std.specs.Prelude.{length, take, Option, Some, None}
 use Rattle.netlink_packet_core_grammar.specs.Attributes.{nla_align}
 use Rattle.netlink_packet_core_grammar.specs.Frames.{frame_length, frame_type}
 use Rattle.link_capture_grammar.specs.Captures.{texts}
@@ -41,7 +42,8 @@ unfoldable pub lines_after : Choice → ℕ → List ℕ → List ℕ
 lines_after o skip [] = []
 lines_after o (suc skip) (b ∷ c) = lines_after o skip c
 lines_after o zero (b ∷ c) =
-    cond (is_frame (b ∷ c)) (shown_lines o (take (frame_length (b ∷ c)) (b ∷ c)) ++ lines_after o (nla_align (frame_length (b ∷ c)) - 1) c) []
+    cond (is_frame (b ∷ c)) (shown_lines o (take (frame_length (b ∷ c)) (b ∷ c)) ++
+    lines_after o (nla_align (frame_length (b ∷ c)) - 1) c) []
 
 -- The lines of bytes that are read as normal text.
 unfoldable pub text_lines : Choice → List ℕ → List ℕ

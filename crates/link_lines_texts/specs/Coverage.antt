@@ -1,10 +1,15 @@
 -- Whether rows of names cover tables: each row has a name and a format that determines its payload, and each name has a
 -- row.
-use Rattle.std.specs.Prelude.{ℕ, ◌==◌, ◌&&◌, ◌||◌, not, nat_le, Bool, true, false, cond, List, [], ◌∷◌, take, Option, Some, None, bytes_eq}
+use Rattle.std.specs.Prelude.{ℕ, ◌==◌, ◌&&◌, ◌||◌, not, nat_le, Bool, true, false, cond, List, [], ◌∷◌, take, Option}
+use Rattle.std.specs.Prelude.{Some, None, bytes_eq}
 use Rattle.std.specs.List.{list_all}
 use Rattle.link_tables.specs.declared.names.NameRow.{NameRow}
-use Rattle.attribute_tables_grammar.specs.Shapes.{Shape, exact, either, at_most, nonzero_byte, one_byte, boolean_of_four, presence, text, raw, never, fixed_record, id_and_boolean, resized}
-use Rattle.attribute_tables_grammar.specs.Tables.{Payload, Payload.plain, Payload.peer, Payload.list, Payload.link_info, Table, Table.end, Table.row, Names, Names.others, Names.name, lacks_name}
+use Rattle.attribute_tables_grammar.specs.Shapes.{Shape, exact, either, at_most, nonzero_byte, one_byte}
+use Rattle.attribute_tables_grammar.specs.Shapes.{boolean_of_four, presence, text, raw, never, fixed_record}
+use Rattle.attribute_tables_grammar.specs.Shapes.{id_and_boolean, resized}
+use Rattle.attribute_tables_grammar.specs.Tables.{Payload, Payload.plain, Payload.peer, Payload.list, Payload.link_info}
+use Rattle.attribute_tables_grammar.specs.Tables.{Table, Table.end, Table.row, Names, Names.others, Names.name}
+use Rattle.attribute_tables_grammar.specs.Tables.{lacks_name}
 use Rattle.link_lines_values.specs.declared.fields.FieldShown.{FieldShown}
 use Rattle.link_lines_values.specs.declared.fields.FieldShown.TheVariants as F
 use Rattle.link_lines_values.specs.declared.values.ShownBy.TheVariants as V
@@ -13,10 +18,12 @@ use Rattle.link_lines_values.specs.Values.{Shown}
 use Rattle.link_tables.specs.declared.kinds.TheConstants.{KINDS, PORT_KINDS}
 use Rattle.link_tables.specs.Names.{held_by_name}
 use Rattle.link_tables.specs.Tables.{is_link_info}
-use Rattle.link_lines_names.specs.Format.{Inside, Inside.Value, Inside.Peer, Inside.Nested, is_inside_on_a_line, of_held}
+use Rattle.link_lines_names.specs.Format.{Inside, Inside.Value, Inside.Peer, Inside.Nested, is_inside_on_a_line}
+use Rattle.link_lines_names.specs.Format.{of_held}
 use Rattle.link_lines_names.specs.Names.{NameRowOf, all_named_rows}
 use Rattle.link_lines_names.specs.Raw.{Raw, raw_names_of}
-use Rattle.link_lines_texts.specs.AttributeNames.{Name, AttributeRow, data_names, link_names, nested_names, attribute_name_of, attribute_names_of}
+use Rattle.link_lines_texts.specs.AttributeNames.{Name, AttributeRow, data_names, link_names, nested_names}
+use Rattle.link_lines_texts.specs.AttributeNames.{attribute_name_of, attribute_names_of}
 
 -- ---- shapes
 
@@ -170,9 +177,11 @@ abbrev mutual
   pub holds_shown : Payload → Option Inside → Bool
   holds_shown (plain s) (Some (Value v)) = shape_determines s v
   holds_shown peer (Some Peer) = true
-  holds_shown (list form t) (Some (Nested n)) = not (is_link_info n) && (all_named_rows (is_in t) (attribute_names_of n.0) && rows_shown n.0 t)
+  holds_shown (list form t) (Some (Nested n)) = not (is_link_info n) &&
+      (all_named_rows (is_in t) (attribute_names_of n.0) && rows_shown n.0 t)
   holds_shown (link_info form data' ports) (Some (Nested n)) =
-      is_link_info n && ((names_shown data' KINDS && kinds_listed KINDS data') && (names_shown ports PORT_KINDS && kinds_listed PORT_KINDS ports))
+      is_link_info n && ((names_shown data' KINDS && kinds_listed KINDS data') &&
+      (names_shown ports PORT_KINDS && kinds_listed PORT_KINDS ports))
   holds_shown s inside = false
 
   -- Whether each row of a table is determined by what is shown of it.

@@ -23,7 +23,8 @@ pub record IsCanonical (r : Rule) (p : List ℕ) : Type 0 where
 
 -- Canonical payloads of a shape are equal if a format that determines the shape shows them alike.
 abbrev pub ShapesAreDetermined : Type 0
-ShapesAreDetermined = (s : Shape) (v : Shown) (p q : List ℕ) → shape_determines s v ≡ true → IsCanonical (shape_rule s) p → IsCanonical (shape_rule s) q → value_text v p ≡ value_text v q → p ≡ q
+ShapesAreDetermined = (s : Shape) (v : Shown) (p q : List ℕ) → shape_determines s v ≡ true →
+    IsCanonical (shape_rule s) p → IsCanonical (shape_rule s) q → value_text v p ≡ value_text v q → p ≡ q
 
 -- A text doesn't begin with a line of this level or a deeper one.
 abbrev pub IsShallow : ℕ → List ℕ → Type 0
@@ -36,7 +37,8 @@ of_family in_peer n = record { table = family_table n; is_in_peer = in_peer }
 -- Canonical lists of a link's attributes, of one address family, are equal if their lines are, whatever shallower lines
 -- follow.
 abbrev pub ListsAreDetermined : Type 0
-ListsAreDetermined = (level n : ℕ) (p q s t : List ℕ) → IsCanonical (attributes_rule (family_of n)) p → IsCanonical (attributes_rule (family_of n)) q → IsShallow level s → IsShallow level t →
+ListsAreDetermined = (level n : ℕ) (p q s t : List ℕ) → IsCanonical (attributes_rule (family_of n)) p →
+    IsCanonical (attributes_rule (family_of n)) q → IsShallow level s → IsShallow level t →
     list_lines level (of_family false n) p ++ s ≡ list_lines level (of_family false n) q ++ t → (p ≡ q) × (s ≡ t)
 
 -- The bytes of a frame without its padding, whose body is canonical.
@@ -69,5 +71,6 @@ pub record NumbersAreKnown (numbers : Bool) (f : List ℕ) : Type 0 where
 -- end.
 pub record FramesAreDetermined : Type 0 where
   pub starts : (numbers : Bool) (f s : List ℕ) → StartsFrame (frame_lines numbers f ++ s)
-  pub determined : (numbers : Bool) (f g s t : List ℕ) → IsCanonicalFrame f → IsCanonicalFrame g → NumbersAreKnown numbers f → NumbersAreKnown numbers g → StartsFrame s → StartsFrame t →
+  pub determined : (numbers : Bool) (f g s t : List ℕ) → IsCanonicalFrame f → IsCanonicalFrame g →
+      NumbersAreKnown numbers f → NumbersAreKnown numbers g → StartsFrame s → StartsFrame t →
       frame_lines numbers f ++ s ≡ frame_lines numbers g ++ t → (drop 4 f ≡ drop 4 g) × (s ≡ t)

@@ -1,5 +1,6 @@
 -- The laws of lines, which the functions of `laws` have as contracts.
-use Rattle.std.specs.Prelude.{◌≡◌, ℕ, ◌+◌, ◌^◌, ◌<◌, ◌↔◌, true, false, List, [], ◌∷◌, ◌++◌, length, take, drop, Some, None, Ok}
+use Rattle.std.specs.Prelude.{◌≡◌, ℕ, ◌+◌, ◌^◌, ◌<◌, ◌↔◌, true, false, List, [], ◌∷◌, ◌++◌, length, take, drop, Some}
+use Rattle.std.specs.Prelude.{None, Ok}
 use Rattle.std.specs.List.{list_all}
 use Rattle.netlink_packet_core_grammar.specs.Attributes.{Attribute, nla_align, first_attribute}
 use Rattle.netlink_packet_core_grammar.specs.Bytes.{AreBytes}
@@ -15,29 +16,39 @@ use Rattle.link_lines_texts.specs.Lists.{list_inside, list_lines, nested_lines, 
 use Rattle.link_lines_names.specs.Format.{Inside.Nested}
 use Rattle.link_lines_names.specs.Names.{all_named_rows, has_name, names_apart}
 use Rattle.link_lines_texts.specs.AttributeNames.{attribute_names_of}
-use Rattle.link_tables.specs.declared.table.TheConstants.{GENEVE, GRE, GRE6, LINK_BRIDGE, LINK_INET6, LINK_INFO, LINK_OTHER, LINK_UNSPEC, VF, XFRM}
+use Rattle.link_tables.specs.declared.table.TheConstants.{GENEVE, GRE, GRE6, LINK_BRIDGE, LINK_INET6, LINK_INFO}
+use Rattle.link_tables.specs.declared.table.TheConstants.{LINK_OTHER, LINK_UNSPEC, VF, XFRM}
 use Rattle.link_capture_numbers.specs.Cleared.{numbers_cleared}
-use Rattle.link_lines_texts.specs.Captures.{Choice, everything, is_frame, lines, shown_lines, text_lines, without_numbers}
+use Rattle.link_lines_texts.specs.Captures.{Choice, everything, is_frame, lines, shown_lines, text_lines}
+use Rattle.link_lines_texts.specs.Captures.{without_numbers}
 
 -- The lines of a list are those of its first attribute, of the list in it, and of the rest in the context after that
 -- attribute. If no whole attribute follows, there are none.
 pub record ListsUnfoldByAttributes : Type 0 where
   pub start : (level : ℕ) (m : ListTable) (bytes : List ℕ) → list_lines level m bytes ≡ rest_lines level m nothing bytes
-  pub next : (level : ℕ) (m : ListTable) (c : Context) (bytes : List ℕ) (e : Attribute) (after : List ℕ) → first_attribute bytes ≡ Some (e, after) → rest_lines level m c bytes ≡ attribute_lines level m c e ++ (nested_lines (level + 1) (list_inside m c e) ++ rest_lines level m (next_in m.table c e) after)
-  pub none : (level : ℕ) (m : ListTable) (c : Context) (bytes : List ℕ) → first_attribute bytes ≡ None → rest_lines level m c bytes ≡ []
+  pub next : (level : ℕ) (m : ListTable) (c : Context) (bytes : List ℕ) (e : Attribute) (after : List ℕ) →
+      first_attribute bytes ≡ Some (e, after) →
+      rest_lines level m c bytes ≡
+      attribute_lines level m c e ++
+      (nested_lines (level + 1) (list_inside m c e) ++ rest_lines level m (next_in m.table c e) after)
+  pub none : (level : ℕ) (m : ListTable) (c : Context) (bytes : List ℕ) → first_attribute bytes ≡ None →
+      rest_lines level m c bytes ≡ []
 
 -- Bytes that begin with a whole frame have its lines, then those of what follows its padding; other bytes have none.
 pub record LinesUnfoldByFrames : Type 0 where
-  pub frame : (o : Choice) (c : List ℕ) → is_frame c ≡ true → text_lines o c ≡ shown_lines o (take (frame_length c) c) ++ text_lines o (drop (nla_align (frame_length c)) c)
+  pub frame : (o : Choice) (c : List ℕ) → is_frame c ≡ true →
+      text_lines o c ≡ shown_lines o (take (frame_length c) c) ++ text_lines o (drop (nla_align (frame_length c)) c)
   pub none : (o : Choice) (c : List ℕ) → is_frame c ≡ false → text_lines o c ≡ []
 
 -- What follows the texts of some frames is shown independently of them.
 abbrev pub LinesAreJoined : Type 0
-LinesAreJoined = (o : Choice) (limit : ℕ) (s t : List ℕ) → limit < 2 ^ 32 → text_lines o (texts limit s ++ t) ≡ text_lines o (texts limit s) ++ text_lines o t
+LinesAreJoined = (o : Choice) (limit : ℕ) (s t : List ℕ) → limit < 2 ^ 32 →
+    text_lines o (texts limit s ++ t) ≡ text_lines o (texts limit s) ++ text_lines o t
 
 -- A capture of which everything is shown has lines if and only if its first frame is accepted.
 abbrev pub AcceptedFramesHaveLines : Type 0
-AcceptedFramesHaveLines = (limit : ℕ) (c : List ℕ) → limit < 2 ^ 32 → (0 < length (lines everything limit c)) ↔ ((frame : ℕ × List ℕ) × (first_frame limit c ≡ Ok frame))
+AcceptedFramesHaveLines = (limit : ℕ) (c : List ℕ) → limit < 2 ^ 32 →
+    (0 < length (lines everything limit c)) ↔ ((frame : ℕ × List ℕ) × (first_frame limit c ≡ Ok frame))
 
 -- Each row of the tables of link messages, and of every nested table, has a name and a format that determines the row's
 -- payload; each name is that of a row; no two names of a table are equal, and none is that of a raw attribute of
@@ -51,18 +62,22 @@ pub record RowsAreDetermined : Type 0 where
   pub on_lines : in_each (all_named_rows has_line) ≡ true
   pub info_named : all_named_rows is_info_kind (attribute_names_of LINK_INFO.0) ≡ true
   pub apart : in_each names_apart ≡ true
-  pub raw : list_all raw_names_differ (VF.0 ∷ LINK_UNSPEC.0 ∷ LINK_BRIDGE.0 ∷ LINK_INET6.0 ∷ LINK_OTHER.0 ∷ GENEVE.0 ∷ GRE.0 ∷ GRE6.0 ∷ XFRM.0 ∷ []) ≡ true
+  pub raw : list_all raw_names_differ (VF.0 ∷ LINK_UNSPEC.0 ∷ LINK_BRIDGE.0 ∷ LINK_INET6.0 ∷ LINK_OTHER.0 ∷ GENEVE.0 ∷
+      GRE.0 ∷ GRE6.0 ∷ XFRM.0 ∷ []) ≡ true
 
 -- Two captures have the same lines if and only if they have the same texts; for legal captures, if and only if their
 -- normal texts are equal.
 abbrev pub LinesDetermineTexts : Type 0
-LinesDetermineTexts = (limit : ℕ) (s t : List ℕ) → limit < 2 ^ 32 → AreBytes s → AreBytes t → (lines everything limit s ≡ lines everything limit t) ↔ (texts limit s ≡ texts limit t)
+LinesDetermineTexts = (limit : ℕ) (s t : List ℕ) → limit < 2 ^ 32 → AreBytes s → AreBytes t →
+    (lines everything limit s ≡ lines everything limit t) ↔ (texts limit s ≡ texts limit t)
 
 -- Two captures have the same lines without numbers if and only if their texts, with the numbers cleared, are equal.
 abbrev pub LinesWithoutNumbersDetermineClearedTexts : Type 0
 LinesWithoutNumbersDetermineClearedTexts = (limit : ℕ) (s t : List ℕ) → limit < 2 ^ 32 → AreBytes s → AreBytes t →
-    (lines without_numbers limit s ≡ lines without_numbers limit t) ↔ (numbers_cleared (texts limit s) ≡ numbers_cleared (texts limit t))
+    (lines without_numbers limit s ≡ lines without_numbers limit t) ↔
+    (numbers_cleared (texts limit s) ≡ numbers_cleared (texts limit t))
 
 -- Two legal captures have the same lines if and only if they mean the same.
 abbrev pub LinesDetermineMeanings : Type 0
-LinesDetermineMeanings = (limit : ℕ) (a b : List ℕ) → limit < 2 ^ 32 → AreBytes a → AreBytes b → IsLegal limit a → IsLegal limit b → (lines everything limit a ≡ lines everything limit b) ↔ SameCapture limit a b
+LinesDetermineMeanings = (limit : ℕ) (a b : List ℕ) → limit < 2 ^ 32 → AreBytes a → AreBytes b → IsLegal limit a →
+    IsLegal limit b → (lines everything limit a ≡ lines everything limit b) ↔ SameCapture limit a b

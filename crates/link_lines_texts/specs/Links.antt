@@ -26,12 +26,15 @@ labelled label text = label ++ text
 -- A link's address family, layer type and index.
 unfoldable pub link_numbers : List ℕ → List ℕ
 link_numbers b =
-    labelled (codes "ifinfomsg family ") (named_number address_families (slice_index b 0)) ++ (labelled (codes " type ") (named_number layer_types (u16_at 2 b))
+    labelled (codes "ifinfomsg family ") (named_number address_families (slice_index b 0)) ++
+    (labelled (codes " type ") (named_number layer_types (u16_at 2 b))
     ++ labelled (codes " index ") (decimal (u32_at 4 b)))
 
 -- A link's flags and change mask, and the end of the line.
 unfoldable pub link_flags : List ℕ → List ℕ
-link_flags b = labelled (codes " flags ") (named_flags link_flag_names (u32_at 8 b)) ++ (labelled (codes " change ") (named_flags link_flag_names (u32_at 12 b)) ++ 10 ∷ [])
+link_flags b =
+    labelled (codes " flags ") (named_flags link_flag_names (u32_at 8 b)) ++
+    (labelled (codes " change ") (named_flags link_flag_names (u32_at 12 b)) ++ 10 ∷ [])
 
 -- The line of a link's header at a level.
 abbrev pub link_header_line : ℕ → List ℕ → List ℕ

@@ -1,6 +1,7 @@
 -- The lines of a list of attributes: one for each attribute, followed by those of the list that it holds, one level
 -- deeper; a peer's line is followed by that of its header and those of its attributes.
-use Rattle.std.specs.Prelude.{ℕ, zero, suc, ◌+◌, ◌==◌, nat_le, Bool, true, cond, List, [], ◌∷◌, ◌++◌, length, drop, Option, Some, None, slice_index}
+use Rattle.std.specs.Prelude.{ℕ, zero, suc, ◌+◌, ◌==◌, nat_le, Bool, true, cond, List, [], ◌∷◌, ◌++◌, length, drop}
+use Rattle.std.specs.Prelude.{Option, Some, None, slice_index}
 use Rattle.netlink_packet_core_grammar.specs.Attributes.{Attribute, proper_kind, first_attribute}
 use Rattle.attribute_tables_grammar.specs.Lists.{Context, nothing}
 use Rattle.attribute_tables_grammar.specs.Tables.{info_next}
@@ -64,7 +65,8 @@ named_attribute_header level m c (Some t) e = header_inside level (known_inside 
 unfoldable pub attribute_lines : ℕ → ListTable → Context → Attribute → List ℕ
 attribute_lines level m c e =
     let attribute_name_row = attribute_name_of m.table.0 (proper_kind e.kind) in
-    indent level ++ (named_attribute_text m c attribute_name_row e ++ 10 ∷ named_attribute_header (level + 1) m c attribute_name_row e)
+    indent level ++ (named_attribute_text m c attribute_name_row e ++
+    10 ∷ named_attribute_header (level + 1) m c attribute_name_row e)
 
 -- The list in an attribute whose name has been looked up.
 abbrev pub named_attribute_list : ListTable → Context → Option Name → Attribute → Option (ListTable × List ℕ)
@@ -81,10 +83,12 @@ inside_lines list level None = []
 inside_lines list level (Some x) = list level x.0 nothing x.1
 
 -- The lines of the first attribute, of the list in it, and of the attributes after it, given the lines of lists.
-abbrev pub next_lines : (ℕ → ListTable → Context → List ℕ → List ℕ) → ℕ → ListTable → Context → Option (Attribute × List ℕ) → List ℕ
+abbrev pub next_lines : (ℕ → ListTable → Context → List ℕ → List ℕ) → ℕ → ListTable → Context →
+    Option (Attribute × List ℕ) → List ℕ
 next_lines list level m c None = []
 next_lines list level m c (Some x) =
-    attribute_lines level m c x.0 ++ (inside_lines list (level + 1) (list_inside m c x.0) ++ list level m (next_in m.table c x.0) x.1)
+    attribute_lines level m c x.0 ++
+    (inside_lines list (level + 1) (list_inside m c x.0) ++ list level m (next_in m.table c x.0) x.1)
 
 -- The lines of attributes, computed in at most n steps.
 unfoldable pub lines_within : ℕ → ℕ → ListTable → Context → List ℕ → List ℕ

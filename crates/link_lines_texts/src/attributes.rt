@@ -11,9 +11,9 @@ ghost use Rattle.link_lines_texts.specs.Lists.{header_inside, inside_list, insid
 ghost use Rattle.link_lines_texts.specs.Lists.{list_lines, next_in, attribute_lines, peer_list};
 ghost use Rattle.link_tables.specs.InForce.{in_force};
 
+use crate::attribute_names::attribute_name_of;
 use crate::laws::lists_unfold_by_attributes;
 use crate::links::push_link_header;
-use crate::attribute_names::attribute_name_of;
 use link_interpreter::{Attribute, KIND_BOUND, first_attribute};
 use link_lines_names::{Format, FormatBy, known_format, push_raw};
 use link_lines_values::{push_bytes, push_indent, push_value};
@@ -151,7 +151,8 @@ fn push_attribute<'a>(
         (attribute_of attribute.entry.kind attribute.entry.payload)) }
 {
     push_indent(level, out)?;
-    let Some((name, format)) = attribute_name_of(list_table.table, attribute.kind % KIND_BOUND) else {
+    let Some((name, format)) = attribute_name_of(list_table.table, attribute.kind % KIND_BOUND)
+    else {
         push_raw(list_table.table, attribute.kind, attribute.payload, out)?;
         out.extend_from_slice(b"\n")?;
         return Ok(None);

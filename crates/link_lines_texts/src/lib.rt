@@ -1,12 +1,12 @@
 // The lines of messages as normal texts have them.
 #![tactic(auto)]
 
+mod attribute_names;
 mod attributes;
 mod data_names;
 mod frames;
 pub mod laws;
 mod links;
 mod message_names;
-mod attribute_names;
 
 pub use frames::push_frame;

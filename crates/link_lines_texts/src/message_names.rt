@@ -1,7 +1,7 @@
 //! The names of attributes of link messages, of their nested lists, and of link info.
 
 use crate::attribute_names::AttributeRow;
-use crate::{list_names, family_names};
+use crate::{family_names, list_names};
 use link_lines_names::FormatBy::{Data, LinkInfo, List, PortData, Value};
 use link_lines_values::ShownBy::{
     Address, Bytes, Flags, HardwareAddress, NamedFlags, Number, Record as Fields, Signed,
@@ -27,7 +27,9 @@ pub const XDP_ATTRIBUTE_NAMES: &[AttributeRow] = &xdp!(list_names);
 
 pub const PROPS_ATTRIBUTE_NAMES: &[AttributeRow] = &props!(list_names);
 
-pub const PROTOCOL_DOWN_REASON_ATTRIBUTE_NAMES: &[AttributeRow] = &protocol_down_reason!(list_names);
+pub const PROTOCOL_DOWN_REASON_ATTRIBUTE_NAMES: &[AttributeRow] = &protocol_down_reason!(
+    list_names
+);
 
 pub const DEVLINK_PORT_ATTRIBUTE_NAMES: &[AttributeRow] = &devlink_port!(list_names);
 

@@ -1,5 +1,6 @@
 -- Bytes as text: in hex, with colons between them, in quotes, as addresses.
-use Rattle.std.specs.Prelude.{ℕ, ◌+◌, ◌==◌, ◌&&◌, ◌||◌, nat_le, nat_lt, Bool, true, List, [], ◌∷◌, ◌++◌, codes, cond, length, take, max, flat_map}
+use Rattle.std.specs.Prelude.{ℕ, ◌+◌, ◌==◌, ◌&&◌, ◌||◌, nat_le, nat_lt, Bool, true, List, [], ◌∷◌, ◌++◌, codes, cond}
+use Rattle.std.specs.Prelude.{length, take, max, flat_map}
 use Rattle.std.specs.Net.Addr.{segments_of}
 use Rattle.std.specs.Net.Text.{ipv4_text, ipv6_text}
 use Rattle.netlink_packet_core_grammar.specs.Texts.{without_nul}

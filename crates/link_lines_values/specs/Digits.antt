@@ -1,5 +1,6 @@
 -- Numbers as digits, and bytes as numbers.
-use Rattle.std.specs.Prelude.{ℕ, ◌-◌, ◌/◌, ◌%◌, ◌==◌, ◌||◌, Bool, false, List, [], ◌∷◌, ◌++◌, codes, cond, length, nat_lt, reverse}
+use Rattle.std.specs.Prelude.{ℕ, ◌-◌, ◌/◌, ◌%◌, ◌==◌, ◌||◌, Bool, false, List, [], ◌∷◌, ◌++◌, codes, cond, length}
+use Rattle.std.specs.Prelude.{nat_lt, reverse}
 use Rattle.std.specs.Fmt.{decimal, digits, digit_glyph}
 use Rattle.attribute_tables_grammar.specs.Shapes.{number}
 

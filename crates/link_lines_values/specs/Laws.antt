@@ -11,7 +11,10 @@ use Rattle.link_lines_values.specs.Bytes.{address_text, bytes_text, hardware_tex
 use Rattle.link_lines_values.specs.Digits.{hex_number, is_number}
 use Rattle.link_lines_values.specs.Names.{Text}
 use Rattle.link_lines_values.specs.Records.{Field, fields_determine, record_text, total_size}
-use Rattle.link_lines_values.specs.Values.{Shown, is_shown_on_a_line, determines_sized, value_text, number_value, big_endian_value, signed_value, flags_value, named_flags_value, big_endian_flags_value, flags_and_mask_value, optional_byte_value, port_range_value, sized_flags_value}
+use Rattle.link_lines_values.specs.Values.{Shown, is_shown_on_a_line, determines_sized, value_text, number_value}
+use Rattle.link_lines_values.specs.Values.{big_endian_value, signed_value, flags_value, named_flags_value}
+use Rattle.link_lines_values.specs.Values.{big_endian_flags_value, flags_and_mask_value, optional_byte_value}
+use Rattle.link_lines_values.specs.Values.{port_range_value, sized_flags_value}
 
 -- A text is empty, or begins with a byte below the digits: a space, a bracket, a newline.
 abbrev pub Ends : List ℕ → Type 0
@@ -20,8 +23,10 @@ Ends (c ∷ s) = c < 48
 
 -- Digits that such bytes follow determine their number, in decimal or in hex.
 pub record DigitsAreDetermined : Type 0 where
-  pub decimal_digits : (m n : ℕ) (s t : List ℕ) → m < 2 ^ 64 → n < 2 ^ 64 → Ends s → Ends t → decimal m ++ s ≡ decimal n ++ t → (m ≡ n) × (s ≡ t)
-  pub hex_digits : (m n : ℕ) (s t : List ℕ) → m < 2 ^ 64 → n < 2 ^ 64 → Ends s → Ends t → hex_number m ++ s ≡ hex_number n ++ t → (m ≡ n) × (s ≡ t)
+  pub decimal_digits : (m n : ℕ) (s t : List ℕ) → m < 2 ^ 64 → n < 2 ^ 64 → Ends s → Ends t →
+      decimal m ++ s ≡ decimal n ++ t → (m ≡ n) × (s ≡ t)
+  pub hex_digits : (m n : ℕ) (s t : List ℕ) → m < 2 ^ 64 → n < 2 ^ 64 → Ends s → Ends t →
+      hex_number m ++ s ≡ hex_number n ++ t → (m ≡ n) × (s ≡ t)
 
 -- A text has no byte under 32, so no newline.
 abbrev pub IsLine : List ℕ → Type 0
@@ -46,30 +51,45 @@ pub record BytesAreDetermined : Type 0 where
 
 -- The text of a number determines it among numbers of one size, whatever names follow it.
 pub record NumbersAreDetermined : Type 0 where
-  pub little : (texts : List Text) (p q : List ℕ) → AreBytes p → AreBytes q → length p ≡ length q → is_number p ≡ true → number_value texts p ≡ number_value texts q → p ≡ q
-  pub big : (texts : List Text) (p q : List ℕ) → AreBytes p → AreBytes q → length p ≡ length q → is_number p ≡ true → big_endian_value texts p ≡ big_endian_value texts q → p ≡ q
-  pub signed : (p q : List ℕ) → AreBytes p → AreBytes q → length p ≡ 4 → length q ≡ 4 → signed_value p ≡ signed_value q → p ≡ q
-  pub flags : (p q : List ℕ) → AreBytes p → AreBytes q → length p ≡ length q → is_number p ≡ true → flags_value p ≡ flags_value q → p ≡ q
-  pub named_flags : (names : List Text) (p q : List ℕ) → AreBytes p → AreBytes q → length p ≡ length q → is_number p ≡ true → named_flags_value names p ≡ named_flags_value names q → p ≡ q
+  pub little : (texts : List Text) (p q : List ℕ) → AreBytes p → AreBytes q → length p ≡ length q → is_number p ≡ true →
+      number_value texts p ≡ number_value texts q → p ≡ q
+  pub big : (texts : List Text) (p q : List ℕ) → AreBytes p → AreBytes q → length p ≡ length q → is_number p ≡ true →
+      big_endian_value texts p ≡ big_endian_value texts q → p ≡ q
+  pub signed : (p q : List ℕ) → AreBytes p → AreBytes q → length p ≡ 4 → length q ≡ 4 →
+      signed_value p ≡ signed_value q → p ≡ q
+  pub flags : (p q : List ℕ) → AreBytes p → AreBytes q → length p ≡ length q → is_number p ≡ true →
+      flags_value p ≡ flags_value q → p ≡ q
+  pub named_flags : (names : List Text) (p q : List ℕ) → AreBytes p → AreBytes q → length p ≡ length q →
+      is_number p ≡ true → named_flags_value names p ≡ named_flags_value names q → p ≡ q
 
 -- The text of an address determines it among addresses of one size.
 pub record AddressesAreDetermined : Type 0 where
-  pub ipv4 : (p q : List ℕ) → AreBytes p → AreBytes q → length p ≡ 4 → length q ≡ 4 → address_text p ≡ address_text q → p ≡ q
-  pub ipv6 : (p q : List ℕ) → AreBytes p → AreBytes q → length p ≡ 16 → length q ≡ 16 → address_text p ≡ address_text q → p ≡ q
+  pub ipv4 : (p q : List ℕ) → AreBytes p → AreBytes q → length p ≡ 4 → length q ≡ 4 → address_text p ≡ address_text q →
+      p ≡ q
+  pub ipv6 : (p q : List ℕ) → AreBytes p → AreBytes q → length p ≡ 16 → length q ≡ 16 →
+      address_text p ≡ address_text q → p ≡ q
 
 -- The texts of sets of flags, of an optional byte, of two port numbers, and of booleans that are 0 or 1 determine them.
 pub record SettingsAreDetermined : Type 0 where
-  pub big : (p q : List ℕ) → AreBytes p → AreBytes q → length p ≡ length q → is_number p ≡ true → big_endian_flags_value p ≡ big_endian_flags_value q → p ≡ q
-  pub sized_4 : (p q : List ℕ) → AreBytes p → AreBytes q → length p ≡ 4 → length q ≡ 4 → sized_flags_value p ≡ sized_flags_value q → p ≡ q
-  pub sized_2 : (p q : List ℕ) → AreBytes p → AreBytes q → length p ≡ 2 → length q ≡ 2 → sized_flags_value p ≡ sized_flags_value q → p ≡ q
-  pub masked : (p q : List ℕ) → AreBytes p → AreBytes q → length p ≡ 8 → length q ≡ 8 → flags_and_mask_value p ≡ flags_and_mask_value q → p ≡ q
-  pub optional : (p q : List ℕ) → AreBytes p → AreBytes q → length p ≤ 1 → length q ≤ 1 → optional_byte_value p ≡ optional_byte_value q → p ≡ q
-  pub ports : (p q : List ℕ) → AreBytes p → AreBytes q → length p ≡ 4 → length q ≡ 4 → port_range_value p ≡ port_range_value q → p ≡ q
-  pub boolean : (p q : List ℕ) → AreBytes p → AreBytes q → length p ≡ length q → number p ≤ 1 → number q ≤ 1 → boolean_text p ≡ boolean_text q → p ≡ q
+  pub big : (p q : List ℕ) → AreBytes p → AreBytes q → length p ≡ length q → is_number p ≡ true →
+      big_endian_flags_value p ≡ big_endian_flags_value q → p ≡ q
+  pub sized_4 : (p q : List ℕ) → AreBytes p → AreBytes q → length p ≡ 4 → length q ≡ 4 →
+      sized_flags_value p ≡ sized_flags_value q → p ≡ q
+  pub sized_2 : (p q : List ℕ) → AreBytes p → AreBytes q → length p ≡ 2 → length q ≡ 2 →
+      sized_flags_value p ≡ sized_flags_value q → p ≡ q
+  pub masked : (p q : List ℕ) → AreBytes p → AreBytes q → length p ≡ 8 → length q ≡ 8 →
+      flags_and_mask_value p ≡ flags_and_mask_value q → p ≡ q
+  pub optional : (p q : List ℕ) → AreBytes p → AreBytes q → length p ≤ 1 → length q ≤ 1 →
+      optional_byte_value p ≡ optional_byte_value q → p ≡ q
+  pub ports : (p q : List ℕ) → AreBytes p → AreBytes q → length p ≡ 4 → length q ≡ 4 →
+      port_range_value p ≡ port_range_value q → p ≡ q
+  pub boolean : (p q : List ℕ) → AreBytes p → AreBytes q → length p ≡ length q → number p ≤ 1 → number q ≤ 1 →
+      boolean_text p ≡ boolean_text q → p ≡ q
 
 -- No address of 4 bytes has the text of one of 16.
 abbrev pub AddressSizesAreDetermined : Type 0
-AddressSizesAreDetermined = (p q : List ℕ) → AreBytes p → AreBytes q → length p ≡ 4 → length q ≡ 16 → address_text p ≡ address_text q → ⊥
+AddressSizesAreDetermined = (p q : List ℕ) → AreBytes p → AreBytes q → length p ≡ 4 → length q ≡ 16 →
+    address_text p ≡ address_text q → ⊥
 
 -- A field that is shown as a boolean is 0 or 1.
 abbrev pub IsKnown : FieldShown → List ℕ → Type 0
@@ -90,10 +110,14 @@ pub record HoldsFields (fs : List Field) (p : List ℕ) : Type 0 where
 
 -- The text of a record determines it among records of one size, whether fields that are zero are left out or not.
 abbrev pub RecordsAreDetermined : Type 0
-RecordsAreDetermined = (sparse : Bool) (fs : List Field) (p q : List ℕ) → fields_determine fs ≡ true → HoldsFields fs p → HoldsFields fs q → length p ≡ length q → record_text sparse fs p ≡ record_text sparse fs q → p ≡ q
+RecordsAreDetermined = (sparse : Bool) (fs : List Field) (p q : List ℕ) → fields_determine fs ≡ true →
+    HoldsFields fs p → HoldsFields fs q → length p ≡ length q → record_text sparse fs p ≡ record_text sparse fs q →
+    p ≡ q
 
 -- The text of a payload of n bytes determines it if its format knows n; and no such text begins as that of bytes after
 -- the word `bytes` does.
 pub record SizedValuesAreDetermined : Type 0 where
-  pub determined : (n : ℕ) (shown : Shown) (p q : List ℕ) → determines_sized n shown ≡ true → AreBytes p → AreBytes q → length p ≡ n → length q ≡ n → value_text shown p ≡ value_text shown q → p ≡ q
-  pub apart : (n : ℕ) (shown : Shown) (p s : List ℕ) → determines_sized n shown ≡ true → AreBytes p → length p ≡ n → value_text shown p ≡ codes " bytes" ++ s → ⊥
+  pub determined : (n : ℕ) (shown : Shown) (p q : List ℕ) → determines_sized n shown ≡ true → AreBytes p → AreBytes q →
+      length p ≡ n → length q ≡ n → value_text shown p ≡ value_text shown q → p ≡ q
+  pub apart : (n : ℕ) (shown : Shown) (p s : List ℕ) → determines_sized n shown ≡ true → AreBytes p → length p ≡ n →
+      value_text shown p ≡ codes " bytes" ++ s → ⊥

@@ -1,5 +1,6 @@
 -- Records: fields of known sizes, one after the other.
-use Rattle.std.specs.Prelude.{ℕ, ◌+◌, ◌==◌, ◌&&◌, ◌||◌, not, nat_le, Bool, true, List, [], ◌∷◌, ◌++◌, Option, None, Some, bytes_eq, cond, length, take, drop}
+use Rattle.std.specs.Prelude.{ℕ, ◌+◌, ◌==◌, ◌&&◌, ◌||◌, not, nat_le, Bool, true, List, [], ◌∷◌, ◌++◌, Option, None}
+use Rattle.std.specs.Prelude.{Some, bytes_eq, cond, length, take, drop}
 use Rattle.std.specs.Fmt.{decimal}
 use Rattle.attribute_tables_grammar.specs.Shapes.{number}
 use Rattle.link_lines_values.specs.declared.fields.FieldOf.{FieldOf}
@@ -47,12 +48,14 @@ field_text f part = 32 ∷ (f.0 ++ 61 ∷ field_value f.2 part)
 abbrev pub fields_text : Bool → List Field → List ℕ → List ℕ
 fields_text is_sparse [] bytes = []
 fields_text is_sparse (f ∷ fs) bytes =
-    cond (is_sparse && is_zero (take f.1 bytes)) [] (field_text f (take f.1 bytes)) ++ fields_text is_sparse fs (drop f.1 bytes)
+    cond (is_sparse && is_zero (take f.1 bytes)) [] (field_text f (take f.1 bytes)) ++
+    fields_text is_sparse fs (drop f.1 bytes)
 
 -- The text of a record, which only zeros may follow; any other bytes are shown in hex.
 unfoldable pub record_text : Bool → List Field → List ℕ → List ℕ
 record_text is_sparse fs bytes =
-    cond (nat_le (total_size fs) (length bytes) && is_zero (drop (total_size fs) bytes)) (fields_text is_sparse fs (take (total_size fs) bytes)) (bytes_text bytes)
+    cond (nat_le (total_size fs) (length bytes) &&
+    is_zero (drop (total_size fs) bytes)) (fields_text is_sparse fs (take (total_size fs) bytes)) (bytes_text bytes)
 
 -- ---- whether the text of a record determines it
 

@@ -1,5 +1,6 @@
 -- Payloads of attributes as text, with the space before it if there is any.
-use Rattle.std.specs.Prelude.{ℕ, ◌==◌, nat_le, Bool, true, false, List, [], ◌∷◌, ◌++◌, Option, None, Some, codes, cond, length, take, drop}
+use Rattle.std.specs.Prelude.{ℕ, ◌==◌, nat_le, Bool, true, false, List, [], ◌∷◌, ◌++◌, Option, None, Some, codes, cond}
+use Rattle.std.specs.Prelude.{length, take, drop}
 use Rattle.std.specs.Fmt.{decimal}
 use Rattle.std.specs.List.{list_all}
 use Rattle.attribute_tables_grammar.specs.Shapes.{number}
@@ -17,7 +18,8 @@ abbrev pub Shown : Type 0
 Shown = ShownBy (List Text) (List Field)
 
 -- The format that a value in code represents.
-abbrev pub format_of : {N T R : Type 0} → (N → List ℕ) → (T → List (ℕ × N)) → (R → List (FieldOf N)) → ShownBy T R → Shown
+abbrev pub format_of : {N T R : Type 0} → (N → List ℕ) → (T → List (ℕ × N)) → (R → List (FieldOf N)) → ShownBy T R →
+    Shown
 format_of f g h (S.Number texts) = S.Number (texts_of f (g texts))
 format_of f g h (S.BigEndian texts) = S.BigEndian (texts_of f (g texts))
 format_of f g h S.Signed = S.Signed
@@ -86,7 +88,8 @@ port_range_value p =
 -- Flags of 4 bytes and a mask of 4 bytes, as in `0x1 mask 0x1`.
 abbrev pub flags_and_mask_value : List ℕ → List ℕ
 flags_and_mask_value p =
-    cond (length p == 8) (32 ∷ (hex_number (number (take 4 p)) ++ (codes " mask " ++ hex_number (number (drop 4 p))))) (bytes_text p)
+    cond (length p == 8) (32 ∷
+    (hex_number (number (take 4 p)) ++ (codes " mask " ++ hex_number (number (drop 4 p))))) (bytes_text p)
 
 -- A payload as text, by its format.
 abbrev pub value_text : Shown → List ℕ → List ℕ

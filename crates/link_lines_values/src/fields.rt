@@ -1,6 +1,6 @@
 //! The fields of records, in the order of their bytes.
 
-use FieldShown::{Address, BigEndian, Number, Signed, Boolean};
+use FieldShown::{Address, BigEndian, Boolean, Number, Signed};
 
 /// How a field of a record is shown.
 #[derive(Clone, Copy)]

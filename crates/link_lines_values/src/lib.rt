@@ -3,6 +3,7 @@
 
 mod addresses;
 mod bytes;
+mod dense_rows;
 mod digits;
 mod fields;
 mod flags;
@@ -10,11 +11,11 @@ mod indents;
 pub mod laws;
 mod number_texts;
 mod numbers;
-mod dense_rows;
 mod records;
 mod values;
 
 pub use bytes::push_bytes;
+pub use dense_rows::look_up;
 pub use digits::{push_decimal, push_four_digits};
 pub use fields::{
     CACHEINFO, Field, FieldOf, FieldShown, Fields, ICMP6_STATS, IP6_STATS, IPV4_DEVCONF,
@@ -33,5 +34,4 @@ pub use number_texts::{
     PLAIN, STATE, TUNNEL_ENCAP_TYPE, VXLAN_DF,
 };
 pub use numbers::{push_name, push_number};
-pub use dense_rows::look_up;
 pub use values::{Shown, ShownBy, push_value};

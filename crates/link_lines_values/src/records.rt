@@ -5,7 +5,7 @@ ghost use Rattle.link_lines_values.specs.Bytes.{is_zero};
 ghost use Rattle.link_lines_values.specs.Records.{field_of, field_text, field_value, fields_of, fields_text};
 ghost use Rattle.link_lines_values.specs.Records.{number_or_hex, record_text, total_size};
 
-use crate::bytes::{is_zero, push_bytes, push_hex_text, push_padded_address, push_boolean};
+use crate::bytes::{is_zero, push_boolean, push_bytes, push_hex_text, push_padded_address};
 use crate::digits::{big_endian, little_endian, push_decimal, push_signed};
 use crate::fields::{Field, FieldShown};
 use std::alloc::AllocError;

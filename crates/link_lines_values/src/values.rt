@@ -9,7 +9,7 @@ ghost use Rattle.link_lines_values.specs.Names.{texts_of};
 ghost use Rattle.link_lines_values.specs.Values.{port_range_value, format_of, signed_value, sized_flags_value, value_text};
 
 use crate::addresses::push_address;
-use crate::bytes::{push_bytes, push_hardware_address, push_text, push_boolean};
+use crate::bytes::{push_boolean, push_bytes, push_hardware_address, push_text};
 use crate::digits::{big_endian, little_endian, push_decimal, push_hex, push_signed};
 use crate::fields::Fields;
 use crate::flags::{FlagName, push_flags};

@@ -7,7 +7,8 @@ use Rattle.attribute_tables.specs.Written.{written_as}
 use Rattle.link_message_grammar.specs.Body.{is_emptied}
 use Rattle.link_message_types.specs.AddressFamilies.{table_family}
 use Rattle.link_message_types.specs.Headers.{link_header_bytes}
-use Rattle.link_message_attributes.specs.LinkAttributes.{link_attribute_entry, link_attribute_fits, link_attribute_names_row}
+use Rattle.link_message_attributes.specs.LinkAttributes.{link_attribute_entry, link_attribute_fits}
+use Rattle.link_message_attributes.specs.LinkAttributes.{link_attribute_names_row}
 use Rattle.link_message.specs.declared.message.LinkMessage.{LinkMessage}
 
 -- The bytes of a message: its header, followed by its attributes.

@@ -5,11 +5,11 @@ ghost use Rattle.link_message.specs.EqualTexts.{EqualTextsMeanEqualMessages};
 
 pub use link_message_grammar::laws::{
     attributes_are_lawful, attributes_are_looked_up, bodies_are_headers_and_attributes,
-    bodies_are_lawful, bodies_are_small, bodies_grow_by_attributes, bodies_keep_meanings,
-    bodies_determine_meanings, body_laws_hold_for_any_peers, canonical_texts_are_read_back,
+    bodies_are_lawful, bodies_are_small, bodies_determine_meanings, bodies_grow_by_attributes,
+    bodies_keep_meanings, body_laws_hold_for_any_peers, canonical_texts_are_read_back,
     empty_ports_are_determined, info_is_a_list_inside, kinds_are_looked_up, kinds_rise,
-    link_peer_is_lawful, link_peers_are_lawful, old_bodies_are_migrated, only_link_info_holds_peers,
-    short_bodies_fit,
+    link_peer_is_lawful, link_peers_are_lawful, old_bodies_are_migrated,
+    only_link_info_holds_peers, short_bodies_fit,
 };
 pub use link_message_types::laws::{
     constants_are_named, headers_are_sixteen_bytes, layer_types_are_named, masks_are_kept,

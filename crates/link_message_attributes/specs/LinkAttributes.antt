@@ -1,5 +1,6 @@
 -- The attributes of a link: the kind and the payload of each value, and the variant that its row names.
-use Rattle.std.specs.Prelude.{◌≡◌, ◌==◌, ◌&&◌, ◌||◌, ◌++◌, cond, ℕ, Bool, true, false, Option, Some, None, List, [], ◌∷◌, string_bytes}
+use Rattle.std.specs.Prelude.{◌≡◌, ◌==◌, ◌&&◌, ◌||◌, ◌++◌, cond, ℕ, Bool, true, false, Option, Some, None, List, []}
+use Rattle.std.specs.Prelude.{◌∷◌, string_bytes}
 use Rattle.std.specs.List.{All}
 use Rattle.netlink_packet_core.specs.Attributes.{Attribute, proper_kind}
 use Rattle.netlink_packet_core.specs.AttributeViews.{viewed_kind, viewed_payload}
@@ -15,10 +16,12 @@ use Rattle.attribute_tables_grammar.specs.Tables.{Payload, Payload.plain, Payloa
 use Rattle.attribute_tables.specs.Beginnings.{begins_readable, line_may_allocate, table_may_allocate}
 use Rattle.link_info_grammar.specs.LinkInfo.{info_grammar_under}
 use Rattle.link_info.specs.LinkInfo.{link_info_entry, link_info_fits, link_info_is_row_variant}
-use Rattle.link_message_grammar.specs.LinkMessage.{Family, unspec, bridge, inet_6, family_payload, has_no_link_row, link_line}
+use Rattle.link_message_grammar.specs.LinkMessage.{Family, unspec, bridge, inet_6, family_payload, has_no_link_row}
+use Rattle.link_message_grammar.specs.LinkMessage.{link_line}
 use Rattle.link_message_grammar.specs.Body.{attribute_row, attribute_row_under, info_payload_rule, link_peer}
 use Rattle.link_message_grammar.specs.NestedTables.{specific}
-use Rattle.link_message_nested.specs.AddressFamilies.{af_spec_unspec_entry, af_spec_unspec_fits, af_spec_unspec_names_row}
+use Rattle.link_message_nested.specs.AddressFamilies.{af_spec_unspec_entry, af_spec_unspec_fits}
+use Rattle.link_message_nested.specs.AddressFamilies.{af_spec_unspec_names_row}
 use Rattle.link_message_nested.specs.ProtocolInfos.{link_proto_info_inet_6_entry}
 use Rattle.link_message_nested.specs.Devlink.{devlink_port_entry, devlink_port_names_row}
 use Rattle.link_message_nested.specs.DownReasons.{link_protocol_down_reason_entry, link_protocol_down_reason_names_row}
@@ -32,8 +35,10 @@ use Rattle.link_message_types.specs.ExtentMasks.{joined_extent_masks, link_exten
 use Rattle.link_message_types.specs.LinkModes.{link_mode_number, link_mode_of}
 use Rattle.link_message_types.specs.LinkStates.{state_number, state_of}
 use Rattle.link_message_types.specs.PhysIds.{link_phys_id_bytes}
-use Rattle.link_message_nested.specs.VfInfos.{link_vf_info_entry, link_vf_info_fits, link_vf_info_names_row, vf_infos_begin_readable}
-use Rattle.link_message_nested.specs.VfPorts.{vf_port_entry, link_vf_port_entry, link_vf_port_fits, vf_ports_begin_readable}
+use Rattle.link_message_nested.specs.VfInfos.{link_vf_info_entry, link_vf_info_fits, link_vf_info_names_row}
+use Rattle.link_message_nested.specs.VfInfos.{vf_infos_begin_readable}
+use Rattle.link_message_nested.specs.VfPorts.{vf_port_entry, link_vf_port_entry, link_vf_port_fits}
+use Rattle.link_message_nested.specs.VfPorts.{vf_ports_begin_readable}
 use Rattle.link_message_attributes.specs.declared.attributes.LinkAttribute.{LinkAttribute}
 use Rattle.link_message_attributes.specs.declared.attributes.LinkAttribute.TheVariants as Link
 
@@ -128,10 +133,12 @@ abbrev pub link_attribute_names_row : Family → LinkAttribute → Type 0
 link_attribute_names_row f (Link.VfInfoList vs) = All link_vf_info_names_row vs.items
 link_attribute_names_row f (Link.Xdp vs) = All link_xdp_names_row vs.items
 link_attribute_names_row f (Link.Event e) = e ≡ link_event_of (link_event_number e)
-link_attribute_names_row f (Link.LinkInfo vs) = all_named (info_grammar_under link_peer) link_info_entry link_info_is_row_variant nothing vs.items
+link_attribute_names_row f (Link.LinkInfo vs) =
+    all_named (info_grammar_under link_peer) link_info_entry link_info_is_row_variant nothing vs.items
 link_attribute_names_row f (Link.ProtoInfoBridge vs) = f ≡ bridge
 link_attribute_names_row f (Link.ProtoInfoInet6 vs) = f ≡ inet_6
-link_attribute_names_row f (Link.ProtoInfoUnknown a) = (proper_kind a.kind ≡ 12) × has_no_link_row f (proper_kind a.kind)
+link_attribute_names_row f (Link.ProtoInfoUnknown a) = (proper_kind a.kind ≡ 12) ×
+    has_no_link_row f (proper_kind a.kind)
 link_attribute_names_row f (Link.PropList vs) = All prop_names_row vs.items
 link_attribute_names_row f (Link.ProtoDownReason vs) = All link_protocol_down_reason_names_row vs.items
 link_attribute_names_row f (Link.Mode m) = m ≡ link_mode_of (link_mode_number m)
@@ -142,7 +149,8 @@ link_attribute_names_row f (Link.AfSpecBridge vs) = f ≡ bridge
 link_attribute_names_row f (Link.AfSpecUnknown b) = family_payload f ≡ plain raw
 link_attribute_names_row f (Link.DevlinkPort vs) = All devlink_port_names_row vs.items
 link_attribute_names_row f (Link.DpllPin vs) = All dpll_pin_names_row vs.items
-link_attribute_names_row f (Link.Other a) = ((proper_kind a.kind == 12) ≡ false) × has_no_link_row f (proper_kind a.kind)
+link_attribute_names_row f (Link.Other a) = ((proper_kind a.kind == 12) ≡ false) ×
+    has_no_link_row f (proper_kind a.kind)
 link_attribute_names_row f _ = Unit {0}
 
 -- The row of a kind under the rule by which peers are bytes, which is the row in force of every kind except link
@@ -180,7 +188,8 @@ list_may_allocate f k p =
 -- bits of a mask, on whether the row accepts them.
 abbrev pub row_may_allocate : Family → ℕ → List ℕ → Bool
 row_may_allocate f k p =
-    cond (line_holds_list (link_line f k)) (list_may_allocate f k p) ((k == 29 || line_holds_bytes (link_line f k)) && (attribute_row f k).rule.accepted p)
+    cond (line_holds_list (link_line f k)) (list_may_allocate f k p) ((k == 29 || line_holds_bytes (link_line f k)) &&
+    (attribute_row f k).rule.accepted p)
 
 -- Whether reading the attribute at the start of some bytes may allocate.
 abbrev pub link_attribute_may_allocate : Family → List ℕ → Bool
@@ -189,7 +198,10 @@ link_attribute_may_allocate f b = row_may_allocate f (proper_kind (viewed_kind b
 -- The kind isn't one of those whose payload is no number.
 abbrev pub IsReadAsNumber : ℕ → Type 0
 IsReadAsNumber k =
-    ((k == 1) ≡ false) × ((k == 2) ≡ false) × ((k == 3) ≡ false) × ((k == 6) ≡ false) × ((k == 7) ≡ false) × ((k == 12) ≡ false) × ((k == 14) ≡ false)
-    × ((k == 18) ≡ false) × ((k == 20) ≡ false) × ((k == 22) ≡ false) × ((k == 23) ≡ false) × ((k == 24) ≡ false) × ((k == 25) ≡ false) × ((k == 26) ≡ false)
-    × ((k == 29) ≡ false) × ((k == 34) ≡ false) × ((k == 36) ≡ false) × ((k == 38) ≡ false) × ((k == 43) ≡ false) × ((k == 52) ≡ false) × ((k == 54) ≡ false)
+    ((k == 1) ≡ false) × ((k == 2) ≡ false) × ((k == 3) ≡ false) × ((k == 6) ≡ false) × ((k == 7) ≡ false) ×
+    ((k == 12) ≡ false) × ((k == 14) ≡ false)
+    × ((k == 18) ≡ false) × ((k == 20) ≡ false) × ((k == 22) ≡ false) × ((k == 23) ≡ false) × ((k == 24) ≡ false) ×
+    ((k == 25) ≡ false) × ((k == 26) ≡ false)
+    × ((k == 29) ≡ false) × ((k == 34) ≡ false) × ((k == 36) ≡ false) × ((k == 38) ≡ false) × ((k == 43) ≡ false) ×
+    ((k == 52) ≡ false) × ((k == 54) ≡ false)
     × ((k == 55) ≡ false) × ((k == 56) ≡ false) × ((k == 57) ≡ false) × ((k == 62) ≡ false) × ((k == 65) ≡ false)

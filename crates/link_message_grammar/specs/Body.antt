@@ -1,6 +1,7 @@
 -- The body of a link message: a header of 16 bytes and a list of attributes. The payloads of the attributes depend on a
 -- rule of peers.
-use Rattle.std.specs.Prelude.{ℕ, ◌+◌, ◌*◌, ◌==◌, ◌&&◌, not, nat_le, Bool, cond, List, [], ◌∷◌, ◌++◌, length, take, drop, bytes_eq, slice_index}
+use Rattle.std.specs.Prelude.{ℕ, ◌+◌, ◌*◌, ◌==◌, ◌&&◌, not, nat_le, Bool, cond, List, [], ◌∷◌, ◌++◌, length, take, drop}
+use Rattle.std.specs.Prelude.{bytes_eq, slice_index}
 use Rattle.std.specs.List.{list_any}
 use Rattle.netlink_packet_core_grammar.specs.Attributes.{Attribute}
 use Rattle.attribute_tables_grammar.specs.Rules.{Rule}
@@ -14,9 +15,12 @@ use Rattle.link_message_grammar.specs.LinkMessage.{Family, family_of, info, link
 -- The layer types that have names.
 abbrev pub layer_types : List ℕ
 layer_types =
-    0 ∷ 1 ∷ 2 ∷ 3 ∷ 4 ∷ 5 ∷ 6 ∷ 7 ∷ 8 ∷ 15 ∷ 19 ∷ 23 ∷ 24 ∷ 27 ∷ 32 ∷ 256 ∷ 257 ∷ 258 ∷ 259 ∷ 260 ∷ 264 ∷ 270 ∷ 271 ∷ 272 ∷ 280 ∷ 290
-    ∷ 512 ∷ 513 ∷ 516 ∷ 517 ∷ 518 ∷ 519 ∷ 768 ∷ 769 ∷ 770 ∷ 771 ∷ 772 ∷ 773 ∷ 774 ∷ 775 ∷ 776 ∷ 777 ∷ 778 ∷ 779 ∷ 780 ∷ 781 ∷ 782 ∷ 783
-    ∷ 784 ∷ 785 ∷ 786 ∷ 787 ∷ 800 ∷ 801 ∷ 802 ∷ 803 ∷ 804 ∷ 805 ∷ 820 ∷ 821 ∷ 822 ∷ 823 ∷ 824 ∷ 825 ∷ 826 ∷ 65534 ∷ 65535 ∷ []
+    0 ∷ 1 ∷ 2 ∷ 3 ∷ 4 ∷ 5 ∷ 6 ∷ 7 ∷ 8 ∷ 15 ∷ 19 ∷ 23 ∷ 24 ∷ 27 ∷ 32 ∷ 256 ∷ 257 ∷ 258 ∷ 259 ∷ 260 ∷ 264 ∷ 270 ∷ 271 ∷
+    272 ∷ 280 ∷ 290
+    ∷ 512 ∷ 513 ∷ 516 ∷ 517 ∷ 518 ∷ 519 ∷ 768 ∷ 769 ∷ 770 ∷ 771 ∷ 772 ∷ 773 ∷ 774 ∷ 775 ∷ 776 ∷ 777 ∷ 778 ∷ 779 ∷ 780 ∷
+    781 ∷ 782 ∷ 783
+    ∷ 784 ∷ 785 ∷ 786 ∷ 787 ∷ 800 ∷ 801 ∷ 802 ∷ 803 ∷ 804 ∷ 805 ∷ 820 ∷ 821 ∷ 822 ∷ 823 ∷ 824 ∷ 825 ∷ 826 ∷ 65534 ∷
+    65535 ∷ []
 
 -- Whether a layer type has a name.
 unfoldable pub is_listed : ℕ → Bool
@@ -47,7 +51,8 @@ list_rule_of p f = rule p (list any (link_table f))
 unfoldable pub body_rule : Peer → Rule
 body_rule p = record {
   accepted = λ b. nat_le 16 (length b) && (list_rule_of p (family b)).accepted (attribute_bytes b);
-  same = λ a b. bytes_eq (header_text a) (header_text b) && (list_rule_of p (family a)).same (attribute_bytes a) (attribute_bytes b);
+  same = λ a b. bytes_eq (header_text a) (header_text b) &&
+      (list_rule_of p (family a)).same (attribute_bytes a) (attribute_bytes b);
   canonical = λ b. header_text b ++ (list_rule_of p (family b)).canonical (attribute_bytes b);
   attributes = λ b. (list_rule_of p (family b)).attributes (attribute_bytes b);
   fits = λ b. (list_rule_of p (family b)).fits (attribute_bytes b);

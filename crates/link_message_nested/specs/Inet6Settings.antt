@@ -8,7 +8,8 @@ use Rattle.attribute_tables_grammar.specs.LookUps.{has_no_row}
 use Rattle.link_message_grammar.specs.NestedTables.{inet6}
 use Rattle.link_message_records.specs.CacheInfos.{inet_6_cache_info_bytes}
 use Rattle.link_message_records.specs.ValueRecords.{i32_values_bytes, u64_values_bytes}
-use Rattle.link_message_types.specs.Inet6Types.{inet_6_iface_flags_bits, in_6_addr_gen_mode_number, in_6_addr_gen_mode_of}
+use Rattle.link_message_types.specs.Inet6Types.{inet_6_iface_flags_bits, in_6_addr_gen_mode_number}
+use Rattle.link_message_types.specs.Inet6Types.{in_6_addr_gen_mode_of}
 use Rattle.link_message_nested.specs.declared.inet6.AfSpecInet6.{AfSpecInet6}
 
 -- The kind and the payload of a value.

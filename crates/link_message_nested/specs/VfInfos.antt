@@ -12,7 +12,8 @@ use Rattle.attribute_tables_grammar.specs.Tables.{Payload.list}
 use Rattle.attribute_tables.specs.Beginnings.{begins_readable, entries_begin_readable, table_may_allocate}
 use Rattle.link_message_grammar.specs.NestedTables.{vf}
 use Rattle.link_message_types.specs.VfTypes.{vf_link_state_number, vf_link_state_of}
-use Rattle.link_message_records.specs.VfRecords.{vf_info_mac_bytes, vf_info_vlan_bytes, vf_info_tx_rate_bytes, vf_info_link_state_bytes, vf_info_rate_bytes, vf_info_broadcast_bytes}
+use Rattle.link_message_records.specs.VfRecords.{vf_info_mac_bytes, vf_info_vlan_bytes, vf_info_tx_rate_bytes}
+use Rattle.link_message_records.specs.VfRecords.{vf_info_link_state_bytes, vf_info_rate_bytes, vf_info_broadcast_bytes}
 use Rattle.link_message_records.specs.VfSettings.{vf_info_setting_bytes}
 use Rattle.link_message_nested.specs.VfStatistics.{vf_stats_entry, vf_stats_names_row}
 use Rattle.link_message_nested.specs.VfVlans.{vf_vlan_entry, vf_vlan_names_row}

@@ -5,7 +5,9 @@ use Rattle.netlink_packet_core.specs.Numbers.{le8}
 use Rattle.attribute_tables_grammar.specs.LookUps.{has_no_row}
 use Rattle.link_message_grammar.specs.NestedTables.{vf_stats}
 use Rattle.link_message_nested.specs.declared.vf_stats.VfStats.{VfStats}
-use Rattle.link_message_nested.specs.declared.vf_stats.VfStats.TheVariants.{RxPackets, TxPackets, RxBytes, TxBytes, Broadcast, Multicast, RxDropped, TxDropped, Other}
+use Rattle.link_message_nested.specs.declared.vf_stats.VfStats.TheVariants.{RxPackets, TxPackets, RxBytes, TxBytes}
+use Rattle.link_message_nested.specs.declared.vf_stats.VfStats.TheVariants.{Broadcast, Multicast, RxDropped, TxDropped}
+use Rattle.link_message_nested.specs.declared.vf_stats.VfStats.TheVariants.{Other}
 
 -- The kind and the payload of a value.
 abbrev pub vf_stats_entry : VfStats → Attribute

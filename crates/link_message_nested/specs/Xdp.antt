@@ -7,7 +7,8 @@ use Rattle.attribute_tables_grammar.specs.LookUps.{has_no_row}
 use Rattle.link_message_grammar.specs.NestedTables.{xdp}
 use Rattle.link_message_types.specs.XdpTypes.{xdp_attached_number, xdp_attached_of}
 use Rattle.link_message_nested.specs.declared.xdp.LinkXdp.{LinkXdp}
-use Rattle.link_message_nested.specs.declared.xdp.LinkXdp.TheVariants.{Fd, Attached, Flags, ProgId, DrvProgId, SkbProgId, HwProgId, ExpectedFd, Other}
+use Rattle.link_message_nested.specs.declared.xdp.LinkXdp.TheVariants.{Fd, Attached, Flags, ProgId, DrvProgId}
+use Rattle.link_message_nested.specs.declared.xdp.LinkXdp.TheVariants.{SkbProgId, HwProgId, ExpectedFd, Other}
 
 -- The kind and the payload of a value.
 abbrev pub link_xdp_entry : LinkXdp → Attribute

@@ -6,4 +6,6 @@ use Rattle.link_message_records.specs.declared.map.Map.{Map}
 
 -- The bytes of a map: three numbers of 8 bytes, one of 2, two of 1, and zeros.
 abbrev pub map_bytes : Map → List ℕ
-map_bytes v = (le8 v.memory_start ++ (le8 v.memory_end ++ (le8 v.base_address ++ (le2 v.irq ++ ((v.dma ∷ []) ++ (v.port ∷ [])))))) ++ zeros 4
+map_bytes v =
+    (le8 v.memory_start ++ (le8 v.memory_end ++
+    (le8 v.base_address ++ (le2 v.irq ++ ((v.dma ∷ []) ++ (v.port ∷ [])))))) ++ zeros 4

@@ -38,4 +38,5 @@ vf_info_broadcast_bytes v = v.addr
 
 -- The bytes of a VLAN in a list: three numbers of 4 bytes, one of 2, big-endian, and zeros.
 abbrev pub vf_vlan_info_bytes : VfVlanInfo → List ℕ
-vf_vlan_info_bytes v = (le4 v.vf_id ++ (le4 v.vlan_id ++ (le4 v.qos ++ be2 (vlan_protocol_number v.protocol)))) ++ zeros 2
+vf_vlan_info_bytes v =
+    (le4 v.vf_id ++ (le4 v.vlan_id ++ (le4 v.qos ++ be2 (vlan_protocol_number v.protocol)))) ++ zeros 2

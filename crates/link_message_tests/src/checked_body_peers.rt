@@ -12,8 +12,7 @@ const PEER_WRITTEN: &[u8] = b"\0\0\0\0\0\0\0\0\0\0\0\0\0\0\0\0\x30\0\x12\0\x09\0
     \x20\0\x02\0\x1c\0\x01\0\0\0\0\0\0\0\0\0\0\0\0\0\0\0\0\0\x07\0\x03\0lo\0\0";
 
 // The same pair with another second byte in the peer's header, and one whose peer has another name.
-const PEER_VARIED: &[u8] =
-    b"\0\0\0\0\0\0\0\0\0\0\0\0\0\0\0\0\x2e\0\x12\0\x09\0\x01\0veth\0\0\0\0\
+const PEER_VARIED: &[u8] = b"\0\0\0\0\0\0\0\0\0\0\0\0\0\0\0\0\x2e\0\x12\0\x09\0\x01\0veth\0\0\0\0\
     \x1e\0\x02\0\x1a\0\x01\0\0\x05\0\0\0\0\0\0\0\0\0\0\0\0\0\0\x06\0\x03\0lo";
 
 const OTHER_PEER: &[u8] = b"\0\0\0\0\0\0\0\0\0\0\0\0\0\0\0\0\x2e\0\x12\0\x09\0\x01\0veth\0\0\0\0\

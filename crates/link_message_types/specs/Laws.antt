@@ -2,9 +2,11 @@
 use Rattle.std.specs.Prelude.{◌≡◌, ℕ, ◌<◌, ◌^◌, List, [], ◌∷◌, codes, length}
 use Rattle.link_message_types.specs.AddressFamilies.{address_family_number, address_family_of}
 use Rattle.link_message_types.specs.Events.{link_event_number, link_event_of}
-use Rattle.link_message_types.specs.ExtentMasks.{joined_extent_masks, link_extent_mask_number, link_extent_mask_of, link_extent_masks_of}
+use Rattle.link_message_types.specs.ExtentMasks.{joined_extent_masks, link_extent_mask_number, link_extent_mask_of}
+use Rattle.link_message_types.specs.ExtentMasks.{link_extent_masks_of}
 use Rattle.link_message_types.specs.Headers.{link_header_bytes}
-use Rattle.link_message_types.specs.Inet6Types.{in_6_addr_gen_mode_number, in_6_addr_gen_mode_of, inet_6_iface_flags_bits, inet_6_iface_flags_table}
+use Rattle.link_message_types.specs.Inet6Types.{in_6_addr_gen_mode_number, in_6_addr_gen_mode_of}
+use Rattle.link_message_types.specs.Inet6Types.{inet_6_iface_flags_bits, inet_6_iface_flags_table}
 use Rattle.link_message_types.specs.LinkFlagTypes.{link_flags_bits, link_flags_table}
 use Rattle.link_message_types.specs.LinkLayerTypes.{link_layer_type_number, link_layer_type_of}
 use Rattle.link_message_types.specs.LinkModes.{link_mode_number, link_mode_of}
@@ -14,8 +16,13 @@ use Rattle.link_message_types.specs.VfTypes.{vf_link_state_number, vf_link_state
 use Rattle.link_message_types.specs.VlanTypes.{vlan_protocol_number, vlan_protocol_of}
 use Rattle.link_message_types.specs.XdpTypes.{xdp_attached_number, xdp_attached_of}
 use Rattle.link_message_types.specs.declared.header.LinkHeader.{LinkHeader}
-use Rattle.link_message_types.specs.declared.inet6.TheConstants.Inet6IfaceFlags.{RsSent, RaReceived, Managed, OtherConf, Ready}
-use Rattle.link_message_types.specs.declared.link_flag.TheConstants.LinkFlags.{Up, Broadcast, Debug, Loopback, Pointopoint, Notrailers, Running, Noarp, Promisc, Allmulti, Controller, Port, Multicast, Portsel, Automedia, Dynamic, LowerUp, Dormant, Echo}
+use Rattle.link_message_types.specs.declared.inet6.TheConstants.Inet6IfaceFlags.{RsSent, RaReceived, Managed, OtherConf}
+use Rattle.link_message_types.specs.declared.inet6.TheConstants.Inet6IfaceFlags.{Ready}
+use Rattle.link_message_types.specs.declared.link_flag.TheConstants.LinkFlags.{Up, Broadcast, Debug, Loopback}
+use Rattle.link_message_types.specs.declared.link_flag.TheConstants.LinkFlags.{Pointopoint, Notrailers, Running, Noarp}
+use Rattle.link_message_types.specs.declared.link_flag.TheConstants.LinkFlags.{Promisc, Allmulti, Controller, Port}
+use Rattle.link_message_types.specs.declared.link_flag.TheConstants.LinkFlags.{Multicast, Portsel, Automedia, Dynamic}
+use Rattle.link_message_types.specs.declared.link_flag.TheConstants.LinkFlags.{LowerUp, Dormant, Echo}
 use Rattle.link_message_types.specs.declared.link_layer_type.LinkLayerType.{LinkLayerType}
 use Rattle.link_message_types.specs.declared.link_layer_type.TheConstants.LinkLayerType.{Cisco}
 

@@ -4,9 +4,12 @@ use Rattle.std.specs.Prelude.{ℕ, suc, ◌==◌, ◌&&◌, Bool, true, List, []
 use Rattle.attribute_tables_grammar.specs.Shapes as shapes
 use Rattle.attribute_tables_grammar.specs.Lists as lists
 use Rattle.attribute_tables_grammar.specs.LookUps.{Line}
-use Rattle.attribute_tables_grammar.specs.Tables.{Payload, Payload.plain, Payload.peer, Payload.list, Table, Table.end, Table.row}
+use Rattle.attribute_tables_grammar.specs.Tables.{Payload, Payload.plain, Payload.peer, Payload.list, Table, Table.end}
+use Rattle.attribute_tables_grammar.specs.Tables.{Table.row}
 use Rattle.link_tables.specs.declared.rows.Shape.{Shape}
-use Rattle.link_tables.specs.declared.rows.Shape.TheVariants.{Exact, Either, AtMost, NonzeroByte, OneByte, BooleanOfFour, Presence, Text, Raw, Never, FixedRecord, IdAndBoolean, Resized}
+use Rattle.link_tables.specs.declared.rows.Shape.TheVariants.{Exact, Either, AtMost, NonzeroByte, OneByte}
+use Rattle.link_tables.specs.declared.rows.Shape.TheVariants.{BooleanOfFour, Presence, Text, Raw, Never, FixedRecord}
+use Rattle.link_tables.specs.declared.rows.Shape.TheVariants.{IdAndBoolean, Resized}
 use Rattle.link_tables.specs.declared.rows.Form.{Form}
 use Rattle.link_tables.specs.declared.rows.Form.TheVariants.{Any, NonEmpty, OfKindOne, Ports, FirstOnly}
 use Rattle.link_tables.specs.declared.rows.Held.{Held}

@@ -5,9 +5,13 @@ use Rattle.attribute_tables_grammar.specs.Peers.{Peer}
 use Rattle.attribute_tables_grammar.specs.Rules.{Rule}
 use Rattle.attribute_tables_grammar.specs.Shapes.{exact}
 use Rattle.attribute_tables_grammar.specs.Tables.{Payload, Table, Table.end}
-use Rattle.link_info_grammar.specs.Families.{amt, bareudp, batadv, geneve, gre, gre6, gtp, ip_tunnel, ipoib, ipvlan, macsec, macvlan, macvlan_address, netkit, pair, rmnet, vrf, vti, vxlan, wwan, xfrm}
+use Rattle.link_info_grammar.specs.Families.{amt, bareudp, batadv, geneve, gre, gre6, gtp, ip_tunnel, ipoib, ipvlan}
+use Rattle.link_info_grammar.specs.Families.{macsec, macvlan, macvlan_address, netkit, pair, rmnet, vrf, vti, vxlan}
+use Rattle.link_info_grammar.specs.Families.{wwan, xfrm}
 use Rattle.link_message_grammar.specs.LinkMessage.{unspec, bridge, inet_6, other, info, link_table}
-use Rattle.link_message_grammar.specs.NestedTables.{devlink_port, dpll_pin, inet, inet6, mctp, props, protocol_down_reason, specific, vf, vf_infos, vf_ports, vf_stats, vf_vlans, xdp}
+use Rattle.link_message_grammar.specs.NestedTables.{devlink_port, dpll_pin, inet, inet6, mctp, props}
+use Rattle.link_message_grammar.specs.NestedTables.{protocol_down_reason, specific, vf, vf_infos, vf_ports, vf_stats}
+use Rattle.link_message_grammar.specs.NestedTables.{vf_vlans, xdp}
 use Rattle.link_tables.specs.declared.rows.Held.{Held}
 use Rattle.link_tables.specs.declared.rows.Row.{Row}
 use Rattle.link_tables.specs.declared.table.Table.{Table as Named}
@@ -18,9 +22,11 @@ use Rattle.link_tables.specs.Rows.{line_of, payload_of}
 -- info, whose rows depend on the kinds in force.
 abbrev pub all_tables : List Table
 all_tables =
-    xdp ∷ props ∷ protocol_down_reason ∷ devlink_port ∷ dpll_pin ∷ mctp ∷ inet ∷ inet6 ∷ specific ∷ vf_stats ∷ vf_vlans ∷ vf ∷ vf_infos ∷ vf_ports
+    xdp ∷ props ∷ protocol_down_reason ∷ devlink_port ∷ dpll_pin ∷ mctp ∷ inet ∷ inet6 ∷ specific ∷ vf_stats ∷
+    vf_vlans ∷ vf ∷ vf_infos ∷ vf_ports
     ∷ end ∷ link_table unspec ∷ link_table bridge ∷ link_table inet_6 ∷ link_table other ∷ end
-    ∷ amt ∷ bareudp ∷ batadv ∷ geneve ∷ gre ∷ gre6 ∷ gtp ∷ ipoib ∷ ipvlan ∷ ip_tunnel (exact 2) ∷ ip_tunnel (exact 4) ∷ macvlan ∷ macvlan_address
+    ∷ amt ∷ bareudp ∷ batadv ∷ geneve ∷ gre ∷ gre6 ∷ gtp ∷ ipoib ∷ ipvlan ∷ ip_tunnel (exact 2) ∷ ip_tunnel (exact 4) ∷
+    macvlan ∷ macvlan_address
     ∷ macsec ∷ netkit ∷ pair ∷ rmnet ∷ vrf ∷ wwan ∷ xfrm ∷ vti ∷ vxlan ∷ pair ∷ []
 
 -- The table at this index; a table of raw attributes has no rows.

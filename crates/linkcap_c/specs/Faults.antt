@@ -1,7 +1,9 @@
 -- Faults as C has them.
 use Rattle.std.specs.Prelude.{◌≡◌, ◌⊎◌, ℕ, ◌-◌, ◌^◌, Bool, cond, List, Option, None, Some, option_map}
 use Rattle.link_capture_grammar.specs.declared.fault.FaultKind.{FaultKind}
-use Rattle.link_capture_grammar.specs.declared.fault.FaultKind.TheVariants.{Cut, ShortLength, OverLimit, Refused, EmptyPorts, Unfit, TextOverLimit, Memory, Read, Write, TooLong, Failed}
+use Rattle.link_capture_grammar.specs.declared.fault.FaultKind.TheVariants.{Cut, ShortLength, OverLimit, Refused}
+use Rattle.link_capture_grammar.specs.declared.fault.FaultKind.TheVariants.{EmptyPorts, Unfit, TextOverLimit, Memory}
+use Rattle.link_capture_grammar.specs.declared.fault.FaultKind.TheVariants.{Read, Write, TooLong, Failed}
 use Rattle.link_capture_grammar.specs.declared.fault.CaptureFault.{CaptureFault}
 use Rattle.link_capture_grammar.specs.Captures.{first_fault, StopsAt}
 use Rattle.link_capture_checks.specs.Sides.{side_text}
@@ -32,7 +34,8 @@ fault_of side fault = record { kind = kind_number fault.kind; side = side; offse
 
 -- this is one, of a capture that is alone or of one of two
 abbrev pub IsFault : LinkcapFault → Type 0
-IsFault fault = (found : CaptureFault) × ((fault ≡ fault_of 0 found) ⊎ (fault ≡ fault_of 1 found) ⊎ (fault ≡ fault_of 2 found))
+IsFault fault = (found : CaptureFault) ×
+    ((fault ≡ fault_of 0 found) ⊎ (fault ≡ fault_of 1 found) ⊎ (fault ≡ fault_of 2 found))
 
 -- the words of a fault of the second of two captures, or of the first
 abbrev pub words_of_side : Bool → CaptureFault → List ℕ

@@ -8,7 +8,8 @@ use Rattle.link_capture_grammar.specs.Numbers.{frames}
 abbrev pub IsMessage : ℕ → List ℕ → ℕ → ℕ → Type 0
 IsMessage limit rest size kind = (text : List ℕ) × (first_frame limit rest ≡ Ok (size, text)) × (kind ≡ frame_type rest)
 
--- The messages of c from one offset on are one and those from the next offset on: the first fault, the count and the texts of the ones are those of the others.
+-- The messages of c from one offset on are one and those from the next offset on: the first fault, the count and the
+-- texts of the ones are those of the others.
 pub record IsFollowed (limit : ℕ) (c : List ℕ) (at next : ℕ) : Type 0 where
   pub further : at < next
   pub fault : shifted at (first_fault limit (drop at c)) ≡ shifted next (first_fault limit (drop next c))

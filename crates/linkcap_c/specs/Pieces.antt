@@ -1,5 +1,6 @@
 -- What a call writes of one piece of a capture: its texts, or their lines.
-use Rattle.std.specs.Prelude.{◌≡◌, ◌≢◌, ℕ, ◌+◌, ◌%◌, ◌<◌, ◌≤◌, ◌⊎◌, Bool, true, false, List, [], ◌++◌, length, take, Option, None, Some, Ok, Err}
+use Rattle.std.specs.Prelude.{◌≡◌, ◌≢◌, ℕ, ◌+◌, ◌%◌, ◌<◌, ◌≤◌, ◌⊎◌, Bool, true, false, List, [], ◌++◌, length, take}
+use Rattle.std.specs.Prelude.{Option, None, Some, Ok, Err}
 use Rattle.netlink_packet_core_grammar.specs.Attributes.{nla_align}
 use Rattle.link_capture_grammar.specs.declared.fault.FaultKind.{FaultKind}
 use Rattle.link_capture_grammar.specs.declared.fault.FaultKind.TheVariants.{Cut}
@@ -44,7 +45,8 @@ IsAccepted limit rest = (text : List ℕ) × HasText limit rest text
 
 -- The first frame is accepted, and its padding is incomplete.
 abbrev pub LacksPadding : ℕ → List ℕ → Type 0
-LacksPadding limit rest = (n : ℕ) × (text : List ℕ) × (first_frame limit rest ≡ Ok (n, text)) × (length rest < nla_align n)
+LacksPadding limit rest = (n : ℕ) × (text : List ℕ) × (first_frame limit rest ≡ Ok (n, text)) ×
+    (length rest < nla_align n)
 
 -- The last piece is used up; or these bytes don't begin with a whole frame and its padding.
 abbrev pub IsEnded : ℕ → Bool → List ℕ → Type 0
@@ -73,15 +75,19 @@ pub record IsWhole (limit : ℕ) (s : List ℕ) : Type 0 where
   pub legal : IsLegal limit s
   pub padded : length s % 4 ≡ 0
 
--- After each whole capture, the used bytes of the piece are legal, their text is written independently of the capture's, and
+-- After each whole capture, the used bytes of the piece are legal, their text is written independently of the
+-- capture's, and
 -- the result is whole if more is to come.
 pub record Continues (form : Form) (limit : ℕ) (last : Bool) (used before : List ℕ) : Type 0 where
   pub legal : IsLegal limit (before ++ used)
   pub written : form (texts limit (before ++ used)) ≡ form (texts limit before) ++ form (texts limit used)
   pub whole : last ≡ false → IsWhole limit (before ++ used)
 
--- A piece follows a whole capture, and more bytes follow the piece; `used` bytes of the piece were used. This is the first
+-- A piece follows a whole capture, and more bytes follow the piece; `used` bytes of the piece were used. This is the
+-- first
 -- fault of all of it, and what is written before that fault.
 pub record Fails (form : Form) (limit : ℕ) (kind : FaultKind) (used : ℕ) (piece before more : List ℕ) : Type 0 where
-  pub fault : first_fault limit (before ++ (piece ++ more)) ≡ Some (record { kind = kind; offset = length before + used })
-  pub written : form (texts limit (before ++ (piece ++ more))) ≡ form (texts limit before) ++ form (texts limit (take used piece))
+  pub fault : first_fault limit (before ++ (piece ++ more)) ≡
+      Some (record { kind = kind; offset = length before + used })
+  pub written : form (texts limit (before ++ (piece ++ more))) ≡
+      form (texts limit before) ++ form (texts limit (take used piece))

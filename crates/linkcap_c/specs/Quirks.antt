@@ -1,7 +1,11 @@
 -- The encodings of a capture that kernels treat differently from its normal text, as C has them.
 use Rattle.std.specs.Prelude.{◌≡◌, ℕ, List, map}
 use Rattle.link_capture_quirks.specs.declared.quirk_at.Quirk.{Quirk}
-use Rattle.link_capture_quirks.specs.declared.quirk_at.Quirk.TheVariants.{NestedPortSettings, ResizedSettings, PathDiscoveryOverOne, TrailingPeer, LongAlias, NameWithoutNul, FlagWithPayload, BooleanOverOne, StrayNestedBit, UnexpectedFunction, HeaderByte, ShortMap}
+use Rattle.link_capture_quirks.specs.declared.quirk_at.Quirk.TheVariants.{NestedPortSettings, ResizedSettings}
+use Rattle.link_capture_quirks.specs.declared.quirk_at.Quirk.TheVariants.{PathDiscoveryOverOne, TrailingPeer, LongAlias}
+use Rattle.link_capture_quirks.specs.declared.quirk_at.Quirk.TheVariants.{NameWithoutNul, FlagWithPayload}
+use Rattle.link_capture_quirks.specs.declared.quirk_at.Quirk.TheVariants.{BooleanOverOne, StrayNestedBit}
+use Rattle.link_capture_quirks.specs.declared.quirk_at.Quirk.TheVariants.{UnexpectedFunction, HeaderByte, ShortMap}
 use Rattle.link_capture_quirks.specs.declared.quirk_at.QuirkAt.{QuirkAt}
 use Rattle.link_capture_quirks.specs.CaptureQuirks.{capture_quirks}
 use Rattle.linkcap_c.specs.declared.quirks.LinkcapQuirk.{LinkcapQuirk}

@@ -8,9 +8,9 @@ ghost use Rattle.linkcap_c.specs.Statuses.{KeepsFault};
 ghost use Rattle.linkcap_c.specs.Apart.{SameButNumbers};
 ghost use Rattle.linkcap_c.specs.Faults.{ReportsFault};
 
+use crate::faults::{LinkcapFault, of_two};
 use crate::numbers::same_but_numbers;
 use crate::statuses::{DIFFERENT, FAULT, OK, WRONG, is_limit};
-use crate::faults::{LinkcapFault, of_two};
 use link_capture_checks::{SideFault, check, same};
 use link_capture_grammar::laws::texts_determine_meanings;
 use link_capture_numbers::laws::cleared_captures_have_cleared_texts;

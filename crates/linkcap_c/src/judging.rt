@@ -5,8 +5,8 @@ ghost use Rattle.link_capture_grammar.specs.Captures.{texts};
 ghost use Rattle.link_capture_grammar.specs.Numbers.{attributes, frames};
 ghost use Rattle.linkcap_c.specs.Statuses.{IsJudgingStatus, Judges, KeepsFault};
 
-use crate::statuses::{FAULT, OK, WRONG, is_limit};
 use crate::faults::{LinkcapFault, of_one};
+use crate::statuses::{FAULT, OK, WRONG, is_limit};
 use link_capture_checks::{check, measure};
 
 /// The sizes of a legal capture.

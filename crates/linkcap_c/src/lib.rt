@@ -1,17 +1,17 @@
 // The calls for C: captures judged, measured, normalised, compared and shown, their messages and their quirks.
 #![tactic(auto)]
 
+mod buffers;
 mod choices;
 mod comparing;
+mod faults;
 mod judging;
 mod messages;
 mod numbers;
 mod pieces;
 mod quirks;
 mod refusing;
-mod buffers;
 mod statuses;
 mod streaming;
 mod texts;
-mod faults;
 mod writing;

@@ -8,8 +8,8 @@ ghost use Rattle.linkcap_c.specs.Statuses.{KeepsFault};
 ghost use Rattle.linkcap_c.specs.Messages.{IsFollowed, IsMessage};
 ghost use Rattle.linkcap_c.specs.Faults.{fault_of};
 
-use crate::statuses::{FAULT, NONE, OK, WRONG, is_limit};
 use crate::faults::{LinkcapFault, of_one};
+use crate::statuses::{FAULT, NONE, OK, WRONG, is_limit};
 use link_capture_checks::measure_frame;
 use link_capture_grammar::fault::CaptureFault;
 use link_capture_grammar::laws::{captures_are_counted, captures_unfold_by_frames};

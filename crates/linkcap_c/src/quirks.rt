@@ -9,10 +9,10 @@ ghost use Rattle.linkcap_c.specs.Buffers.{IsCopied};
 ghost use Rattle.linkcap_c.specs.Quirks.{quirk_number, quirk_of, quirks, IsQuirk};
 
 use crate::buffers::copy_text;
-use crate::statuses::{FAULT, NO_ROOM, OK, WRONG, is_limit};
 use crate::faults::{LinkcapFault, of_one};
+use crate::statuses::{FAULT, NO_ROOM, OK, WRONG, is_limit};
 use link_capture_grammar::fault::CaptureFault;
-use link_capture_quirks::{QuirkAt, Quirk, quirks};
+use link_capture_quirks::{Quirk, QuirkAt, quirks};
 
 /// An encoding that some kernels treat differently from its normal text.
 #[repr(C)]

@@ -11,9 +11,9 @@ ghost use Rattle.linkcap_c.specs.Choices.{asked};
 ghost use Rattle.linkcap_c.specs.Faults.{kind_number, fault_of};
 
 use crate::choices::line_options;
+use crate::faults::{LinkcapFault, of_one};
 use crate::pieces::{Stop, write_piece};
 use crate::statuses::{FAULT, NO_MEMORY, NO_ROOM, OK, WRONG, is_limit};
-use crate::faults::{LinkcapFault, of_one};
 use link_capture_grammar::fault::{CaptureFault, FaultKind};
 use link_lines::LineOptions;
 use std::alloc::Global;

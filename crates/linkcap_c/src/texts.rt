@@ -7,8 +7,8 @@ ghost use Rattle.linkcap_c.specs.Buffers.{IsCopied};
 ghost use Rattle.linkcap_c.specs.Faults.{IsFault, fault_of, words_of_side};
 
 use crate::buffers::copy_text;
-use crate::statuses::{OK, WRONG};
 use crate::faults::{LinkcapFault, kind_of};
+use crate::statuses::{OK, WRONG};
 use link_capture_checks::SideFault;
 use link_capture_grammar::fault::CaptureFault;
 

@@ -15,10 +15,10 @@ ghost use Rattle.linkcap_c.specs.Choices.{asked};
 ghost use Rattle.linkcap_c.specs.Pieces.{IsAccepted};
 ghost use Rattle.linkcap_c.specs.Faults.{ReportsMemory, fault_of};
 
-use crate::choices::line_options;
 use crate::buffers::copy_text;
-use crate::statuses::{FAULT, NO_MEMORY, NO_ROOM, OK, WRONG, is_limit};
+use crate::choices::line_options;
 use crate::faults::{LinkcapFault, of_one};
+use crate::statuses::{FAULT, NO_MEMORY, NO_ROOM, OK, WRONG, is_limit};
 use link_capture_checks::{measure, normal_len};
 use link_capture_grammar::fault::{CaptureFault, FaultKind};
 use link_capture_grammar::laws::{captures_unfold_by_frames, faults_are_at_frames};

@@ -1,5 +1,6 @@
 -- The contents of files, and the result of comparing two of them.
-use Rattle.std.specs.Prelude.{◌≡◌, ℕ, ⊤, Bool, true, false, List, length, cond, Option, None, Some, Result, Ok, Err, ◌⊎◌, ◌↔◌}
+use Rattle.std.specs.Prelude.{◌≡◌, ℕ, ⊤, Bool, true, false, List, length, cond, Option, None, Some, Result, Ok, Err}
+use Rattle.std.specs.Prelude.{◌⊎◌, ◌↔◌}
 use Rattle.std.specs.Io.KnownBytes.{Consumes}
 use Rattle.link_capture_grammar.specs.declared.fault.CaptureFault.{CaptureFault}
 use Rattle.link_capture_checks.specs.declared.sameness.SideFault.{SideFault}
@@ -36,25 +37,32 @@ unopened n = record { asked = risen n.asked; failures = risen n.failures }
 
 -- The captures of two files were read, and comparing them yielded this result.
 abbrev pub Judges : List ℕ → List ℕ → ℕ → Result Bool SideFault → Type 0
-Judges left right limit (Ok is_same) = IsLegal limit left × IsLegal limit right × ((is_same ≡ true) ↔ SameCapture limit left right)
-Judges left right limit (Err e) = (first_fault limit (cond e.second right left) ≡ Some e.fault) × (e.second ≡ true → IsLegal limit left)
+Judges left right limit (Ok is_same) = IsLegal limit left × IsLegal limit right ×
+    ((is_same ≡ true) ↔ SameCapture limit left right)
+Judges left right limit (Err e) = (first_fault limit (cond e.second right left) ≡ Some e.fault) ×
+    (e.second ≡ true → IsLegal limit left)
 
 -- The next file couldn't be opened, or couldn't be read, and this is its fault.
 abbrev pub CannotRead : (CaptureFault → Type 0) → Counts → Counts → CaptureFault → Type 0
 CannotRead Unread before after fault =
-    ((after ≡ unopened before) × (fault ≡ record { kind = Read; offset = 0 })) ⊎ ((after ≡ opened before) × Unread fault)
+    ((after ≡ unopened before) × (fault ≡ record { kind = Read; offset = 0 })) ⊎
+    ((after ≡ opened before) × Unread fault)
 
 -- One of two files couldn't be read: the first, and then the second wasn't opened; or the second, after the first was
 -- read.
-abbrev pub ReadsOne : (Option (List ℕ) → CaptureFault → Type 0) → Option (List ℕ) → Option (List ℕ) → Counts → Counts → Result Bool SideFault → Type 0
+abbrev pub ReadsOne : (Option (List ℕ) → CaptureFault → Type 0) → Option (List ℕ) → Option (List ℕ) → Counts → Counts →
+    Result Bool SideFault → Type 0
 ReadsOne Unread first second before after (Ok is_same) = ⊥
 ReadsOne Unread first second before after (Err e) =
     ((e.second ≡ false) × CannotRead (Unread first) before after e.fault)
-    ⊎ ((e.second ≡ true) × ((left : List ℕ) × Holds first left) × CannotRead (Unread second) (opened before) after e.fault)
+    ⊎ ((e.second ≡ true) × ((left : List ℕ) × Holds first left) ×
+    CannotRead (Unread second) (opened before) after e.fault)
 
 -- Two files, whose contents may be known, are compared: each was opened once and read, and then they were judged; or
 -- one couldn't be read.
-abbrev pub Compares : (Option (List ℕ) → CaptureFault → Type 0) → Option (List ℕ) → Option (List ℕ) → Counts → Counts → ℕ → Result Bool SideFault → Type 0
+abbrev pub Compares : (Option (List ℕ) → CaptureFault → Type 0) → Option (List ℕ) → Option (List ℕ) → Counts → Counts →
+    ℕ → Result Bool SideFault → Type 0
 Compares Unread first second before after limit result =
-    ((left right : List ℕ) × Holds first left × Holds second right × (after ≡ opened (opened before)) × Judges left right limit result)
+    ((left right : List ℕ) × Holds first left × Holds second right × (after ≡ opened (opened before)) ×
+    Judges left right limit result)
     ⊎ ReadsOne Unread first second before after result

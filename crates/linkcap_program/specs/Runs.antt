@@ -1,5 +1,6 @@
 -- The program's commands, what it prints and reports, and its exit status.
-use Rattle.std.specs.Prelude.{◌≡◌, ℕ, Bool, true, false, List, [], ◌∷◌, ◌++◌, codes, cond, Option, None, Some, Result, Ok, Err, ⊤}
+use Rattle.std.specs.Prelude.{◌≡◌, ℕ, Bool, true, false, List, [], ◌∷◌, ◌++◌, codes, cond, Option, None, Some, Result}
+use Rattle.std.specs.Prelude.{Ok, Err, ⊤}
 use Rattle.link_capture_grammar.specs.declared.fault.CaptureFault.{CaptureFault}
 use Rattle.link_capture_grammar.specs.declared.fault.FaultKind.TheVariants.{Write}
 use Rattle.link_capture_grammar.specs.Faults.{fault_text}
@@ -22,7 +23,8 @@ pub record Run : Type 0 where
   pub errors_after : SinkState
 
 -- The states of a run, by the devices before and after it.
-abbrev pub run_of : {S K E : Type 0} → (S → SourceState) → (K → SinkState) → (E → SinkState) → S → S → K → K → E → E → Run
+abbrev pub run_of : {S K E : Type 0} → (S → SourceState) → (K → SinkState) → (E → SinkState) → S → S → K → K → E → E →
+    Run
 run_of source sink errors from left held holds errors_before errors_after = record {
   from = source from;
   left = source left;
@@ -34,7 +36,9 @@ run_of source sink errors from left held holds errors_before errors_after = reco
 
 -- A run with a usage error: the usage line is reported, with status 3.
 abbrev pub UsageRun : SinkState → SinkState → ℕ → Type 0
-UsageRun errors_before errors_after status = IsReportedOrCut errors_before errors_after (codes "usage: linkcap norm [LIMIT] or linkcap same FILE FILE [LIMIT]" ++ 10 ∷ []) × (status ≡ 3)
+UsageRun errors_before errors_after status =
+    IsReportedOrCut errors_before errors_after (codes "usage: linkcap norm [LIMIT] or linkcap same FILE FILE [LIMIT]" ++
+    10 ∷ []) × (status ≡ 3)
 
 -- The error message for a normalised capture: a line with the fault, or nothing.
 abbrev pub norm_line : Result ⊤ CaptureFault → List ℕ
@@ -45,7 +49,8 @@ norm_line (Err fault) = fault_text fault ++ 10 ∷ []
 abbrev pub NormRun : Run → ℕ → ℕ → Type 0
 NormRun r limit status =
     (outcome : Result ⊤ CaptureFault)
-    × Normalizes r.from.to_come r.left.to_come r.held.holds r.holds.holds (ReportsItsEnd r.from.ends_reported r.left.ends_reported r.left.to_come)
+    × Normalizes r.from.to_come r.left.to_come r.held.holds r.holds.holds
+    (ReportsItsEnd r.from.ends_reported r.left.ends_reported r.left.to_come)
     (Rises r.from.failures r.left.failures) (Rises r.held.failures r.holds.failures) limit outcome
     × IsReportedOrCut r.errors_before r.errors_after (norm_line outcome) × (status ≡ status_of outcome)
 
@@ -66,11 +71,14 @@ same_error false (Ok is_same) = fault_text (record { kind = Write; offset = 0 })
 -- reported, with this status.
 abbrev pub SameReported : SinkState → SinkState → SinkState → SinkState → Result Bool SideFault → ℕ → Type 0
 SameReported held holds errors_before errors_after outcome status =
-    (printed : Bool) × IsReported held holds (same_line outcome) printed × IsReportedOrCut errors_before errors_after (same_error printed outcome) × (status ≡ cond printed (status_of_same outcome) 2)
+    (printed : Bool) × IsReported held holds (same_line outcome) printed ×
+    IsReportedOrCut errors_before errors_after (same_error printed outcome) ×
+    (status ≡ cond printed (status_of_same outcome) 2)
 
 -- A run of `same`: two captures were compared, and the result is printed or reported, with this status.
 abbrev pub SameRun : (Result Bool SideFault → Type 0) → SinkState → SinkState → SinkState → SinkState → ℕ → Type 0
-SameRun Compared held holds errors_before errors_after status = (outcome : Result Bool SideFault) × Compared outcome × SameReported held holds errors_before errors_after outcome status
+SameRun Compared held holds errors_before errors_after status = (outcome : Result Bool SideFault) × Compared outcome ×
+    SameReported held holds errors_before errors_after outcome status
 
 -- The arguments ask for this command, or for none.
 abbrev pub AsksFor : List (List ℕ) → Option Command → Type 0
@@ -79,13 +87,16 @@ AsksFor arguments (Some command) = IsCommand arguments command
 
 -- What holds after a run of this command. Without a command nothing is opened, read or printed; for a normal text no
 -- file is opened; and when two files are compared, the source isn't read.
-abbrev pub RunsCommand : Type 0 → Type 0 → Type 0 → Run → (List ℕ → List ℕ → ℕ → Result Bool SideFault → Type 0) → ℕ → Option Command → Type 0
-RunsCommand unopened unread unwritten r Compared status None = unopened × unread × unwritten × UsageRun r.errors_before r.errors_after status
+abbrev pub RunsCommand : Type 0 → Type 0 → Type 0 → Run → (List ℕ → List ℕ → ℕ → Result Bool SideFault → Type 0) → ℕ →
+    Option Command → Type 0
+RunsCommand unopened unread unwritten r Compared status None = unopened × unread × unwritten ×
+    UsageRun r.errors_before r.errors_after status
 RunsCommand unopened unread unwritten r Compared status (Some (Norm limit)) = unopened × NormRun r limit status
 RunsCommand unopened unread unwritten r Compared status (Some (Same first second limit)) =
     unread × SameRun (Compared first.now second.now limit) r.held r.holds r.errors_before r.errors_after status
 
 -- What holds after a run with these arguments: they ask for a command, and a run of it was done.
-abbrev pub RunsAsAsked : List (List ℕ) → Type 0 → Type 0 → Type 0 → Run → (List ℕ → List ℕ → ℕ → Result Bool SideFault → Type 0) → ℕ → Type 0
+abbrev pub RunsAsAsked : List (List ℕ) → Type 0 → Type 0 → Type 0 → Run →
+    (List ℕ → List ℕ → ℕ → Result Bool SideFault → Type 0) → ℕ → Type 0
 RunsAsAsked arguments unopened unread unwritten r Compared status =
     (asked : Option Command) × AsksFor arguments asked × RunsCommand unopened unread unwritten r Compared status asked

@@ -14,10 +14,10 @@ mod files;
 mod lines;
 mod normalizing;
 
-pub use comparing::{run_same, compare};
+pub use comparing::{compare, run_same};
 pub use files::FileSystem;
 use files::HostFiles;
-use link_capture_commands::{Command, read_words, arguments};
+use link_capture_commands::{Command, arguments, read_words};
 use link_capture_reader::{ReadSource, Sink, Source, WriteSink, report_text};
 pub use normalizing::run_norm;
 use std::alloc::Global;

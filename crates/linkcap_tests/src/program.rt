@@ -2,7 +2,7 @@
 
 ghost use Rattle.std.specs.Prelude.{None};
 
-use super::devices::{LimitedReader, Plan, LimitedWriter};
+use super::devices::{LimitedReader, LimitedWriter, Plan};
 use super::program_arguments::strings;
 use super::runs::{CAPTURE, TEXT};
 use link_capture::{DeviceFailed, ReadSource, WriteSink};

@@ -110,8 +110,7 @@ fn pieces_are_read(rt: HostRuntime) -> Result<(), Fail> {
             let piece = decode(rt.alloc(), step.piece).map_err(|_| Fail::from("not hex"))?;
             let fed = shown(rt.alloc(), &reader.feed(piece.as_slice(), &mut out))?;
             assert!(rt;
-                fed.as_str() == step.fed
-                    && (out.len(), reader.kept()) == (step.written, step.kept),
+                fed.as_str() == step.fed && (out.len(), reader.kept()) == (step.written, step.kept),
                 "{}",
                 case.name
             );

@@ -2,7 +2,7 @@
 //! that it reports the failure of a device and then neither reads nor writes; these tests check
 //! that.
 
-use super::devices::{LimitedReader, Plan, LimitedWriter};
+use super::devices::{LimitedReader, LimitedWriter, Plan};
 use super::fault_texts::shown;
 use link_capture::{
     CaptureFault, FaultKind, ReadSource, WriteSink, normalize, read_all, write_all,

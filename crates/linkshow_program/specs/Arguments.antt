@@ -1,9 +1,11 @@
 -- The meaning of the program's arguments.
-use Rattle.std.specs.Prelude.{◌≡◌, ◌≤◌, ◌==◌, ℕ, true, false, List, [], ◌∷◌, codes, cond, bytes_eq, length, None, Some, option_map}
+use Rattle.std.specs.Prelude.{◌≡◌, ◌≤◌, ◌==◌, ℕ, true, false, List, [], ◌∷◌, codes, cond, bytes_eq, length, None, Some}
+use Rattle.std.specs.Prelude.{option_map}
 use Rattle.std.specs.Str.Parse.{digits_value}
 use Rattle.link_capture_commands.specs.Commands.{IsLimitArgument}
 use Rattle.linkshow_program.specs.declared.arguments.Argument.{Argument}
-use Rattle.linkshow_program.specs.declared.arguments.Argument.TheVariants.{Kernels, WithoutNumbers, Only, Limit, Input, Name, Invalid}
+use Rattle.linkshow_program.specs.declared.arguments.Argument.TheVariants.{Kernels, WithoutNumbers, Only, Limit, Input}
+use Rattle.linkshow_program.specs.declared.arguments.Argument.TheVariants.{Name, Invalid}
 use Rattle.arrayvec.specs.ArrayVec.{ArrayVec}
 use Rattle.linkshow_program.specs.Types.{AreTypeWords, parts}
 use Rattle.linkshow_program.specs.declared.arguments.Options.{Options}
@@ -19,7 +21,8 @@ name_of (c ∷ more) = cond (c == 45) Invalid Name
 abbrev pub argument_of : List ℕ → Argument
 argument_of w =
     cond (bytes_eq w (codes "--kernels")) Kernels (cond (bytes_eq w (codes "--without-numbers")) WithoutNumbers
-    (cond (bytes_eq w (codes "--only")) Only (cond (bytes_eq w (codes "--limit")) Limit (cond (bytes_eq w (codes "-")) Input (name_of w)))))
+    (cond (bytes_eq w (codes "--only")) Only
+    (cond (bytes_eq w (codes "--limit")) Limit (cond (bytes_eq w (codes "-")) Input (name_of w)))))
 
 -- Lists of at most 32 message types.
 abbrev pub Types : Type 0
@@ -31,23 +34,41 @@ defaults = record { limit = 1048576; kernels = false; without_numbers = false; o
 
 -- Options with this limit.
 abbrev pub with_limit : ℕ → Options → Options
-with_limit n o = record { limit = n; kernels = o.kernels; without_numbers = o.without_numbers; only = o.only; file = o.file }
+with_limit n o =
+    record { limit = n; kernels = o.kernels; without_numbers = o.without_numbers; only = o.only; file = o.file }
 
 -- Options that ask for notes of encoding quirks.
 abbrev pub with_kernels : Options → Options
-with_kernels o = record { limit = o.limit; kernels = true; without_numbers = o.without_numbers; only = o.only; file = o.file }
+with_kernels o =
+    record { limit = o.limit; kernels = true; without_numbers = o.without_numbers; only = o.only; file = o.file }
 
 -- Options that leave out sequence and port numbers.
 abbrev pub leaving_numbers : Options → Options
-leaving_numbers o = record { limit = o.limit; kernels = o.kernels; without_numbers = true; only = o.only; file = o.file }
+leaving_numbers o =
+    record { limit = o.limit; kernels = o.kernels; without_numbers = true; only = o.only; file = o.file }
 
 -- Options that show only these types.
 abbrev pub with_only : Types → Options → Options
-with_only types o = record { limit = o.limit; kernels = o.kernels; without_numbers = o.without_numbers; only = Some types; file = o.file }
+with_only types o =
+    record {
+      limit = o.limit;
+      kernels = o.kernels;
+      without_numbers = o.without_numbers;
+      only = Some types;
+      file =
+          o.file;
+    }
 
 -- Options for standard input.
 abbrev pub of_input : Options → Options
-of_input o = record { limit = o.limit; kernels = o.kernels; without_numbers = o.without_numbers; only = o.only; file = None }
+of_input o = record {
+  limit = o.limit;
+  kernels = o.kernels;
+  without_numbers = o.without_numbers;
+  only = o.only;
+  file =
+      None;
+}
 
 -- The options p ask for the file of this name what o asks for.
 abbrev pub AreOf : List ℕ → Options → Options → Type 0
@@ -64,7 +85,8 @@ abbrev pub Gives : Expected → Options → List (List ℕ) → Options → Type
 Gives ALimit o [] p = ⊥
 Gives ALimit o (w ∷ rest) p = IsLimitArgument w × Gives Nothing (with_limit (digits_value 10 w) o) rest p
 Gives SomeTypes o [] p = ⊥
-Gives SomeTypes o (w ∷ rest) p = (types : Types) × AreTypeWords (parts w) types.items × (length types.items ≤ 32) × Gives Nothing (with_only types o) rest p
+Gives SomeTypes o (w ∷ rest) p = (types : Types) × AreTypeWords (parts w) types.items × (length types.items ≤ 32) ×
+    Gives Nothing (with_only types o) rest p
 Gives Nothing o [] p = p ≡ o
 Gives Nothing o (w ∷ rest) p = elim (argument_of w) [
   | Kernels ↦ Gives Nothing (with_kernels o) rest p

@@ -18,7 +18,8 @@ pub record Opening : Type 0 where
 
 -- The states of files before and after a call, as the trait `Files` describes them.
 abbrev pub opening : {F : Type 0} → (F → List ℕ → Option (List ℕ)) → (F → ℕ) → (F → Option ErrorKind) → F → F → Opening
-opening contents asked refusal before after = record { contents = contents before; asked = asked before; asks = asked after; refusal = refusal after }
+opening contents asked refusal before after =
+    record { contents = contents before; asked = asked before; asks = asked after; refusal = refusal after }
 
 -- The devices of a run that shows one capture, before and after it: the source, the sink of its lines, and that of
 -- reports.
@@ -31,7 +32,8 @@ pub record Run : Type 0 where
   pub reported_after : SinkState
 
 -- The states of the devices before and after a run, as their traits describe them.
-abbrev pub run_of : {S K E : Type 0} → (S → SourceState) → (K → SinkState) → (E → SinkState) → S → S → K → K → E → E → Run
+abbrev pub run_of : {S K E : Type 0} → (S → SourceState) → (K → SinkState) → (E → SinkState) → S → S → K → K → E → E →
+    Run
 run_of source sink errors from left held holds reported reported_after = record {
   from = source from;
   left = source left;

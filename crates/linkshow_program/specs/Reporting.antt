@@ -5,7 +5,8 @@ use Rattle.link_capture_reader.specs.States.{SinkState, IsReportedOrCut}
 
 -- One text was written, and then another.
 abbrev pub ReportsBoth : SinkState → SinkState → List ℕ → List ℕ → Type 0
-ReportsBoth before after first second = (between : SinkState) × IsReportedOrCut before between first × IsReportedOrCut between after second
+ReportsBoth before after first second = (between : SinkState) × IsReportedOrCut before between first ×
+    IsReportedOrCut between after second
 
 -- Texts, one after the other.
 abbrev pub texts_joined : List (Bor (List ℕ)) → List ℕ

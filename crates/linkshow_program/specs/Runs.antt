@@ -1,5 +1,6 @@
 -- The reports on a capture, and the program's status.
-use Rattle.std.specs.Prelude.{◌≡◌, ℕ, Bool, true, false, List, [], ◌∷◌, ◌++◌, ◌⊎◌, length, take, codes, cond, Option, None, Some, not, Result, Ok, Err, option_map, ⊤}
+use Rattle.std.specs.Prelude.{◌≡◌, ℕ, Bool, true, false, List, [], ◌∷◌, ◌++◌, ◌⊎◌, length, take, codes, cond, Option}
+use Rattle.std.specs.Prelude.{None, Some, not, Result, Ok, Err, option_map, ⊤}
 use Rattle.std.specs.Io.KnownBytes.{Consumes}
 use Rattle.std.specs.declared.io.ErrorKind.{ErrorKind}
 use Rattle.link_capture_grammar.specs.declared.fault.CaptureFault.{CaptureFault}
@@ -67,7 +68,8 @@ chosen o = record { numbers = not o.without_numbers; only = option_map (λ types
 abbrev pub ShowRun : Choice → Run → Option (List ℕ) → ℕ → ℕ → Type 0
 ShowRun ch r file limit status =
     (outcome : Result ⊤ ShowFault) × (first : List ℕ)
-    × ShowsKeeping first ch r.from.to_come r.left.to_come r.held.holds r.holds.holds (ReportsItsEnd r.from.ends_reported r.left.ends_reported r.left.to_come)
+    × ShowsKeeping first ch r.from.to_come r.left.to_come r.held.holds r.holds.holds
+    (ReportsItsEnd r.from.ends_reported r.left.ends_reported r.left.to_come)
     (Rises r.from.failures r.left.failures) (Rises r.held.failures r.holds.failures) limit outcome
     × IsReportedOrCut r.reported r.reported_after (report_of file first outcome) × (status ≡ status_of outcome)
 
@@ -85,17 +87,26 @@ notes_text (x ∷ xs) = note_text x ++ notes_text xs
 -- The bytes that were read are shown as from a source that never fails.
 abbrev pub ShowsWhole : Choice → List ℕ → SinkState → SinkState → ℕ → Result ⊤ ShowFault → Type 0
 ShowsWhole ch s held holds limit outcome =
-    (left : Option (List ℕ)) × (old new : ℕ) × Shows ch (Some s) left held.holds holds.holds (ReportsItsEnd old new left) (Rises 0 0) (Rises held.failures holds.failures) limit outcome
+    (left : Option (List ℕ)) × (old new : ℕ) ×
+    Shows ch (Some s) left held.holds holds.holds (ReportsItsEnd old new left) (Rises 0 0)
+    (Rises held.failures holds.failures) limit outcome
 
 -- All was read, noted and then shown; or reading failed, only this was reported, and nothing was written to the sink of
 -- the lines.
 abbrev pub NotesRun : Choice → Run → Type 0 → Option (List ℕ) → ℕ → ℕ → Type 0
 NotesRun ch r unwritten file limit status =
     (s : List ℕ) × Consumes r.from.to_come r.left.to_come s × (
-    (ReportsItsEnd r.from.ends_reported r.left.ends_reported r.left.to_come × ((outcome : Result ⊤ ShowFault) × ShowsWhole ch s r.held r.holds limit outcome
-    × ReportsBoth r.reported r.reported_after (notes_text (capture_quirks limit s)) (report_of file (take 4 s) outcome) × (status ≡ status_of outcome)))
-    ⊎ ((fault : CaptureFault) × ReadFault r.from.failures r.left.failures s fault.kind × (fault.offset ≡ length s) × unwritten
-    × IsReportedOrCut r.reported r.reported_after (report_of file (take 4 s) (Err (record { fault = fault; refusal = None }))) × (status ≡ 2))
+    (ReportsItsEnd r.from.ends_reported r.left.ends_reported r.left.to_come ×
+    ((outcome : Result ⊤ ShowFault) × ShowsWhole ch s r.held r.holds limit outcome
+    × ReportsBoth r.reported r.reported_after (notes_text (capture_quirks limit s)) (report_of file (take 4 s) outcome)
+    × (status ≡ status_of outcome)))
+    ⊎ ((fault : CaptureFault) × ReadFault r.from.failures r.left.failures s fault.kind × (fault.offset ≡ length s) ×
+    unwritten
+    × IsReportedOrCut r.reported r.reported_after (report_of file (take 4 s) (Err (record {
+      fault = fault;
+      refusal =
+          None;
+    }))) × (status ≡ 2))
     )
 
 -- ---- the arguments
@@ -107,22 +118,35 @@ CaptureRun false ch r unwritten file limit status = ShowRun ch r file limit stat
 
 -- A file of this name couldn't be opened, and only this was reported; or it was, and its capture is shown: its bytes
 -- are those known of it.
-abbrev pub FileRun : {File : Type 0} → (File → SourceState) → Option (List ℕ) → Option ErrorKind → List ℕ → SinkState → SinkState → SinkState → SinkState → Type 0
+abbrev pub FileRun : {File : Type 0} → (File → SourceState) → Option (List ℕ) → Option ErrorKind → List ℕ → SinkState →
+    SinkState → SinkState → SinkState → Type 0
     → Bool → Choice → ℕ → ℕ → Type 0
 FileRun {File} state known refusal name held holds reported reported_after unwritten kernels ch limit status =
-    ((kind : ErrorKind) × (refusal ≡ Some kind) × unwritten × IsReportedOrCut reported reported_after (unopened name kind) × (status ≡ 2))
+    ((kind : ErrorKind) × (refusal ≡ Some kind) × unwritten ×
+    IsReportedOrCut reported reported_after (unopened name kind) × (status ≡ 2))
     ⊎ ((refusal ≡ None) × ((file after : File) × ((state file).to_come ≡ known)
-    × CaptureRun kernels ch (record { from = state file; left = state after; held = held; holds = holds; reported = reported; reported_after = reported_after }) unwritten (Some name) limit status))
+    × CaptureRun kernels ch (record {
+      from = state file;
+      left = state after;
+      held = held;
+      holds = holds;
+      reported =
+          reported;
+      reported_after = reported_after;
+    }) unwritten (Some name) limit status))
 
 -- A text was printed, or it was reported that it couldn't be, and this is the status.
 abbrev pub PrintRun : SinkState → SinkState → SinkState → SinkState → List ℕ → ℕ → Type 0
 PrintRun held holds reported reported_after text status =
     (printed : Bool) × IsReported held holds text printed
-    × IsReportedOrCut reported reported_after (cond printed [] (fault_text (record { kind = Write; offset = 0 }) ++ 10 ∷ [])) × (status ≡ cond printed 0 2)
+    × IsReportedOrCut reported reported_after (cond printed [] (fault_text (record { kind = Write; offset = 0 }) ++
+    10 ∷ [])) × (status ≡ cond printed 0 2)
 
 -- A usage error was reported, and this is the status.
 abbrev pub UsageRun : SinkState → SinkState → ℕ → Type 0
-UsageRun reported reported_after status = IsReportedOrCut reported reported_after (codes "usage: linkshow [--without-numbers] [--only TYPE,..] [--kernels] [--limit N] [FILE]; linkshow --help says more" ++ 10 ∷ []) × (status ≡ 3)
+UsageRun reported reported_after status =
+    IsReportedOrCut reported reported_after
+    (codes "usage: linkshow [--without-numbers] [--only TYPE,..] [--kernels] [--limit N] [FILE]; linkshow --help says more" ++ 10 ∷ []) × (status ≡ 3)
 
 -- The arguments ask for this, or are invalid.
 abbrev pub Gives : List (List ℕ) → Option Asked → Type 0
@@ -136,16 +160,23 @@ ShowsFrom FromInput FromFile (Some name) = FromFile name
 
 -- What the program does when the arguments ask for this. If they ask for help or the version, or are invalid, no file
 -- is opened and nothing is read; if they name a file, the source isn't read.
-abbrev pub Does : {File : Type 0} → Type 0 → Type 0 → Type 0 → Run → Opening → (File → SourceState) → ℕ → Option Asked → Type 0
-Does unopened unread unwritten r o state status None = unopened × unread × unwritten × UsageRun r.reported r.reported_after status
-Does unopened unread unwritten r o state status (Some Help) = unopened × unread × PrintRun r.held r.holds r.reported r.reported_after Texts.HELP.now status
-Does unopened unread unwritten r o state status (Some Version) = unopened × unread × PrintRun r.held r.holds r.reported r.reported_after Texts.VERSION.now status
+abbrev pub Does : {File : Type 0} → Type 0 → Type 0 → Type 0 → Run → Opening → (File → SourceState) → ℕ → Option Asked →
+    Type 0
+Does unopened unread unwritten r o state status None = unopened × unread × unwritten ×
+    UsageRun r.reported r.reported_after status
+Does unopened unread unwritten r o state status (Some Help) = unopened × unread ×
+    PrintRun r.held r.holds r.reported r.reported_after Texts.HELP.now status
+Does unopened unread unwritten r o state status (Some Version) = unopened × unread ×
+    PrintRun r.held r.holds r.reported r.reported_after Texts.VERSION.now status
 Does unopened unread unwritten r o state status (Some (Show options)) =
     ShowsFrom (unopened × CaptureRun options.kernels (chosen options) r unwritten None options.limit status)
     (λ name. unread × (o.asks ≡ risen o.asked)
-    × FileRun state (o.contents name) o.refusal name r.held r.holds r.reported r.reported_after unwritten options.kernels (chosen options) options.limit status)
+    × FileRun state (o.contents name) o.refusal name r.held r.holds r.reported r.reported_after unwritten
+    options.kernels (chosen options) options.limit status)
     (option_map (λ name. name.now) options.file)
 
 -- The program did what the arguments ask for.
-abbrev pub RunsAsAsked : {File : Type 0} → List (List ℕ) → Type 0 → Type 0 → Type 0 → Run → Opening → (File → SourceState) → ℕ → Type 0
-RunsAsAsked arguments unopened unread unwritten r o state status = (given : Option Asked) × Gives arguments given × Does unopened unread unwritten r o state status given
+abbrev pub RunsAsAsked : {File : Type 0} → List (List ℕ) → Type 0 → Type 0 → Type 0 → Run → Opening →
+    (File → SourceState) → ℕ → Type 0
+RunsAsAsked arguments unopened unread unwritten r o state status = (given : Option Asked) × Gives arguments given ×
+    Does unopened unread unwritten r o state status given

@@ -9,6 +9,7 @@ ghost use Rattle.link_capture_reader.specs.States.{sink_state, source_state};
 ghost use Rattle.linkshow_program.specs.Devices.{opening, run_of};
 ghost use Rattle.linkshow_program.specs.Runs.{RunsAsAsked, CaptureRun, FileRun, UsageRun, chosen};
 
+mod arguments;
 mod files;
 mod lines;
 mod notes;
@@ -17,22 +18,21 @@ mod refusals;
 mod showing;
 mod texts;
 mod types;
-mod arguments;
 
+pub use arguments::{Asked, Options, read_words};
 pub use files::Files;
 use files::HostFiles;
 use link_capture_commands::arguments;
 use link_capture_reader::{ReadSource, Sink, Source, WriteSink, report_text};
 pub use notes::run_notes;
 use printing::print;
-pub use showing::run_show;
 use showing::report_unopened;
+pub use showing::run_show;
 use std::alloc::Global;
 use std::io;
 use std::process::ExitCode;
 use texts::{HELP, USAGE, VERSION};
 pub use types::{TYPE_WORDS, Types};
-pub use arguments::{Asked, Options, read_words};
 
 /// Writes the usage line to the error writer, and returns the status of a usage error.
 fn run_usage<E: Sink>(errors: &mut E) -> ExitCode
@@ -138,7 +138,9 @@ pub fn outcome(rt: &HostRuntime) -> ExitCode {
     let mut errors = WriteSink::new(rt.stderr());
     run(
         rt.alloc(),
-        arguments.as_ref().map_or(&invalid_arguments, |arguments| arguments.as_slice()),
+        arguments
+            .as_ref()
+            .map_or(&invalid_arguments, |arguments| arguments.as_slice()),
         &mut HostFiles::new(rt),
         &mut source,
         &mut sink,

@@ -10,8 +10,10 @@ ghost use Rattle.linkshow_program.specs.Runs.{chosen, notes_text, NotesRun};
 use super::lines::note;
 use super::showing::{line_options, report};
 use crate::arguments::Options;
-use link_capture_reader::{FirstBytes, Sink, SliceSource, Source, read_all_keeping_first, report_text};
 use link_capture_quirks::quirks;
+use link_capture_reader::{
+    FirstBytes, Sink, SliceSource, Source, read_all_keeping_first, report_text,
+};
 use link_lines::{ShowFault, show};
 use std::alloc::Global;
 use std::process::ExitCode;

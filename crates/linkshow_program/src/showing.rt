@@ -10,8 +10,8 @@ ghost use Rattle.linkshow_program.specs.Runs.{chosen, fault_report, is_unread, n
 
 use super::lines::report_texts;
 use super::refusals::report_fault_message;
-use crate::texts::{advice, cause};
 use crate::arguments::Options;
+use crate::texts::{advice, cause};
 use link_capture_grammar::fault::FaultKind;
 use link_capture_reader::{Sink, Source, report_text};
 use link_lines::{FirstBytes, LineOptions, ShowFault, show_keeping_first};
@@ -45,7 +45,12 @@ fn report_name<E: Sink>(errors: &mut E, file: Option<&str>, is_unread: bool) -> 
 /// Reports a fault in one line, which begins with the file's name if the file couldn't be read,
 /// followed by a line of advice if the capture is a file of another format. Returns whether all was
 /// written.
-fn report_fault<E: Sink>(errors: &mut E, file: Option<&str>, first: &[u8], found: &ShowFault) -> bool
+fn report_fault<E: Sink>(
+    errors: &mut E,
+    file: Option<&str>,
+    first: &[u8],
+    found: &ShowFault,
+) -> bool
     ensures { IsReported (sink_state E.holds E.failures errors.old)
         (sink_state E.holds E.failures errors.new)
         (fault_report (option_map (λ name. name.now) file.entry) first.now found.now) result }

@@ -148,7 +148,13 @@ fn captures_are_measured(rt: HostRuntime) -> Result<(), Fail> {
     for (capture, numbers) in LEGAL {
         assert!(rt; is_measured(capture, 1000, numbers));
     }
-    assert!(rt; is_measured(&absent_settings(&SETTINGS_PREFIX), 1_000_000, [1, 214, 65336]));
+    assert!(rt;
+        is_measured(
+            &absent_settings(&SETTINGS_PREFIX),
+            1_000_000,
+            [1, 214, 65336]
+        )
+    );
     let shorter = absent_settings(&SHORTER_SETTINGS_PREFIX);
     let Some(shorter) = shorter.get(..880) else {
         return Err(Fail::from("fewer than 880 bytes"));
@@ -190,7 +196,9 @@ fn lists_are_measured(rt: HostRuntime) -> Result<(), Fail> {
             attributes,
             fits,
         };
-        assert!(rt; check_list(list)? == expected && check_list_with(list, &BytesPeer)? == expected);
+        assert!(rt;
+            check_list(list)? == expected && check_list_with(list, &BytesPeer)? == expected
+        );
         assert!(rt; same_list(list, list) && same_list_with(list, list, &BytesPeer));
     }
     report(&rt, rt.alloc(), "check_list", "as ever")?;

@@ -17,7 +17,9 @@ pub use netlink_packet_core_messages::laws::{
     headers_read_back, messages_are_frames, messages_read_back, padding_ends_a_frame,
     read_frames_keep_their_header, short_lengths_are_refused, texts_have_one_message,
 };
-pub use netlink_packet_core_numbers::laws::{numbers_are_determined_by_their_bytes, numbers_have_sizes};
+pub use netlink_packet_core_numbers::laws::{
+    numbers_are_determined_by_their_bytes, numbers_have_sizes,
+};
 
 /// The protocol of a number has that number.
 pub fn protocols_keep_their_numbers()

@@ -6,4 +6,5 @@ use Rattle.netlink_packet_core_grammar.specs.Attributes.{nla_align, attribute_he
 -- payload and those after the padding are kept.
 abbrev pub with_header : ℕ → ℕ → List ℕ → List ℕ
 with_header kind size b =
-    attribute_header (4 + size) kind ++ (take size (drop 4 b) ++ (zeros (nla_align (4 + size) - (4 + size)) ++ drop (nla_align (4 + size)) b))
+    attribute_header (4 + size) kind ++
+    (take size (drop 4 b) ++ (zeros (nla_align (4 + size) - (4 + size)) ++ drop (nla_align (4 + size)) b))

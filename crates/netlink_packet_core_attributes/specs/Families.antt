@@ -22,7 +22,8 @@ accepts t b = (row_at (family_row t) (viewed_attribute b)).rule.accepted (viewed
 -- Reading the attribute may run out of memory: its row holds bytes or text, the payload isn't empty, and the row
 -- accepts it.
 abbrev pub may_allocate : Table → List ℕ → Bool
-may_allocate t b = (row_holds_bytes t (proper_kind (viewed_kind b)) && nat_lt 0 (length (viewed_payload b))) && accepts t b
+may_allocate t b = (row_holds_bytes t (proper_kind (viewed_kind b)) && nat_lt 0 (length (viewed_payload b))) &&
+    accepts t b
 
 -- The attribute e is the canonical form of the one at the start of the bytes: with its row's kind, and its canonical
 -- payload.

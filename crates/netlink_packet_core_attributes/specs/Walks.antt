@@ -1,6 +1,7 @@
 -- The walk over a byte string: its attributes in order, then one fault if bytes remain that begin with no whole
 -- attribute.
-use Rattle.std.specs.Prelude.{◌≡◌, ℕ, zero, suc, ◌<◌, false, List, [], ◌∷◌, length, Option, Some, None, Result, Ok, Err, IfSome, IfOk, IfErr}
+use Rattle.std.specs.Prelude.{◌≡◌, ℕ, zero, suc, ◌<◌, false, List, [], ◌∷◌, length, Option, Some, None, Result, Ok, Err}
+use Rattle.std.specs.Prelude.{IfSome, IfOk, IfErr}
 use Rattle.std.specs.Borrow.{Bor}
 use Rattle.std.specs.Iterator.{YieldsFirstBy}
 use Rattle.netlink_packet_core_grammar.specs.Attributes.{Attribute, first_attribute}
@@ -38,7 +39,8 @@ item_of (Err e) = None
 
 -- A call of `next` yields the first item of the walk over the remaining bytes: a view of them, which begin with a whole
 -- attribute, or a fault, which is never out of memory.
-pub record StepsOnWalk (old : Bor (List ℕ)) (item : Option (Result (NlaBuffer (Bor (List ℕ))) DecodeError)) (new : Bor (List ℕ)) : Type 0 where
+pub record StepsOnWalk (old : Bor (List ℕ)) (item : Option (Result (NlaBuffer (Bor (List ℕ))) DecodeError))
+    (new : Bor (List ℕ)) : Type 0 where
   pub first : YieldsFirstBy item_of (λ s. attribute_walk s.now) old item new
   pub view : IfSome item (λ r. IfOk r (λ view. (storage view).now ≡ old.now))
   pub whole : IfSome item (λ r. IfOk r (λ view. IsAttribute (storage view).now))

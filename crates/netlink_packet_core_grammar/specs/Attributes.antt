@@ -1,6 +1,7 @@
 -- Lists of attributes (netlink.h, struct nlattr): each is a length, a kind, the payload, and zeros up to a multiple of
 -- 4.
-use Rattle.std.specs.Prelude.{◌≡◌, ℕ, zero, suc, ◌+◌, ◌-◌, ◌*◌, ◌/◌, ◌%◌, ◌&&◌, nat_le, List, [], ◌∷◌, ◌++◌, length, take, drop, replicate, Option, Some, None, option_map, cond}
+use Rattle.std.specs.Prelude.{◌≡◌, ℕ, zero, suc, ◌+◌, ◌-◌, ◌*◌, ◌/◌, ◌%◌, ◌&&◌, nat_le, List, [], ◌∷◌, ◌++◌, length}
+use Rattle.std.specs.Prelude.{take, drop, replicate, Option, Some, None, option_map, cond}
 
 -- The least multiple of 4 that is at least n.
 abbrev pub nla_align : ℕ → ℕ
@@ -29,7 +30,9 @@ attribute_header size kind = size % 256 ∷ size / 256 ∷ kind % 256 ∷ kind /
 
 -- The encoding of an attribute: header, payload, and zeros up to a multiple of 4.
 unfoldable pub attribute_text : Attribute → List ℕ
-attribute_text e = attribute_header (attribute_length e) e.kind ++ (e.payload ++ zeros (nla_align (attribute_length e) - attribute_length e))
+attribute_text e =
+    attribute_header (attribute_length e) e.kind ++
+    (e.payload ++ zeros (nla_align (attribute_length e) - attribute_length e))
 
 -- The encoding of a list: those of its attributes, one after another.
 unfoldable pub list_text : List Attribute → List ℕ
@@ -67,7 +70,8 @@ if_some (Some x) f = f x
 unfoldable pub attributes_within : ℕ → List ℕ → Option (List Attribute)
 attributes_within n [] = Some []
 attributes_within zero (b ∷ bytes) = None
-attributes_within (suc n) (b ∷ bytes) = if_some (first_attribute (b ∷ bytes)) (λ x. option_map (λ es. x.0 ∷ es) (attributes_within n x.1))
+attributes_within (suc n) (b ∷ bytes) =
+    if_some (first_attribute (b ∷ bytes)) (λ x. option_map (λ es. x.0 ∷ es) (attributes_within n x.1))
 
 -- The attributes of which the bytes are a list; None if they are no list.
 abbrev pub attributes_of : List ℕ → Option (List Attribute)

@@ -29,4 +29,5 @@ after_frame c = drop (nla_align (frame_length c)) c
 -- up to a multiple of 4.
 unfoldable pub frame_text : List ℕ → List ℕ → List ℕ
 frame_text c body =
-    le4 (16 + length body) ++ (take 12 (drop 4 c) ++ (body ++ zeros (nla_align (16 + length body) - (16 + length body))))
+    le4 (16 + length body) ++
+    (take 12 (drop 4 c) ++ (body ++ zeros (nla_align (16 + length body) - (16 + length body))))

@@ -1,6 +1,8 @@
 -- The laws of these definitions, as the functions of `laws` state them.
 use Rattle.std.specs.Prelude.{◌≡◌, ℕ, ◌-◌, ◌%◌, ◌≤◌, ◌↔◌, List, ◌++◌, length, Some, None, option_map}
-use Rattle.netlink_packet_core_grammar.specs.Attributes.{Attribute, nla_align, attribute_length, attribute_text, first_attribute, list_text, list_size, IsAttributeList, attributes_of}
+use Rattle.netlink_packet_core_grammar.specs.Attributes.{Attribute, nla_align, attribute_length, attribute_text}
+use Rattle.netlink_packet_core_grammar.specs.Attributes.{first_attribute, list_text, list_size, IsAttributeList}
+use Rattle.netlink_packet_core_grammar.specs.Attributes.{attributes_of}
 use Rattle.netlink_packet_core_grammar.specs.Numbers.{u16_at, u32_at}
 use Rattle.netlink_packet_core_grammar.specs.AttributeViews.{viewed_attribute, IsAttribute, after_first}
 
@@ -14,7 +16,8 @@ AttributesAreCut = (bytes : List ℕ) (es : List Attribute) → (attributes_of b
 
 -- The bytes after a list whose size is a multiple of 4 are cut into attributes independently of it.
 abbrev pub Joined : Type 0
-Joined = (a b : List ℕ) (es : List Attribute) → length a % 4 ≡ 0 → attributes_of a ≡ Some es → attributes_of (a ++ b) ≡ option_map (λ fs. es ++ fs) (attributes_of b)
+Joined = (a b : List ℕ) (es : List Attribute) → length a % 4 ≡ 0 → attributes_of a ≡ Some es →
+    attributes_of (a ++ b) ≡ option_map (λ fs. es ++ fs) (attributes_of b)
 
 -- The encoding of attributes is cut into the same attributes, and its length is their size.
 abbrev pub TextIsCut : Type 0
@@ -23,13 +26,16 @@ TextIsCut = (es : List Attribute) → (attributes_of (list_text es) ≡ Some es)
 -- The first attribute of a byte string is the one that a view of it shows; bytes that don't begin with a whole
 -- attribute have none.
 pub record FirstIsViewed : Type 0 where
-  pub whole : (bytes : List ℕ) → IsAttribute bytes → first_attribute bytes ≡ Some (viewed_attribute bytes, after_first bytes)
+  pub whole : (bytes : List ℕ) → IsAttribute bytes →
+      first_attribute bytes ≡ Some (viewed_attribute bytes, after_first bytes)
   pub none : (bytes : List ℕ) → (IsAttribute bytes → ⊥) → first_attribute bytes ≡ None
 
 -- The first attribute ends within the bytes; the bytes after it are those that remain after its padding.
 pub record FirstIsWithin : Type 0 where
-  pub within : (bytes : List ℕ) (e : Attribute) (rest : List ℕ) → first_attribute bytes ≡ Some (e, rest) → attribute_length e ≤ length bytes
-  pub rest_length : (bytes : List ℕ) (e : Attribute) (rest : List ℕ) → first_attribute bytes ≡ Some (e, rest) → length rest ≡ length bytes - nla_align (attribute_length e)
+  pub within : (bytes : List ℕ) (e : Attribute) (rest : List ℕ) → first_attribute bytes ≡ Some (e, rest) →
+      attribute_length e ≤ length bytes
+  pub rest_length : (bytes : List ℕ) (e : Attribute) (rest : List ℕ) → first_attribute bytes ≡ Some (e, rest) →
+      length rest ≡ length bytes - nla_align (attribute_length e)
 
 -- If an attribute's encoding is followed by other bytes, the attribute is the first one, and these bytes are the rest.
 abbrev pub WrittenIsFirst : Type 0

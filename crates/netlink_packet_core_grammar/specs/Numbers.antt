@@ -1,5 +1,6 @@
 -- Numbers as bytes, in either byte order, and the number at an offset of a byte string.
-use Rattle.std.specs.Prelude.{ℕ, ℤ, suc, pos, negsuc, ◌+◌, ◌-◌, ◌*◌, ◌/◌, ◌^◌, cond, nat_lt, List, [], ◌∷◌, min, slice_index}
+use Rattle.std.specs.Prelude.{ℕ, ℤ, suc, pos, negsuc, ◌+◌, ◌-◌, ◌*◌, ◌/◌, ◌^◌, cond, nat_lt, List, [], ◌∷◌, min}
+use Rattle.std.specs.Prelude.{slice_index}
 use Rattle.std.specs.Int.{w16, w32, w64, w128, byte_at, from_le_bytes, to_le_bytes, to_be_bytes}
 
 -- A number as 2 bytes, little-endian. In `le2`, `le4` and `le8` the last byte is the rest of the number, unreduced: it
@@ -14,7 +15,8 @@ le4 n = byte_at 0 n ∷ byte_at 1 n ∷ byte_at 2 n ∷ n / 256 ^ 3 ∷ []
 
 -- A number as 8 bytes, little-endian.
 unfoldable pub le8 : ℕ → List ℕ
-le8 n = byte_at 0 n ∷ byte_at 1 n ∷ byte_at 2 n ∷ byte_at 3 n ∷ byte_at 4 n ∷ byte_at 5 n ∷ byte_at 6 n ∷ n / 256 ^ 7 ∷ []
+le8 n = byte_at 0 n ∷ byte_at 1 n ∷ byte_at 2 n ∷ byte_at 3 n ∷ byte_at 4 n ∷ byte_at 5 n ∷ byte_at 6 n ∷ n / 256 ^ 7 ∷
+    []
 
 -- A number as 16 bytes, little-endian.
 unfoldable pub le16 : ℕ → List ℕ
@@ -30,7 +32,8 @@ be4 n = n / 256 ^ 3 ∷ byte_at 2 n ∷ byte_at 1 n ∷ byte_at 0 n ∷ []
 
 -- A number as 8 bytes, big-endian.
 unfoldable pub be8 : ℕ → List ℕ
-be8 n = n / 256 ^ 7 ∷ byte_at 6 n ∷ byte_at 5 n ∷ byte_at 4 n ∷ byte_at 3 n ∷ byte_at 2 n ∷ byte_at 1 n ∷ byte_at 0 n ∷ []
+be8 n = n / 256 ^ 7 ∷ byte_at 6 n ∷ byte_at 5 n ∷ byte_at 4 n ∷ byte_at 3 n ∷ byte_at 2 n ∷ byte_at 1 n ∷ byte_at 0 n ∷
+    []
 
 -- A number as 16 bytes, big-endian.
 unfoldable pub be16 : ℕ → List ℕ
@@ -47,7 +50,8 @@ u16_at i b = from_le_bytes w16 (slice_index b i ∷ slice_index b (i + 1) ∷ []
 
 -- The little-endian number of 4 bytes at offset i.
 unfoldable pub u32_at : ℕ → List ℕ → ℕ
-u32_at i b = from_le_bytes w32 (slice_index b i ∷ slice_index b (i + 1) ∷ slice_index b (i + 2) ∷ slice_index b (i + 3) ∷ [])
+u32_at i b = from_le_bytes w32 (slice_index b i ∷ slice_index b (i + 1) ∷ slice_index b (i + 2) ∷
+    slice_index b (i + 3) ∷ [])
 
 -- A length as a `usize`; a greater one saturates.
 abbrev pub as_usize : ℕ → ℕ

@@ -5,7 +5,15 @@ use Rattle.netlink_packet_core_grammar.specs.Numbers.{u16_at, u32_at, le2, le4}
 
 -- The header at the start of a frame.
 unfoldable pub header_of : List ℕ → NetlinkHeader
-header_of b = record { length = u32_at 0 b; message_type = u16_at 4 b; flags = u16_at 6 b; sequence_number = u32_at 8 b; port_number = u32_at 12 b }
+header_of b =
+    record {
+      length = u32_at 0 b;
+      message_type = u16_at 4 b;
+      flags = u16_at 6 b;
+      sequence_number =
+          u32_at 8 b;
+      port_number = u32_at 12 b;
+    }
 
 -- The 16 bytes of a header.
 unfoldable pub header_text : NetlinkHeader → List ℕ

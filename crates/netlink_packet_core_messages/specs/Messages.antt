@@ -1,5 +1,6 @@
 -- Whole messages: a header and a payload.
-use Rattle.std.specs.Prelude.{◌≡◌, ℕ, ◌+◌, List, ◌++◌, length, take, drop, Option, None, option_map, cond, nat_le, ◌&&◌, Bool}
+use Rattle.std.specs.Prelude.{◌≡◌, ℕ, ◌+◌, List, ◌++◌, length, take, drop, Option, None, option_map, cond, nat_le, ◌&&◌}
+use Rattle.std.specs.Prelude.{Bool}
 use Rattle.netlink_packet_core_grammar.specs.Numbers.{le4}
 use Rattle.netlink_packet_core_grammar.specs.Frames.{frame_length, frame_type, frame_body}
 use Rattle.netlink_packet_core_messages.specs.declared.message.NetlinkMessage.{NetlinkMessage}
@@ -18,7 +19,11 @@ message_value value m = record { header = m.header; payload = payload_value valu
 -- The message of the frame at the start of the bytes, if the frame is whole and accepted.
 abbrev pub read_message : {V : Type 0} → (ℕ → List ℕ → Option V) → List ℕ → Option (NetlinkMessage V)
 read_message reads c =
-    cond (is_frame c) (option_map (λ p. record { header = header_of c; payload = p }) (read_payload reads (frame_type c) (frame_body c))) None
+    cond (is_frame c) (option_map (λ p. record {
+      header = header_of c;
+      payload =
+          p;
+    }) (read_payload reads (frame_type c) (frame_body c))) None
 
 -- The bytes of a finalized message.
 abbrev pub message_text : {A : Type 0} → (A → TypedBody) → NetlinkMessage A → List ℕ

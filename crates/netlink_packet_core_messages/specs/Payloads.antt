@@ -4,8 +4,10 @@ use Rattle.std.specs.Int.{w32}
 use Rattle.std.specs.Int.RustNames.{FitsSigned}
 use Rattle.netlink_packet_core_messages.specs.Codes.{IsCode}
 use Rattle.netlink_packet_core_messages.specs.declared.payload.NetlinkPayload.{NetlinkPayload}
-use Rattle.netlink_packet_core_messages.specs.declared.payload.NetlinkPayload.TheVariants.{Done, Error, Noop, Overrun, InnerMessage}
-use Rattle.netlink_packet_core_messages.specs.ControlMessages.{done_message_text, error_message_text, read_done, read_error}
+use Rattle.netlink_packet_core_messages.specs.declared.payload.NetlinkPayload.TheVariants.{Done, Error, Noop, Overrun}
+use Rattle.netlink_packet_core_messages.specs.declared.payload.NetlinkPayload.TheVariants.{InnerMessage}
+use Rattle.netlink_packet_core_messages.specs.ControlMessages.{done_message_text, error_message_text, read_done}
+use Rattle.netlink_packet_core_messages.specs.ControlMessages.{read_error}
 use Rattle.netlink_packet_core_messages.specs.TypedBodies.{TypedBody}
 
 -- The payload with the value of its inner message in its stead.

@@ -1,9 +1,13 @@
 -- Decode errors: their causes, their contexts, and their display.
-use Rattle.std.specs.Prelude.{ℕ, Bool, true, false, List, [], ◌∷◌, ◌++◌, Option, Some, None, Result, Ok, Err, codes, get_or, replicate}
+use Rattle.std.specs.Prelude.{ℕ, Bool, true, false, List, [], ◌∷◌, ◌++◌, Option, Some, None, Result, Ok, Err, codes}
+use Rattle.std.specs.Prelude.{get_or, replicate}
 use Rattle.std.specs.Borrow.{Bor}
 use Rattle.std.specs.Fmt.{decimal}
 use Rattle.netlink_packet_core_numbers.specs.declared.error.Cause.{Cause}
-use Rattle.netlink_packet_core_numbers.specs.declared.error.Cause.TheVariants.{Memory, Buffer, MacAddress, IpAddress, Number, NlaBufferTooSmall, NlaLengthMismatch, NlaInvalidLength, BufferTooSmall, Text}
+use Rattle.netlink_packet_core_numbers.specs.declared.error.Cause.TheVariants.{Memory, Buffer, MacAddress, IpAddress}
+use Rattle.netlink_packet_core_numbers.specs.declared.error.Cause.TheVariants.{Number, NlaBufferTooSmall}
+use Rattle.netlink_packet_core_numbers.specs.declared.error.Cause.TheVariants.{NlaLengthMismatch, NlaInvalidLength}
+use Rattle.netlink_packet_core_numbers.specs.declared.error.Cause.TheVariants.{BufferTooSmall, Text}
 use Rattle.netlink_packet_core_numbers.specs.declared.error.DecodeError.{DecodeError}
 
 -- The cause is a failed allocation.
@@ -83,14 +87,20 @@ in_context_if t (Err e) = Err (in_context t e)
 -- The text of a cause.
 abbrev pub cause_text : Cause → List ℕ
 cause_text Memory = codes "out of memory"
-cause_text (Buffer name m n) = codes "invalid " ++ (name.now ++ (codes ": " ++ (decimal m ++ (codes " bytes, at least " ++ (decimal n ++ codes " are needed")))))
+cause_text (Buffer name m n) =
+    codes "invalid " ++ (name.now ++
+    (codes ": " ++ (decimal m ++ (codes " bytes, at least " ++ (decimal n ++ codes " are needed")))))
 cause_text (MacAddress m) = codes "invalid MAC address: " ++ (decimal m ++ codes " bytes, not 6")
 cause_text (IpAddress m) = codes "invalid IP address: " ++ (decimal m ++ codes " bytes, not 4 or 16")
 cause_text (Number n m) = codes "invalid number: " ++ (decimal m ++ (codes " bytes, not " ++ decimal n))
-cause_text (NlaBufferTooSmall m n) = codes "buffer of " ++ (decimal m ++ (codes " bytes is too small for an attribute of " ++ decimal n))
-cause_text (NlaLengthMismatch m n) = codes "attribute of " ++ (decimal n ++ (codes " bytes in a buffer of " ++ decimal m))
-cause_text (NlaInvalidLength m n) = codes "attribute of " ++ (decimal n ++ (codes " bytes is shorter than its header, in a buffer of " ++ decimal m))
-cause_text (BufferTooSmall m n) = codes "buffer of " ++ (decimal m ++ (codes " bytes is too small for a value of " ++ decimal n))
+cause_text (NlaBufferTooSmall m n) =
+    codes "buffer of " ++ (decimal m ++ (codes " bytes is too small for an attribute of " ++ decimal n))
+cause_text (NlaLengthMismatch m n) =
+    codes "attribute of " ++ (decimal n ++ (codes " bytes in a buffer of " ++ decimal m))
+cause_text (NlaInvalidLength m n) =
+    codes "attribute of " ++ (decimal n ++ (codes " bytes is shorter than its header, in a buffer of " ++ decimal m))
+cause_text (BufferTooSmall m n) =
+    codes "buffer of " ++ (decimal m ++ (codes " bytes is too small for a value of " ++ decimal n))
 cause_text (Text t) = t.now
 
 -- The text that a context adds before the rest.

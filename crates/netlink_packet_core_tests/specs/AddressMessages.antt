@@ -1,5 +1,6 @@
 -- Address messages: types and bodies, how they are read, and why a body is rejected.
-use Rattle.std.specs.Prelude.{◌≡◌, ◌<◌, ◌&&◌, ◌||◌, ℕ, List, length, Bool, true, false, cond, nat_eq, nat_le, Option, Some, None}
+use Rattle.std.specs.Prelude.{◌≡◌, ◌<◌, ◌&&◌, ◌||◌, ℕ, List, length, Bool, true, false, cond, nat_eq, nat_le, Option}
+use Rattle.std.specs.Prelude.{Some, None}
 use Rattle.netlink_packet_core.specs.TypedBodies.{TypedBody}
 use Rattle.netlink_packet_core_tests.specs.Addresses.{address_text}
 use Rattle.netlink_packet_core_tests.specs.declared.address_messages.AddressFault.{AddressFault}

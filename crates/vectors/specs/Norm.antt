@@ -9,7 +9,9 @@ use Rattle.link_capture_grammar.specs.Numbers.{attributes, frames}
 
 -- The text after the texts of a capture: its numbers, or its first fault.
 abbrev pub outcome_text : ℕ → List ℕ → Option CaptureFault → List ℕ
-outcome_text limit capture None = decimal (frames limit capture) ++ (codes " " ++ (decimal (attributes limit capture) ++ (codes " " ++ decimal (length (texts limit capture)))))
+outcome_text limit capture None =
+    decimal (frames limit capture) ++
+    (codes " " ++ (decimal (attributes limit capture) ++ (codes " " ++ decimal (length (texts limit capture)))))
 outcome_text limit capture (Some fault) = fault_text fault
 
 -- The numbers of a legal capture, or the first fault.

@@ -6,10 +6,10 @@
 mod cases;
 mod info_list;
 mod norm;
+mod quirks;
 mod refusal;
 mod same;
 mod show;
-mod quirks;
 
 use std::alloc::Global;
 use std::io::{self, BufRead, BufReader, BufWriter, ErrorKind, Write};

@@ -1,5 +1,6 @@
 -- The encoding quirks of a capture with their offsets, in the order of the bytes, up to its first fault.
-use Rattle.std.specs.Prelude.{ℕ, zero, suc, ◌+◌, ◌-◌, true, cond, List, [], ◌∷◌, ◌++◌, drop, slice_index, Ok, Err, Option, Some, None, Result}
+use Rattle.std.specs.Prelude.{ℕ, zero, suc, ◌+◌, ◌-◌, true, cond, List, [], ◌∷◌, ◌++◌, drop, slice_index, Ok, Err}
+use Rattle.std.specs.Prelude.{Option, Some, None, Result}
 use Rattle.netlink_packet_core_grammar.specs.Attributes.{nla_align}
 use Rattle.netlink_packet_core_grammar.specs.Frames.{frame_type, frame_body}
 use Rattle.link_capture_grammar.specs.declared.fault.CaptureFault.{CaptureFault}
@@ -17,7 +18,8 @@ body_list b = record { table = family_table (slice_index b 0); judged = true }
 
 -- The quirks of a link's body at `offset`, in a message of type t.
 unfoldable pub link_quirks : ℕ → ℕ → List ℕ → List QuirkAt
-link_quirks offset t b = quirks_at (offset + 1) (header_quirk t b) ++ list_quirks (body_list b) (offset + 16) (drop 16 b)
+link_quirks offset t b =
+    quirks_at (offset + 1) (header_quirk t b) ++ list_quirks (body_list b) (offset + 16) (drop 16 b)
 
 -- The quirks of the first frame of c, which is at `offset`; messages other than links' have none.
 unfoldable pub frame_quirks : ℕ → List ℕ → List QuirkAt
@@ -33,7 +35,9 @@ next_frame_quirks (Err kind) here after = []
 unfoldable pub quirks_after : ℕ → ℕ → ℕ → List ℕ → List QuirkAt
 quirks_after limit offset skip [] = []
 quirks_after limit offset (suc skip) (b ∷ c) = quirks_after limit (offset + 1) skip c
-quirks_after limit offset zero (b ∷ c) = next_frame_quirks (first_frame limit (b ∷ c)) (frame_quirks offset (b ∷ c)) (λ skip. quirks_after limit (offset + 1) skip c)
+quirks_after limit offset zero (b ∷ c) =
+    next_frame_quirks (first_frame limit (b ∷ c)) (frame_quirks offset (b ∷
+    c)) (λ skip. quirks_after limit (offset + 1) skip c)
 
 -- The quirks of a capture.
 abbrev pub capture_quirks : ℕ → List ℕ → List QuirkAt

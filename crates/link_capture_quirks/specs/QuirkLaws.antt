@@ -1,6 +1,7 @@
 -- The laws of encoding quirks, as the functions of `laws` state them.
 use Rattle.std.specs.Prelude.{◌≡◌, ℕ, Bool, true, false, ◌+◌, List, [], ◌++◌, drop, Some, None, Ok, Err}
-use Rattle.netlink_packet_core_grammar.specs.Attributes.{Attribute, proper_kind, nla_align, attribute_length, first_attribute}
+use Rattle.netlink_packet_core_grammar.specs.Attributes.{Attribute, proper_kind, nla_align, attribute_length}
+use Rattle.netlink_packet_core_grammar.specs.Attributes.{first_attribute}
 use Rattle.link_capture_grammar.specs.declared.fault.FaultKind.{FaultKind}
 use Rattle.link_capture_grammar.specs.Captures.{first_frame}
 use Rattle.attribute_tables_grammar.specs.Shapes.{Shape}
@@ -13,9 +14,11 @@ use Rattle.link_message_grammar.specs.Body.{attribute_row_under, header_text}
 use Rattle.link_message_grammar.specs.LinkMessage.{Family, unspec, bridge, inet_6, other}
 use Rattle.link_message_grammar.specs.NestedTables.{inet, xdp, vf_infos}
 use Rattle.link_capture_quirks.specs.declared.tables.Data.{Data}
-use Rattle.link_capture_quirks.specs.declared.tables.Data.TheVariants.{Vxlan, Geneve, Gre, Gre6, IpTunnel, BareUdp, Batadv, Netkit, Pair}
+use Rattle.link_capture_quirks.specs.declared.tables.Data.TheVariants.{Vxlan, Geneve, Gre, Gre6, IpTunnel, BareUdp}
+use Rattle.link_capture_quirks.specs.declared.tables.Data.TheVariants.{Batadv, Netkit, Pair}
 use Rattle.link_capture_quirks.specs.declared.tables.Table.{Table}
-use Rattle.link_capture_quirks.specs.declared.tables.Table.TheVariants.{Unspec, Bridge, Link, Inet, Programs, Functions, OfKind}
+use Rattle.link_capture_quirks.specs.declared.tables.Table.TheVariants.{Unspec, Bridge, Link, Inet, Programs, Functions}
+use Rattle.link_capture_quirks.specs.declared.tables.Table.TheVariants.{OfKind}
 use Rattle.link_capture_quirks.specs.QuirkRows.{header_quirk}
 use Rattle.link_capture_quirks.specs.declared.tables.Listed.{Listed}
 use Rattle.link_capture_quirks.specs.QuirkLists.{direct_quirks, inside_of, list_kind_after, inside_quirks, list_quirks}
@@ -24,16 +27,22 @@ use Rattle.link_capture_quirks.specs.CaptureQuirks.{frame_quirks, quirks_after}
 -- The quirks of a list are those of its first attribute, of the list inside that, and of the rest. If no whole
 -- attribute is left, there are none.
 pub record ListsUnfoldByAttributes : Type 0 where
-  pub next : (l : Listed) (offset : ℕ) (bytes : List ℕ) (e : Attribute) (after : List ℕ) → first_attribute bytes ≡ Some (e, after) →
-      list_quirks l offset bytes ≡ direct_quirks l offset e ++ (inside_quirks list_quirks (offset + 4) (inside_of l e) e.payload ++ list_quirks (list_kind_after l e) (offset + nla_align (attribute_length e)) after)
+  pub next : (l : Listed) (offset : ℕ) (bytes : List ℕ) (e : Attribute) (after : List ℕ) →
+      first_attribute bytes ≡ Some (e, after) →
+      list_quirks l offset bytes ≡
+      direct_quirks l offset e ++
+      (inside_quirks list_quirks (offset + 4) (inside_of l e) e.payload ++
+      list_quirks (list_kind_after l e) (offset + nla_align (attribute_length e)) after)
   pub none : (l : Listed) (offset : ℕ) (bytes : List ℕ) → first_attribute bytes ≡ None → list_quirks l offset bytes ≡ []
 
 -- The quirks of a capture are those of its first frame, and of the bytes after it and its padding. From a faulty frame
 -- on there are none.
 pub record QuirksUnfoldByFrames : Type 0 where
   pub next : (limit offset : ℕ) (c : List ℕ) (frame : ℕ × List ℕ) → first_frame limit c ≡ Ok frame →
-      quirks_after limit offset 0 c ≡ frame_quirks offset c ++ quirks_after limit (offset + nla_align frame.0) 0 (drop (nla_align frame.0) c)
-  pub fault : (limit offset : ℕ) (c : List ℕ) (kind : FaultKind) → first_frame limit c ≡ Err kind → quirks_after limit offset 0 c ≡ []
+      quirks_after limit offset 0 c ≡
+      frame_quirks offset c ++ quirks_after limit (offset + nla_align frame.0) 0 (drop (nla_align frame.0) c)
+  pub fault : (limit offset : ℕ) (c : List ℕ) (kind : FaultKind) → first_frame limit c ≡ Err kind →
+      quirks_after limit offset 0 c ≡ []
   pub none : (limit offset : ℕ) → quirks_after limit offset 0 [] ≡ []
 
 -- ---- what is written
@@ -61,18 +70,45 @@ IsDataTable _ t = ⊥
 -- it is written.
 pub record WrittenAttributesHaveNone : Type 0 where
   -- attributes of a link
-  pub link : (p : Peer) (f : Family) (judged : Bool) (offset : ℕ) (e : Attribute) → (attribute_row_under p f (proper_kind e.kind)).rule.accepted e.payload ≡ true →
-      direct_quirks (record { table = link_list f; judged = judged }) offset (rewrite (attribute_row_under p f (proper_kind e.kind)) e) ≡ []
+  pub link : (p : Peer) (f : Family) (judged : Bool) (offset : ℕ) (e : Attribute) →
+      (attribute_row_under p f (proper_kind e.kind)).rule.accepted e.payload ≡ true →
+      direct_quirks (record {
+        table = link_list f;
+        judged =
+            judged;
+      }) offset (rewrite (attribute_row_under p f (proper_kind e.kind)) e) ≡ []
   -- of the data of a kind of link
   pub of_kind : (p : Peer) (d : Data) (t : Rows) (judged : Bool) (offset : ℕ) (e : Attribute) → IsDataTable d t →
-      direct_quirks (record { table = OfKind d; judged = judged }) offset (rewrite (table_row p t (proper_kind e.kind)) e) ≡ []
+      direct_quirks (record {
+        table = OfKind d;
+        judged =
+            judged;
+      }) offset (rewrite (table_row p t (proper_kind e.kind)) e) ≡ []
   -- of the settings of IPv4, and of programs
-  pub settings : (p : Peer) (judged : Bool) (offset : ℕ) (e : Attribute) → direct_quirks (record { table = Inet; judged = judged }) offset (rewrite (table_row p inet (proper_kind e.kind)) e) ≡ []
-  pub programs : (p : Peer) (judged : Bool) (offset : ℕ) (e : Attribute) → direct_quirks (record { table = Programs; judged = judged }) offset (rewrite (table_row p xdp (proper_kind e.kind)) e) ≡ []
+  pub settings : (p : Peer) (judged : Bool) (offset : ℕ) (e : Attribute) →
+      direct_quirks (record {
+        table = Inet;
+        judged =
+            judged;
+      }) offset (rewrite (table_row p inet (proper_kind e.kind)) e) ≡ []
+  pub programs : (p : Peer) (judged : Bool) (offset : ℕ) (e : Attribute) →
+      direct_quirks (record {
+        table = Programs;
+        judged =
+            judged;
+      }) offset (rewrite (table_row p xdp (proper_kind e.kind)) e) ≡ []
   -- of the virtual functions that are kept
   pub functions : (p : Peer) (judged : Bool) (offset : ℕ) (e : Attribute) → is_kept of_kind_one e ≡ true →
-      direct_quirks (record { table = Functions; judged = judged }) offset (rewrite (table_row p vf_infos (proper_kind e.kind)) e) ≡ []
+      direct_quirks (record {
+        table = Functions;
+        judged =
+            judged;
+      }) offset (rewrite (table_row p vf_infos (proper_kind e.kind)) e) ≡ []
   -- the text of a pair's data has no attribute after the first one, and no quirk
   pub pair : (p : Peer) (offset : ℕ) (b : List ℕ) → (list_rule first_only (grammar p pair)).accepted b ≡ true →
-      list_quirks (record { table = OfKind Pair; judged = false }) offset ((list_rule first_only (grammar p pair)).canonical b) ≡ []
+      list_quirks (record {
+        table = OfKind Pair;
+        judged =
+            false;
+      }) offset ((list_rule first_only (grammar p pair)).canonical b) ≡ []
   pub header : (t : ℕ) (b : List ℕ) → header_quirk t (header_text b) ≡ None

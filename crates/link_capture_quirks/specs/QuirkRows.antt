@@ -1,15 +1,22 @@
 -- Which encoding quirk an attribute has, by its list, its kind and its payload: an encoding that some kernels treat
 -- differently from its normal text.
-use Rattle.std.specs.Prelude.{ℕ, ◌==◌, ◌&&◌, ◌||◌, not, nat_le, nat_lt, Bool, false, cond, List, length, slice_index, Option, Some, None}
+use Rattle.std.specs.Prelude.{ℕ, ◌==◌, ◌&&◌, ◌||◌, not, nat_le, nat_lt, Bool, false, cond, List, length, slice_index}
+use Rattle.std.specs.Prelude.{Option, Some, None}
 use Rattle.std.specs.List.{list_any}
 use Rattle.netlink_packet_core_grammar.specs.Attributes.{proper_kind}
 use Rattle.netlink_packet_core_grammar.specs.Numbers.{u32_at}
 use Rattle.link_capture_quirks.specs.declared.quirk_at.Quirk.{Quirk}
-use Rattle.link_capture_quirks.specs.declared.quirk_at.Quirk.TheVariants.{NestedPortSettings, ResizedSettings, PathDiscoveryOverOne, TrailingPeer, LongAlias, NameWithoutNul, FlagWithPayload, BooleanOverOne, StrayNestedBit, UnexpectedFunction, HeaderByte, ShortMap}
+use Rattle.link_capture_quirks.specs.declared.quirk_at.Quirk.TheVariants.{NestedPortSettings, ResizedSettings}
+use Rattle.link_capture_quirks.specs.declared.quirk_at.Quirk.TheVariants.{PathDiscoveryOverOne, TrailingPeer, LongAlias}
+use Rattle.link_capture_quirks.specs.declared.quirk_at.Quirk.TheVariants.{NameWithoutNul, FlagWithPayload}
+use Rattle.link_capture_quirks.specs.declared.quirk_at.Quirk.TheVariants.{BooleanOverOne, StrayNestedBit}
+use Rattle.link_capture_quirks.specs.declared.quirk_at.Quirk.TheVariants.{UnexpectedFunction, HeaderByte, ShortMap}
 use Rattle.link_capture_quirks.specs.declared.tables.Data.{Data}
-use Rattle.link_capture_quirks.specs.declared.tables.Data.TheVariants.{Vxlan, Geneve, Gre, Gre6, IpTunnel, BareUdp, Batadv, Netkit, AfterFirst}
+use Rattle.link_capture_quirks.specs.declared.tables.Data.TheVariants.{Vxlan, Geneve, Gre, Gre6, IpTunnel, BareUdp}
+use Rattle.link_capture_quirks.specs.declared.tables.Data.TheVariants.{Batadv, Netkit, AfterFirst}
 use Rattle.link_capture_quirks.specs.declared.tables.Table.{Table}
-use Rattle.link_capture_quirks.specs.declared.tables.Table.TheVariants.{Unspec, Bridge, Link, Inet, Programs, Functions, OfKind}
+use Rattle.link_capture_quirks.specs.declared.tables.Table.TheVariants.{Unspec, Bridge, Link, Inet, Programs, Functions}
+use Rattle.link_capture_quirks.specs.declared.tables.Table.TheVariants.{OfKind}
 
 -- The quirk, if the condition holds.
 abbrev pub quirk_if : Bool → Quirk → Option Quirk

@@ -156,11 +156,7 @@ fn bit_quirk(table: Table, kind: u16) -> Option<Quirk>
 
 /// Returns the quirks of an attribute of a list, by its kind with flag bits: that of the nested
 /// bit, and that of the payload.
-pub fn attribute_quirks(
-    table: Table,
-    kind: u16,
-    payload: &[u8],
-) -> (Option<Quirk>, Option<Quirk>)
+pub fn attribute_quirks(table: Table, kind: u16, payload: &[u8]) -> (Option<Quirk>, Option<Quirk>)
     ensures bit { result.0 ≡ bit_quirk table kind }
     ensures payload { result.1 ≡ payload_quirk table (proper_kind kind) payload.now }
 {

@@ -8,7 +8,7 @@ ghost use Rattle.link_capture_quirks.specs.CaptureQuirks.{frame_quirks};
 ghost use Rattle.link_capture_quirks.specs.QuirkWalks.{optional_quirk, levels_quirks, walk_quirks, AreWithin, weight};
 
 use crate::laws::lists_unfold_by_attributes;
-use crate::quirk_at::{QuirkAt, Quirk};
+use crate::quirk_at::{Quirk, QuirkAt};
 use crate::rows::{attribute_quirks, header_quirk};
 use crate::tables::{Listed, Table, family_table, inside, next_list};
 use arrayvec::ArrayVec;

@@ -1,10 +1,13 @@
 -- The lists in which encoding quirks occur: the list inside an attribute, and the list kind of the attributes after it.
-use Rattle.std.specs.Prelude.{ℕ, ◌+◌, ◌==◌, ◌&&◌, ◌||◌, nat_le, Bool, true, false, cond, List, length, slice_index, Option, Some, None, bytes_eq, codes}
+use Rattle.std.specs.Prelude.{ℕ, ◌+◌, ◌==◌, ◌&&◌, ◌||◌, nat_le, Bool, true, false, cond, List, length, slice_index}
+use Rattle.std.specs.Prelude.{Option, Some, None, bytes_eq, codes}
 use Rattle.netlink_packet_core_grammar.specs.Texts.{without_nul}
 use Rattle.link_capture_quirks.specs.declared.tables.Data.{Data}
-use Rattle.link_capture_quirks.specs.declared.tables.Data.TheVariants.{Other, Vxlan, Geneve, Gre, Gre6, IpTunnel, BareUdp, Batadv, Netkit, Pair, AfterFirst}
+use Rattle.link_capture_quirks.specs.declared.tables.Data.TheVariants.{Other, Vxlan, Geneve, Gre, Gre6, IpTunnel}
+use Rattle.link_capture_quirks.specs.declared.tables.Data.TheVariants.{BareUdp, Batadv, Netkit, Pair, AfterFirst}
 use Rattle.link_capture_quirks.specs.declared.tables.Table.{Table}
-use Rattle.link_capture_quirks.specs.declared.tables.Table.TheVariants.{Unspec, Bridge, Link, Info, Families, Inet, Programs, Functions, OfKind}
+use Rattle.link_capture_quirks.specs.declared.tables.Table.TheVariants.{Unspec, Bridge, Link, Info, Families, Inet}
+use Rattle.link_capture_quirks.specs.declared.tables.Table.TheVariants.{Programs, Functions, OfKind}
 use Rattle.link_capture_quirks.specs.declared.tables.Listed.{Listed}
 
 -- ---- the data of a kind of link, by its name
@@ -29,7 +32,8 @@ is_pair n = bytes_eq n (codes "veth") || bytes_eq n (codes "vxcan")
 unfoldable pub data_named : List ℕ → Data
 data_named n =
     cond (is_gre n) Gre (cond (is_gre6 n) Gre6 (cond (is_ip_tunnel n) IpTunnel (cond (is_pair n) Pair
-    (cond (bytes_eq n (codes "vxlan")) Vxlan (cond (bytes_eq n (codes "geneve")) Geneve (cond (bytes_eq n (codes "bareudp")) BareUdp
+    (cond (bytes_eq n (codes "vxlan")) Vxlan
+    (cond (bytes_eq n (codes "geneve")) Geneve (cond (bytes_eq n (codes "bareudp")) BareUdp
     (cond (bytes_eq n (codes "batadv")) Batadv (cond (bytes_eq n (codes "netkit")) Netkit Other))))))))
 
 -- ---- lists
@@ -58,7 +62,8 @@ next_list l k p = record { table = next_table l.table k p; judged = l.judged }
 
 -- The list inside an attribute of a link, of every address family.
 abbrev pub inside_link : ℕ → Option Table
-inside_link k = cond (k == 18) (Some (Info Other)) (cond (k == 22) (Some Functions) (cond (k == 43) (Some Programs) None))
+inside_link k =
+    cond (k == 18) (Some (Info Other)) (cond (k == 22) (Some Functions) (cond (k == 43) (Some Programs) None))
 
 -- The list inside an attribute, unless it is a peer.
 abbrev pub inside_table : Table → ℕ → Option Table
@@ -87,7 +92,10 @@ at_payload_start l (Some t) = Some (record { table = t; judged = l.judged }, 0)
 -- The list inside an attribute, and the number of bytes before it in the payload: 16 for the header of a peer.
 unfoldable pub inside : Listed → ℕ → List ℕ → Option (Listed × ℕ)
 inside l k p =
-    cond (is_judged_peer l k p) (Some (record { table = family_table (slice_index p 0); judged = false }, 16)) (at_payload_start l (inside_table l.table k))
+    cond (is_judged_peer l k p) (Some (
+      record { table = family_table (slice_index p 0); judged = false },
+      16,
+    )) (at_payload_start l (inside_table l.table k))
 
 -- ---- how deeply lists are nested
 

@@ -2,7 +2,11 @@
 use Rattle.std.specs.Prelude.{ℕ, List, ◌++◌, codes}
 use Rattle.std.specs.Fmt.{decimal}
 use Rattle.link_capture_quirks.specs.declared.quirk_at.Quirk.{Quirk}
-use Rattle.link_capture_quirks.specs.declared.quirk_at.Quirk.TheVariants.{NestedPortSettings, ResizedSettings, PathDiscoveryOverOne, TrailingPeer, LongAlias, NameWithoutNul, FlagWithPayload, BooleanOverOne, StrayNestedBit, UnexpectedFunction, HeaderByte, ShortMap}
+use Rattle.link_capture_quirks.specs.declared.quirk_at.Quirk.TheVariants.{NestedPortSettings, ResizedSettings}
+use Rattle.link_capture_quirks.specs.declared.quirk_at.Quirk.TheVariants.{PathDiscoveryOverOne, TrailingPeer, LongAlias}
+use Rattle.link_capture_quirks.specs.declared.quirk_at.Quirk.TheVariants.{NameWithoutNul, FlagWithPayload}
+use Rattle.link_capture_quirks.specs.declared.quirk_at.Quirk.TheVariants.{BooleanOverOne, StrayNestedBit}
+use Rattle.link_capture_quirks.specs.declared.quirk_at.Quirk.TheVariants.{UnexpectedFunction, HeaderByte, ShortMap}
 use Rattle.link_capture_quirks.specs.declared.quirk_at.QuirkAt.{QuirkAt}
 
 -- The text of each quirk.

@@ -1,5 +1,6 @@
 -- The quirks that remain while a walk is inside the lists of a frame.
-use Rattle.std.specs.Prelude.{◌≡◌, ℕ, suc, ◌+◌, ◌^◌, ◌<◌, ◌≤◌, List, [], ◌∷◌, ◌++◌, length, drop, Option, Some, None, Result, Ok, Err}
+use Rattle.std.specs.Prelude.{◌≡◌, ℕ, suc, ◌+◌, ◌^◌, ◌<◌, ◌≤◌, List, [], ◌∷◌, ◌++◌, length, drop, Option, Some, None}
+use Rattle.std.specs.Prelude.{Result, Ok, Err}
 use Rattle.link_capture_grammar.specs.declared.fault.CaptureFault.{CaptureFault}
 use Rattle.link_capture_grammar.specs.Captures.{first_fault, shifted}
 use Rattle.link_capture_quirks.specs.declared.quirk_at.QuirkAt.{QuirkAt}
@@ -56,6 +57,10 @@ rest_fault limit c offset = shifted offset (first_fault limit (drop offset c))
 -- `offset`, and the step yields the next quirk, the first fault, or None. The fault is that of the frame at `start`; no
 -- quirk follows it.
 abbrev pub IsStep : ℕ → List ℕ → List QuirkAt → ℕ → List QuirkAt → ℕ → Option (Result QuirkAt CaptureFault) → Type 0
-IsStep limit c from start to offset None = (from ++ rest_quirks limit c start ≡ []) × (rest_fault limit c start ≡ None) × (to ++ rest_quirks limit c offset ≡ []) × (rest_fault limit c offset ≡ None)
-IsStep limit c from start to offset (Some (Ok x)) = (from ++ rest_quirks limit c start ≡ x ∷ (to ++ rest_quirks limit c offset)) × (rest_fault limit c start ≡ rest_fault limit c offset)
-IsStep limit c from start to offset (Some (Err fault)) = (from ++ rest_quirks limit c start ≡ []) × (rest_fault limit c start ≡ Some fault) × (to ≡ [])
+IsStep limit c from start to offset None = (from ++ rest_quirks limit c start ≡ []) ×
+    (rest_fault limit c start ≡ None) × (to ++ rest_quirks limit c offset ≡ []) × (rest_fault limit c offset ≡ None)
+IsStep limit c from start to offset (Some (Ok x)) =
+    (from ++ rest_quirks limit c start ≡ x ∷ (to ++ rest_quirks limit c offset)) ×
+    (rest_fault limit c start ≡ rest_fault limit c offset)
+IsStep limit c from start to offset (Some (Err fault)) = (from ++ rest_quirks limit c start ≡ []) ×
+    (rest_fault limit c start ≡ Some fault) × (to ≡ [])

@@ -10,4 +10,4 @@ mod tables;
 mod walk;
 
 pub use capture::{CaptureQuirks, quirks};
-pub use quirk_at::{QuirkAt, Quirk};
+pub use quirk_at::{Quirk, QuirkAt};

@@ -4,7 +4,14 @@
     tools/pages.py                 checks, in a second
     tools/pages.py --run PREFIX    runs the pages' commands too, over what ./install PREFIX installed
         --have root,strace         those too that want nothing else
-    tools/pages.py --words         tells each page's words
+    tools/pages.py --words         prints each page's words
+    tools/pages.py --lines         first rewrites the line of each link to a definition
+
+A link to a definition is written [`first_fault_under`](../crates/link_capture_grammar/specs/Captures.antt#L70): line 70 of that
+file has to have the name as a whole word, in which a path such as `CaptureReader::feed` counts by its last part. `--lines`
+replaces the number by that of the line on which the file defines the name: in .antt by a signature, or by `record`, `data`,
+`abbrev` or `unfoldable`; in .rt by `fn`, `struct`, `enum` or `trait`. It leaves a name that the file doesn't define, and the
+check reports it.
 
 A mark is a comment on a line by itself above a block. Blocks of `sh` are commands, each run by `bash -eu -o pipefail` in a
 folder of its page with links to all that stands at the repository's top, and with PREFIX/bin first on PATH. pip installs
@@ -44,6 +51,7 @@ MARK = re.compile(r"\s*<!--\s*(.*?)\s*-->\s*")
 MARKS = re.compile(r"wants .+|status \d+|given .+|output|file: \S+|run by \S+|written by \S+|sketch")
 FENCE = re.compile(r"(\s*)(```+)\s*([\w+-]*)\s*")
 LINK = re.compile(r"\[[^\]]*\]\(([^)\s]+)\)")
+DEFINITION_LINK = re.compile(r"(\[`([^`]+)`\]\(([^)#\s]+)#L)(\d+)\)")
 PATH = re.compile(r"(?:crates|docs|samples|scripts|bench|bindings|tools|man)/[\w./-]+")
 NOT_A_PATH = re.compile(r"\.\.|/out/|NAME|CRATE")
 
@@ -144,6 +152,62 @@ def check_links(page, by_name):
                 yield "%s:%d: no file %s" % (page.name, number, target)
             elif anchor and name in by_name and anchor not in by_name[name].anchors():
                 yield "%s:%d: no heading %s" % (page.name, number, target)
+
+
+def whole(name):
+    """The pattern of a name that is no part of a longer one."""
+    return r"(?<![\w'-])%s(?![\w'-])" % re.escape(name)
+
+
+def defining_line(name, path):
+    """The number of the line on which a file defines a name, one at its margin first; None if there is no definition."""
+    if path.suffix == ".antt":
+        marks = r"(?:(?:abbrev|unfoldable|pub) )*"
+        begins = r"%s(?:%s(?: \{.*?\})? :|(?:record|data) %s)" % (marks, whole(name), whole(name))
+    else:
+        begins = r"(?:[\w()]+ )*(?:fn|struct|enum|trait) %s" % whole(name)
+    lines = path.read_text(encoding="utf-8").split("\n")
+    for margin in ("", r"\s+"):
+        for number, line in enumerate(lines, 1):
+            if re.match(margin + begins, line):
+                return number
+    return None
+
+
+def target_of(page, link):
+    """The name and the file of a link to a definition."""
+    return link.group(2).rpartition("::")[2], TOP / os.path.normpath(os.path.join(os.path.dirname(page.name), link.group(3)))
+
+
+def check_definitions(page):
+    """A link to a definition has the line of a file on which the name is."""
+    for number, line in page.prose:
+        for link in DEFINITION_LINK.finditer(line):
+            name, path = target_of(page, link)
+            if not path.is_file():
+                continue  # check_links reports it
+            lines = path.read_text(encoding="utf-8").split("\n")
+            stated = int(link.group(4))
+            if not 0 < stated <= len(lines) or not re.search(whole(name), lines[stated - 1]):
+                defined = defining_line(name, path)
+                where = "defines it on line %d" % defined if defined else "doesn't define it"
+                yield "%s:%d: no `%s` on line %d of %s, which %s" % (page.name, number, name, stated, link.group(3), where)
+
+
+def renumber(page):
+    """Writes the page with the lines on which its links' names are defined; returns whether one has changed."""
+    def renew(link):
+        name, path = target_of(page, link)
+        defined = defining_line(name, path) if path.is_file() else None
+        return "%s%d)" % (link.group(1), defined or int(link.group(4)))
+
+    lines = page.source.split("\n")
+    for number, _ in page.prose:
+        lines[number - 1] = DEFINITION_LINK.sub(renew, lines[number - 1])
+    if lines == page.source.split("\n"):
+        return False
+    (TOP / page.name).write_text("\n".join(lines), encoding="utf-8")
+    return True
 
 
 def check_paths(page):
@@ -353,18 +417,21 @@ def main():
     parser = argparse.ArgumentParser(description=__doc__, formatter_class=argparse.RawDescriptionHelpFormatter)
     parser.add_argument("--run", metavar="PREFIX", type=Path, help="run the commands too")
     parser.add_argument("--have", metavar="WORD,..", default="", help="run what wants these, too")
-    parser.add_argument("--words", action="store_true", help="tell each page's words")
+    parser.add_argument("--words", action="store_true", help="print each page's words")
+    parser.add_argument("--lines", action="store_true", help="rewrite the lines of links to definitions")
     parser.add_argument("page", nargs="*", help="these pages alone, by their paths from the top")
     words = parser.parse_args()
     pages = [Page(name) for pattern in PAGES for name in sorted(names_of(pattern))]
     by_name = {page.name: page for page in pages}
     faults = [] if words.page else list(check_words(pages))
     chosen = [by_name[os.path.normpath(name)] for name in words.page] or pages
+    if words.lines:
+        chosen = [Page(page.name) if renumber(page) else page for page in chosen]
     for page in chosen:
         if words.words:
             print("%6d %s" % (page.words(), page.name))
-        faults += [*page.faults, *check_links(page, by_name), *check_paths(page), *check_indented(page),
-                   *check_marks(page), *check_snippets(page)]
+        faults += [*page.faults, *check_links(page, by_name), *check_definitions(page), *check_paths(page),
+                   *check_indented(page), *check_marks(page), *check_snippets(page)]
     if words.run is not None:
         faults += run_all(chosen, words.run.resolve(), words.have.split(","))
     for fault in faults:

@@ -11,7 +11,7 @@ use Rattle.netlink_packet_core_grammar.specs.Booleans.{boolean_of, one_of}
 use Rattle.netlink_packet_core_grammar.specs.Bytes.{AreBytes}
 use Rattle.netlink_packet_core_grammar.proofs.Texts.{without_nul-end, without_nul-length, without_nul-bytes}
 use Rattle.netlink_packet_core_grammar.proofs.Bytes.{AreBytes-append, AreBytes-take, AreBytes-zeros, AreBytes-map}
-use Rattle.attribute_tables_grammar.specs.Shapes.{Shape, nonzero_byte, one_byte, boolean_of_four, presence, text, raw, fixed_record, id_and_boolean, resized, number, number_boolean, accepts, meaning, spelling, shape_bounded}
+use Rattle.attribute_tables_grammar.specs.Shapes.{Shape, nonzero_byte, one_byte, boolean_of_four, presence, text, raw, fixed_record, id_and_boolean, resized, number, number_boolean, accepts, meaning, encoding, shape_bounded}
 use Rattle.attribute_tables_grammar.specs.Rules.{Lawful, shape_rule}
 
 boolean_idempotent : (n : ℕ) → boolean_of (boolean_of n) ≡ boolean_of n
@@ -50,8 +50,8 @@ number_boolean_idempotent p = ap (λ x. x ∷ 0 ∷ 0 ∷ 0 ∷ []) (four_idempo
 number_boolean_small : (p : List ℕ) → AreBytes (number_boolean p)
 number_boolean_small p = (boolean_small (number p), (omega arith, (omega arith, (omega arith, tt))))
 
-abbrev spelt : Shape → List ℕ → List ℕ
-spelt s p = spelling s (meaning s p)
+abbrev encoded : Shape → List ℕ → List ℕ
+encoded s p = encoding s (meaning s p)
 
 id_and_boolean_first : (p : List ℕ) → nat_le 8 (length p) ≡ true → length (take 4 p) ≡ 4
 id_and_boolean_first p a = length-take-le 4 p (omega (arith, leb-true 8 (length p) a))
@@ -68,7 +68,7 @@ id_and_boolean_rest p a =
 resized_length : (n : ℕ) (p : List ℕ) → length (take n (p ++ zeros n)) ≡ n
 resized_length n p = length-take-le n (p ++ zeros n) (omega (arith, length-append p (zeros n), length-replicate {A = ℕ} n 0))
 
-pub back : (s : Shape) (p : List ℕ) → accepts s p ≡ true → meaning s (spelt s p) ≡ meaning s p
+pub back : (s : Shape) (p : List ℕ) → accepts s p ≡ true → meaning s (encoded s p) ≡ meaning s p
 back nonzero_byte p a = booleans_idempotent p
 back one_byte p a = of_kind_one_canonical p
 back boolean_of_four p a = number_boolean_idempotent p
@@ -78,14 +78,14 @@ back id_and_boolean p a = id_and_boolean_rest p a
 back (resized n) p a = take_at (take n (p ++ zeros n)) (zeros n) n (resized_length n p)
 back s p a = refl
 
-good : (s : Shape) (p : List ℕ) → accepts s p ≡ true → accepts s (spelt s p) ≡ true
+good : (s : Shape) (p : List ℕ) → accepts s p ≡ true → accepts s (encoded s p) ≡ true
 good nonzero_byte p a = ap (λ x. eqb x 1) (length-map p boolean_of) ∙ a
 good one_byte p a = ap (λ x. eqb x 1) (length-map p one_of) ∙ a
 good boolean_of_four p a = refl
 good presence p a = refl
 good text p a = ap is_utf8 (without_nul-end (without_nul p)) ∙ a
 good raw p a = refl
-good (fixed_record m n) p a = le-leb m (length (spelt (fixed_record m n) p)) (omega (arith, length-append (take m p) (zeros (n - m)), length-take-le m p (leb-true m (length p) a)))
+good (fixed_record m n) p a = le-leb m (length (encoded (fixed_record m n) p)) (omega (arith, length-append (take m p) (zeros (n - m)), length-take-le m p (leb-true m (length p) a)))
 good id_and_boolean p a = le-leb 8 (length (meaning id_and_boolean p)) (omega (arith, length-append (take 4 p) (number_boolean (take 4 (drop 4 p))), id_and_boolean_first p a))
 good (resized n) p a = refl
 good s p a = a
@@ -93,7 +93,7 @@ good s p a = a
 up_next : (a b : ℕ) → a ≤ b + 4 → nla_align (4 + a) ≤ 77 * (4 + b)
 up_next a b h = omega arith
 
-bound : (s : Shape) (p : List ℕ) → shape_bounded s ≡ true → accepts s p ≡ true → nla_align (4 + length (spelt s p)) ≤ 77 * (4 + length p)
+bound : (s : Shape) (p : List ℕ) → shape_bounded s ≡ true → accepts s p ≡ true → nla_align (4 + length (encoded s p)) ≤ 77 * (4 + length p)
 bound nonzero_byte p m a = up_next _ (length p) (omega (arith, length-map p boolean_of))
 bound one_byte p m a = up_next _ (length p) (omega (arith, length-map p one_of))
 bound boolean_of_four p m a = up_next 4 (length p) (omega arith)
@@ -112,7 +112,7 @@ bound (resized n) p m a =
     rw (resized_length n p) (omega arith)
 bound s p m a = up_next (length p) (length p) (omega arith)
 
-bytes : (s : Shape) (p : List ℕ) → AreBytes p → AreBytes (spelt s p)
+bytes : (s : Shape) (p : List ℕ) → AreBytes p → AreBytes (encoded s p)
 bytes nonzero_byte p h = AreBytes-map boolean_of boolean_small p
 bytes one_byte p h = AreBytes-map one_of one_small p
 bytes boolean_of_four p h = number_boolean_small p
@@ -127,8 +127,8 @@ pub shape_lawful : (s : Shape) → shape_bounded s ≡ true → Lawful (shape_ru
 shape_lawful s m = record {
   canonical_accepted = λ p a e. (good s p a, refl);
   canonical_fits = λ p a f. refl;
-  canonical_idempotent = λ p a. ap (spelling s) (back s p a);
-  same_implies_equal_text = λ p q a b same. ap (spelling s) ((bytes_eq-Decides (meaning s p) (meaning s q)).0 same);
+  canonical_idempotent = λ p a. ap (encoding s) (back s p a);
+  same_implies_equal_text = λ p q a b same. ap (encoding s) ((bytes_eq-Decides (meaning s p) (meaning s q)).0 same);
   equal_text_implies_same = λ p q a b e. (bytes_eq-Decides (meaning s p) (meaning s q)).1 (sym (back s p a) ∙ ap (meaning s) e ∙ back s q b);
   bounded = λ p a. bound s p m a;
   counted = λ p a. omega arith;

@@ -2,7 +2,7 @@
 use Rattle.std.specs.Prelude.{◌≡◌, ℕ, ◌+◌, ◌*◌, ◌≤◌, Bool, true, false, List, length, bytes_eq}
 use Rattle.netlink_packet_core_grammar.specs.Attributes.{nla_align}
 use Rattle.netlink_packet_core_grammar.specs.Bytes.{AreBytes}
-use Rattle.attribute_tables_grammar.specs.Shapes.{Shape, raw, accepts, meaning, spelling}
+use Rattle.attribute_tables_grammar.specs.Shapes.{Shape, raw, accepts, meaning, encoding}
 
 -- A rule for payloads: which are accepted, which are equivalent, and their canonical encoding.
 pub record Rule : Type 0 where
@@ -47,7 +47,7 @@ abbrev pub shape_rule : Shape → Rule
 shape_rule s = record {
   accepted = accepts s;
   same = λ p q. bytes_eq (meaning s p) (meaning s q);
-  canonical = λ p. spelling s (meaning s p);
+  canonical = λ p. encoding s (meaning s p);
   attributes = λ p. 0;
   fits = λ p. true;
   empty_ports = λ p. false;

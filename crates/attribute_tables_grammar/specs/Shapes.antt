@@ -63,20 +63,20 @@ meaning id_and_boolean p = take 4 p ++ number_boolean (take 4 (drop 4 p))
 meaning (resized n) p = take n (p ++ zeros n)
 
 -- The canonical payload of a meaning.
-abbrev pub spelling : Shape → List ℕ → List ℕ
-spelling (exact n) v = v
-spelling (either m n) v = v
-spelling (at_most n) v = v
-spelling nonzero_byte v = v
-spelling one_byte v = v
-spelling boolean_of_four v = v
-spelling presence v = v
-spelling text v = v ++ 0 ∷ []
-spelling raw v = v
-spelling never v = v
-spelling (fixed_record m n) v = v ++ zeros (n - m)
-spelling id_and_boolean v = v
-spelling (resized n) v = v
+abbrev pub encoding : Shape → List ℕ → List ℕ
+encoding (exact n) v = v
+encoding (either m n) v = v
+encoding (at_most n) v = v
+encoding nonzero_byte v = v
+encoding one_byte v = v
+encoding boolean_of_four v = v
+encoding presence v = v
+encoding text v = v ++ 0 ∷ []
+encoding raw v = v
+encoding never v = v
+encoding (fixed_record m n) v = v ++ zeros (n - m)
+encoding id_and_boolean v = v
+encoding (resized n) v = v
 
 -- No canonical attribute of this shape is more than 77 times as long as the attribute.
 abbrev pub shape_bounded : Shape → Bool

@@ -3,7 +3,7 @@
 ghost use Rattle.std.specs.Prelude.{◌≡◌, ◌↔◌, ◌+◌, ◌++◌, ◌≤◌, ℕ, List, true, false, length, drop, IsOk, IfOk, IfErr};
 ghost use Rattle.netlink_packet_core.specs.Attributes.{zeros};
 ghost use Rattle.netlink_packet_core.specs.Errors.{is_memory};
-ghost use Rattle.attribute_tables_grammar.specs.Shapes.{Shape, accepts, meaning, spelling, fixed_record};
+ghost use Rattle.attribute_tables_grammar.specs.Shapes.{Shape, accepts, meaning, encoding, fixed_record};
 
 use super::fields::Fields;
 use netlink_packet_core::{DecodeError, Emitable};
@@ -45,7 +45,7 @@ pub trait FieldRecord<const N: usize>: Sized {
             ↔ (accepts (fixed_record Self.Fields.size N) payload.now ≡ true) }
         ensures text { IfOk result
             (λ v. record_text v
-            ≡ spelling (fixed_record Self.Fields.size N)
+            ≡ encoding (fixed_record Self.Fields.size N)
             (meaning (fixed_record Self.Fields.size N) payload.now)) }
         ensures named { IfOk result (λ v. is_named v) }
         ensures err { IfErr result (λ e. is_memory e ≡ false) }

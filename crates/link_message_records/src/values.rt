@@ -5,7 +5,7 @@ ghost use Rattle.std.specs.List.{flat_map};
 ghost use Rattle.netlink_packet_core.specs.Attributes.{zeros};
 ghost use Rattle.netlink_packet_core.specs.Errors.{is_memory};
 ghost use Rattle.netlink_packet_core.specs.Numbers.{le4, le8, as_usize, signed_bits};
-ghost use Rattle.attribute_tables_grammar.specs.Shapes.{meaning, spelling, resized};
+ghost use Rattle.attribute_tables_grammar.specs.Shapes.{meaning, encoding, resized};
 ghost use Rattle.link_message_records.specs.Numbers.{le4_size, le8_size};
 ghost use Rattle.link_message_records.specs.ValueRecords.{settings_rule};
 
@@ -117,7 +117,7 @@ impl<T: Number, const N: usize> Values<T, N> {
         ensures size { IsOk result }
         ensures text { IfOk result
             (λ v. flat_map T.bytes v.values
-            ≡ spelling (resized (T.size * N)) (meaning (resized (T.size * N)) payload.now)) }
+            ≡ encoding (resized (T.size * N)) (meaning (resized (T.size * N)) payload.now)) }
         ensures err { IfErr result (λ e. is_memory e ≡ false) }
     {
         let (zero, _) = T::read_filled(&[]);

@@ -4,7 +4,7 @@ ghost use Rattle.std.specs.Prelude.{◌≡◌, ◌↔◌, ◌++◌, ⊤, true, f
 ghost use Rattle.netlink_packet_core.specs.Attributes.{zeros};
 ghost use Rattle.netlink_packet_core.specs.Errors.{is_memory};
 ghost use Rattle.netlink_packet_core.specs.Booleans.{boolean_byte};
-ghost use Rattle.attribute_tables_grammar.specs.Shapes.{accepts, meaning, spelling, id_and_boolean, number_boolean};
+ghost use Rattle.attribute_tables_grammar.specs.Shapes.{accepts, meaning, encoding, id_and_boolean, number_boolean};
 ghost use Rattle.link_message_records.specs.VfSettings.{vf_info_setting_bytes};
 
 use link_message_types::{Record, RecordBuffer};
@@ -61,7 +61,7 @@ impl<const KIND: u16> VfInfoSetting<KIND> {
         ensures size { IsOk result ↔ (accepts id_and_boolean payload.now ≡ true) }
         ensures text { IfOk result
             (λ v. vf_info_setting_bytes v
-            ≡ spelling id_and_boolean (meaning id_and_boolean payload.now)) }
+            ≡ encoding id_and_boolean (meaning id_and_boolean payload.now)) }
         ensures err { IfErr result (λ e. is_memory e ≡ false) }
     {
         if payload.len() < VF_INFO_SETTING_LEN {

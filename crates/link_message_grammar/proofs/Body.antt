@@ -71,7 +71,7 @@ written_header_by f x k l tail long =
     record {
       size = ap length h ∙ omega (arith, lt);
       first_byte = refl;
-      idempotent = λ c. ap (λ z. header_text (z ++ c)) h ∙ ap (λ (z : List ℕ). f ∷ 0 ∷ (z ++ take 12 (t ++ c))) y.canonical_accepted ∙ ap (λ (z : List ℕ). f ∷ 0 ∷ y.a ∷ y.b ∷ z) (take_at t c 12 lt) ∙ sym h;
+      idempotent = λ c. ap (λ z. header_text (z ++ c)) h ∙ ap (λ (z : List ℕ). f ∷ 0 ∷ (z ++ take 12 (t ++ c))) y.idempotent ∙ ap (λ (z : List ℕ). f ∷ 0 ∷ y.a ∷ y.b ∷ z) (take_at t c 12 lt) ∙ sym h;
       rest = λ c. ap (λ z. attribute_bytes (z ++ c)) h ∙ drop_at t c 12 lt;
       bytes = λ p. subst AreBytes (sym h) (p.0, (omega arith, AreBytes-append (y.a ∷ y.b ∷ []) t (y.bytes p.1.1.0 p.1.1.1.0) (AreBytes-take 12 tail p.1.1.1.1)));
     }

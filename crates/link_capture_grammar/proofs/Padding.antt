@@ -29,7 +29,7 @@ module _ (r : Rule) where
 
   same_frame : (limit : ℕ) (c d : List ℕ) (frame : ℕ × List ℕ) → first_frame_under r limit c ≡ Ok frame → DifferInPadding frame.0 c d → first_frame_under r limit d ≡ Ok frame
   same_frame limit c d frame h p =
-      let same_result : first_frame_under r limit (take frame.0 d) ≡ Ok frame = ap (first_frame_under r limit) (sym p.prefix) ∙ first_frame-take r limit c frame.0 frame h (omega arith) in
+      let same_result : first_frame_under r limit (take frame.0 d) ≡ Ok frame = ap (first_frame_under r limit) (sym p.leading) ∙ first_frame-take r limit c frame.0 frame h (omega arith) in
       ap (first_frame_under r limit) (sym (take-append-drop frame.0 d))
       ∙ first_frame-more r limit (take frame.0 d) (drop frame.0 d) (not_cut (first_frame_under r limit (take frame.0 d)) frame same_result)
       ∙ same_result
@@ -57,5 +57,5 @@ module _ (r : Rule) where
     frames = λ limit c d frame h p. same_sum (λ _. 1) limit c d frame h p refl;
     attributes = λ limit c d frame h p.
         same_sum (frame_attributes_under r) limit c d frame h p
-        (independent_attributes limit d frame (same_frame limit c d frame h p) ∙ ap (frame_attributes_under r) (sym p.prefix) ∙ sym (independent_attributes limit c frame h));
+        (independent_attributes limit d frame (same_frame limit c d frame h p) ∙ ap (frame_attributes_under r) (sym p.leading) ∙ sym (independent_attributes limit c frame h));
   }

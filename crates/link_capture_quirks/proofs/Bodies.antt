@@ -8,9 +8,9 @@ use Rattle.link_message_grammar.specs.Body.{header_text, attribute_bytes, family
 use Rattle.link_message_grammar.specs.LinkMessage.{family_of, unspec, bridge, inet_6, other}
 use Rattle.link_message_grammar.proofs.Body.{written_header}
 use Rattle.link_capture_quirks.specs.declared.quirk_at.Quirk.TheVariants.{HeaderByte}
-use Rattle.link_capture_quirks.specs.declared.tables.Table.TheVariants.{Unspec, Bridge, Link}
+use Rattle.link_tables.specs.declared.table.TheConstants.{LINK_UNSPEC, LINK_BRIDGE, LINK_INET6, LINK_OTHER}
 use Rattle.link_capture_quirks.specs.QuirkRows.{quirk_if, header_quirk}
-use Rattle.link_capture_quirks.specs.QuirkTables.{family_table}
+use Rattle.link_capture_quirks.specs.QuirkTables.{family_table, link_attributes}
 use Rattle.link_capture_quirks.specs.QuirkLists.{quirks_at, list_quirks}
 use Rattle.link_capture_quirks.specs.QuirkLaws.{ListsUnfoldByAttributes, link_list, WrittenAttributesHaveNone}
 use Rattle.link_capture_quirks.specs.CaptureQuirks.{body_list, link_quirks}
@@ -22,7 +22,7 @@ use Rattle.link_capture_quirks.proofs.Links.{attributes-none}
 family-list : (n : ℕ) → family_table n ≡ link_list (family_of n)
 family-list n = by (eqb n 0) (eqb n 7) (eqb n 10)
   where
-    by : (a b c : Bool) → cond a Unspec (cond b Bridge Link) ≡ link_list (cond a unspec (cond b bridge (cond c inet_6 other)))
+    by : (a b c : Bool) → link_attributes (cond a LINK_UNSPEC (cond b LINK_BRIDGE (cond c LINK_INET6 LINK_OTHER))) ≡ link_list (cond a unspec (cond b bridge (cond c inet_6 other)))
     by true b c = refl
     by false true c = refl
     by false false true = refl

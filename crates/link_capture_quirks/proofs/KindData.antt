@@ -1,24 +1,33 @@
 -- The data of each kind of link, as they are written, have no quirk.
 use Rattle.std.proofs.Common.{◌≡◌, ℕ, ◌+◌, Bool, true, false, cond, eqb, leb, List, [], ◌∷◌, ◌++◌, length, Option, Some, None, refl, sym, ap, subst, ◌∙◌}
-use Rattle.std.specs.Prelude.{◌&&◌, slice_index, bytes_eq, codes, option_map}
+use Rattle.std.specs.Prelude.{◌&&◌, ◌||◌, slice_index, option_map}
 use Rattle.std.proofs.lemmas.Bool.{false≢true, and_parts}
-use Rattle.std.proofs.lemmas.Slice.Eq.{bytes_eq-Decides}
 use Rattle.netlink_packet_core_grammar.specs.Attributes.{Attribute, proper_kind, nla_align, attribute_length, attribute_text, list_text, first_attribute}
 use Rattle.netlink_packet_core_grammar.proofs.Attributes.{first_attribute_text}
 use Rattle.attribute_tables_grammar.specs.Shapes.{exact}
 use Rattle.attribute_tables_grammar.specs.Rules.{Rule}
-use Rattle.attribute_tables_grammar.specs.Lists.{nothing, Row, Grammar, row_of, all_accepted, rewrite, rewritten, without_context, any, first_only, kept, if_read}
-use Rattle.attribute_tables_grammar.specs.LookUps.{list_of, payload_rule, table_row, rows_rule, payload_at, rule_or_raw}
+use Rattle.attribute_tables_grammar.specs.Lists.{nothing, Row, Grammar, row_of, all_accepted, rewrite, rewritten, without_context, ListForm, first_only, kept, if_read}
+use Rattle.attribute_tables_grammar.specs.LookUps.{list_of, table_row, rows_rule, payload_at, rule_or_raw}
 use Rattle.attribute_tables_grammar.specs.Peers.{Peer}
-use Rattle.attribute_tables_grammar.specs.Tables.{Payload, Payload.list, Table as Rows, named}
+use Rattle.attribute_tables_grammar.specs.Tables.{Table as Rows, named}
 use Rattle.attribute_tables_grammar.proofs.Attributes.{proper_kind-written}
 use Rattle.attribute_tables_grammar.proofs.LookUps.{list-rows, named-payload}
+use Rattle.link_tables.proofs.Built.{kinds_built}
+use Rattle.link_tables.proofs.NameRows.{found_name}
+use Rattle.link_tables.specs.declared.kinds.TheConstants.{KINDS}
+use Rattle.link_tables.specs.declared.rows.Form.TheVariants.{FirstOnly}
+use Rattle.link_tables.specs.declared.rows.Held.{Held}
+use Rattle.link_tables.specs.declared.rows.Held.TheVariants.{List as HeldList}
+use Rattle.link_tables.specs.declared.table.TheConstants.{VXLAN, GENEVE, GRE, GRE6, IP4_TUNNEL, IP6_TUNNEL, BAREUDP, BATADV, NETKIT, VETH, VXCAN}
+use Rattle.link_tables.specs.Names.{held_by_name}
+use Rattle.link_tables.specs.Rows.{form_of}
+use Rattle.link_tables.specs.Tables.{held_rule, info_payload, table_of}
 use Rattle.link_info_grammar.specs.Families.{vxlan, geneve, gre, gre6, ip_tunnel, bareudp, batadv, netkit, pair, kinds}
 use Rattle.link_capture_quirks.specs.declared.tables.Data.{Data}
 use Rattle.link_capture_quirks.specs.declared.tables.Data.TheVariants.{Other, Vxlan, Geneve, Gre, Gre6, IpTunnel, BareUdp, Batadv, Netkit, Pair}
 use Rattle.link_capture_quirks.specs.declared.tables.Table.TheVariants.{OfKind}
 use Rattle.link_capture_quirks.specs.declared.tables.Listed.{Listed}
-use Rattle.link_capture_quirks.specs.QuirkTables.{data_named, is_gre, is_gre6, is_ip_tunnel, is_pair, family_table, inside, next_data, has_peer}
+use Rattle.link_capture_quirks.specs.QuirkTables.{data_of, data_in, data_named, family_table, inside, next_data, has_peer}
 use Rattle.link_capture_quirks.specs.QuirkLists.{inside_of, list_kind_after, inside_quirks, list_quirks}
 use Rattle.link_capture_quirks.specs.QuirkLaws.{ListsUnfoldByAttributes, IsDataTable, WrittenAttributesHaveNone}
 use Rattle.link_capture_quirks.proofs.Lists.{HasNone, NoneInside, rows-none}
@@ -42,8 +51,8 @@ other-no-quirks = record { bit = λ k. refl; payload = λ k p. refl }
 module _ (s : ListsUnfoldByAttributes) (w : WrittenAttributesHaveNone) (p : Peer) (j : Bool) (peers : PeerHasNone p j) where
   -- ---- data without a peer
 
-  plain-none : (d : Data) (t : Rows) → IsDataTable d t → has_peer (OfKind d) ≡ false → next_data d ≡ d → HasNone (data_list j d) (list_of p any t)
-  plain-none d t i h n = rows-none s p any t (data_list j d) (record {
+  plain-none : (f : ListForm) (d : Data) (t : Rows) → IsDataTable d t → has_peer (OfKind d) ≡ false → next_data d ≡ d → HasNone (data_list j d) (list_of p f t)
+  plain-none f d t i h n = rows-none s p f t (data_list j d) (record {
     direct = λ c e offset k a. w.of_kind p d t j offset e i;
     inner = λ c e a.
         let r = table_row p t (proper_kind e.kind) in
@@ -82,8 +91,8 @@ module _ (s : ListsUnfoldByAttributes) (w : WrittenAttributesHaveNone) (p : Peer
   unfolding inside
   pair-peers b a = peers b a
 
-  netkit-none : HasNone (data_list j Netkit) (list_of p any netkit)
-  netkit-none = rows-none s p any netkit (data_list j Netkit) (record {
+  netkit-none : (f : ListForm) → HasNone (data_list j Netkit) (list_of p f netkit)
+  netkit-none f = rows-none s p f netkit (data_list j Netkit) (record {
     direct = λ c e offset k a. w.of_kind p Netkit netkit j offset e refl;
     inner = λ c e a. written-peer Netkit netkit netkit-peers e a;
     following = λ c e. refl;
@@ -122,45 +131,44 @@ module _ (s : ListsUnfoldByAttributes) (w : WrittenAttributesHaveNone) (p : Peer
   pub other-none : (r : Rule) → HasNone (data_list j Other) r
   other-none r offset b a = none-at-all (data_list j Other) other-no-quirks (λ e. without-peer (data_list j Other) (proper_kind e.kind) e.payload refl) (λ e. refl) offset (r.canonical b)
 
-  at_name : (l : Listed) (n m : List ℕ) (t : Payload) → payload_at kinds m ≡ Some t → HasNone l (payload_rule p t) → bytes_eq n m ≡ true → HasNone l (named p kinds n)
-  at_name l n m t h q e = subst (HasNone l) (sym (ap (named p kinds) ((bytes_eq-Decides n m).0 e) ∙ named-payload p kinds m ∙ ap (rule_or_raw p) h)) q
+  -- the rows of the table t are those of the index n
+  at_index : (f : ListForm) (d : Data) (t n : ℕ) → HasNone (data_list j d) (list_of p f (table_of n)) → eqb t n ≡ true → HasNone (data_list j d) (list_of p f (table_of t))
+  at_index f d t n h e = at_kind (λ m. HasNone (data_list j d) (list_of p f (table_of m))) t n e h
 
-  gre-named : (n : List ℕ) → is_gre n ≡ true → HasNone (data_list j Gre) (named p kinds n)
-  gre-named n e =
-      let l = data_list j Gre in
-      let none = plain-none Gre gre refl refl refl in
-      either _ _ e (at_name l n (codes "gre") (list any gre) refl none) (λ e. either _ _ e (at_name l n (codes "gretap") (list any gre) refl none) (at_name l n (codes "erspan") (list any gre) refl none))
+  -- the data with the rows of a table, whatever the form of their list
+  table-none : (f : ListForm) (t : ℕ) → HasNone (data_list j (data_of t)) (list_of p f (table_of t))
+  unfolding table_of
+  table-none f t =
+      let choose = split (λ d. HasNone (data_list j d) (list_of p f (table_of t))) in
+      choose (eqb t VXLAN.0) Vxlan _ (at_index f Vxlan t VXLAN.0 (plain-none f Vxlan vxlan refl refl refl))
+      (choose (eqb t GENEVE.0) Geneve _ (at_index f Geneve t GENEVE.0 (plain-none f Geneve geneve refl refl refl))
+      (choose (eqb t GRE.0) Gre _ (at_index f Gre t GRE.0 (plain-none f Gre gre refl refl refl))
+      (choose (eqb t GRE6.0) Gre6 _ (at_index f Gre6 t GRE6.0 (plain-none f Gre6 gre6 refl refl refl))
+      (choose (eqb t IP4_TUNNEL.0 || eqb t IP6_TUNNEL.0) IpTunnel _ (λ e. either _ _ e
+      (at_index f IpTunnel t IP4_TUNNEL.0 (plain-none f IpTunnel (ip_tunnel (exact 2)) (exact 2, refl) refl refl))
+      (at_index f IpTunnel t IP6_TUNNEL.0 (plain-none f IpTunnel (ip_tunnel (exact 4)) (exact 4, refl) refl refl)))
+      (choose (eqb t BAREUDP.0) BareUdp _ (at_index f BareUdp t BAREUDP.0 (plain-none f BareUdp bareudp refl refl refl))
+      (choose (eqb t BATADV.0) Batadv _ (at_index f Batadv t BATADV.0 (plain-none f Batadv batadv refl refl refl))
+      (choose (eqb t NETKIT.0) Netkit Other (at_index f Netkit t NETKIT.0 (netkit-none f)) (other-none (list_of p f (table_of t))))))))))
 
-  gre6-named : (n : List ℕ) → is_gre6 n ≡ true → HasNone (data_list j Gre6) (named p kinds n)
-  gre6-named n e =
-      let l = data_list j Gre6 in
-      let none = plain-none Gre6 gre6 refl refl refl in
-      either _ _ e (at_name l n (codes "ip6gre") (list any gre6) refl none) (λ e. either _ _ e (at_name l n (codes "ip6gretap") (list any gre6) refl none) (at_name l n (codes "ip6erspan") (list any gre6) refl none))
+  pairs-none : (t : ℕ) → HasNone (data_list j (cond (eqb t VETH.0 || eqb t VXCAN.0) Pair Other)) (list_of p first_only (table_of t))
+  unfolding table_of
+  pairs-none t =
+      split (λ d. HasNone (data_list j d) (list_of p first_only (table_of t))) (eqb t VETH.0 || eqb t VXCAN.0) Pair Other
+      (λ e. either _ _ e (at_index first_only Pair t VETH.0 pair-none) (at_index first_only Pair t VXCAN.0 pair-none))
+      (other-none (list_of p first_only (table_of t)))
 
-  ip_tunnel-named : (n : List ℕ) → is_ip_tunnel n ≡ true → HasNone (data_list j IpTunnel) (named p kinds n)
-  ip_tunnel-named n e =
-      let l = data_list j IpTunnel in
-      let two = plain-none IpTunnel (ip_tunnel (exact 2)) (exact 2, refl) refl refl in
-      let four = plain-none IpTunnel (ip_tunnel (exact 4)) (exact 4, refl) refl refl in
-      either _ _ e (at_name l n (codes "ipip") (list any (ip_tunnel (exact 2))) refl two)
-      (λ e. either _ _ e (at_name l n (codes "sit") (list any (ip_tunnel (exact 2))) refl two) (at_name l n (codes "ip6tnl") (list any (ip_tunnel (exact 4))) refl four))
-
-  pair-named : (n : List ℕ) → is_pair n ≡ true → HasNone (data_list j Pair) (named p kinds n)
-  pair-named n e =
-      let l = data_list j Pair in
-      either _ _ e (at_name l n (codes "veth") (list first_only pair) refl pair-none) (at_name l n (codes "vxcan") (list first_only pair) refl pair-none)
+  -- the data with a payload of the shared tables
+  held-none : (h : Held) → HasNone (data_list j (data_in h)) (held_rule p h)
+  held-none (HeldList FirstOnly t) = pairs-none t.0
+  held-none (HeldList form t) = table-none (form_of form) t.0
+  held-none h = other-none (held_rule p h)
 
   -- the data of the name in force
   pub named-none : (n : List ℕ) → HasNone (data_list j (data_named n)) (named p kinds n)
   unfolding data_named
   named-none n =
-      let choose = split (λ d. HasNone (data_list j d) (named p kinds n)) in
-      choose (is_gre n) Gre _ (gre-named n)
-      (choose (is_gre6 n) Gre6 _ (gre6-named n)
-      (choose (is_ip_tunnel n) IpTunnel _ (ip_tunnel-named n)
-      (choose (is_pair n) Pair _ (pair-named n)
-      (choose (bytes_eq n (codes "vxlan")) Vxlan _ (at_name (data_list j Vxlan) n (codes "vxlan") (list any vxlan) refl (plain-none Vxlan vxlan refl refl refl))
-      (choose (bytes_eq n (codes "geneve")) Geneve _ (at_name (data_list j Geneve) n (codes "geneve") (list any geneve) refl (plain-none Geneve geneve refl refl refl))
-      (choose (bytes_eq n (codes "bareudp")) BareUdp _ (at_name (data_list j BareUdp) n (codes "bareudp") (list any bareudp) refl (plain-none BareUdp bareudp refl refl refl))
-      (choose (bytes_eq n (codes "batadv")) Batadv _ (at_name (data_list j Batadv) n (codes "batadv") (list any batadv) refl (plain-none Batadv batadv refl refl refl))
-      (choose (bytes_eq n (codes "netkit")) Netkit Other (at_name (data_list j Netkit) n (codes "netkit") (list any netkit) refl netkit-none) (other-none (named p kinds n))))))))))
+      let held = held_by_name KINDS n in
+      let same : held_rule p held ≡ named p kinds n =
+      found_name p table_of info_payload KINDS n ∙ ap (λ ns. rule_or_raw p (payload_at ns n)) kinds_built ∙ sym (named-payload p kinds n) in
+      subst (HasNone (data_list j (data_in held))) same (held-none held)

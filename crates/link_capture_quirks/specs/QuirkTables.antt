@@ -1,7 +1,16 @@
 -- The lists in which encoding quirks occur: the list inside an attribute, and the list kind of the attributes after it.
 use Rattle.std.specs.Prelude.{ℕ, ◌+◌, ◌==◌, ◌&&◌, ◌||◌, nat_le, Bool, true, false, cond, List, length, slice_index}
-use Rattle.std.specs.Prelude.{Option, Some, None, bytes_eq, codes}
+use Rattle.std.specs.Prelude.{Option, Some, None}
 use Rattle.netlink_packet_core_grammar.specs.Texts.{without_nul}
+use Rattle.link_tables.specs.declared.kinds.TheConstants.{KINDS}
+use Rattle.link_tables.specs.declared.rows.Form.TheVariants.{FirstOnly}
+use Rattle.link_tables.specs.declared.rows.Held.{Held}
+use Rattle.link_tables.specs.declared.rows.Held.TheVariants.{List as HeldList}
+use Rattle.link_tables.specs.declared.table.Table.{Table as Shared}
+use Rattle.link_tables.specs.declared.table.TheConstants.{LINK_UNSPEC, LINK_BRIDGE, VXLAN, GENEVE, GRE, GRE6}
+use Rattle.link_tables.specs.declared.table.TheConstants.{IP4_TUNNEL, IP6_TUNNEL, BAREUDP, BATADV, NETKIT, VETH, VXCAN}
+use Rattle.link_tables.specs.Names.{held_by_name}
+use Rattle.link_tables.specs.Tables as tables
 use Rattle.link_capture_quirks.specs.declared.tables.Data.{Data}
 use Rattle.link_capture_quirks.specs.declared.tables.Data.TheVariants.{Other, Vxlan, Geneve, Gre, Gre6, IpTunnel}
 use Rattle.link_capture_quirks.specs.declared.tables.Data.TheVariants.{BareUdp, Batadv, Netkit, Pair, AfterFirst}
@@ -10,37 +19,34 @@ use Rattle.link_capture_quirks.specs.declared.tables.Table.TheVariants.{Unspec, 
 use Rattle.link_capture_quirks.specs.declared.tables.Table.TheVariants.{Programs, Functions, OfKind}
 use Rattle.link_capture_quirks.specs.declared.tables.Listed.{Listed}
 
--- ---- the data of a kind of link, by its name
+-- ---- the data of a kind of link, by the shared tables
 
--- The names of kinds whose data are those of `gre`.
-abbrev pub is_gre : List ℕ → Bool
-is_gre n = bytes_eq n (codes "gre") || (bytes_eq n (codes "gretap") || bytes_eq n (codes "erspan"))
+-- The data with the rows of a table, by its index.
+abbrev pub data_of : ℕ → Data
+data_of t =
+    cond (t == VXLAN.0) Vxlan (cond (t == GENEVE.0) Geneve (cond (t == GRE.0) Gre (cond (t == GRE6.0) Gre6
+    (cond (t == IP4_TUNNEL.0 || t == IP6_TUNNEL.0) IpTunnel
+    (cond (t == BAREUDP.0) BareUdp (cond (t == BATADV.0) Batadv (cond (t == NETKIT.0) Netkit Other)))))))
 
--- The names of kinds whose data are those of `ip6gre`.
-abbrev pub is_gre6 : List ℕ → Bool
-is_gre6 n = bytes_eq n (codes "ip6gre") || (bytes_eq n (codes "ip6gretap") || bytes_eq n (codes "ip6erspan"))
-
--- The names of kinds whose data are those of `ipip`.
-abbrev pub is_ip_tunnel : List ℕ → Bool
-is_ip_tunnel n = bytes_eq n (codes "ipip") || (bytes_eq n (codes "sit") || bytes_eq n (codes "ip6tnl"))
-
--- The names of kinds whose data are a pair: a peer, of which only the first attribute is kept.
-abbrev pub is_pair : List ℕ → Bool
-is_pair n = bytes_eq n (codes "veth") || bytes_eq n (codes "vxcan")
+-- The data with a payload of the shared tables. Those of which only the first attribute is kept are a pair: a peer.
+abbrev pub data_in : Held → Data
+data_in (HeldList FirstOnly t) = cond (t.0 == VETH.0 || t.0 == VXCAN.0) Pair Other
+data_in (HeldList form t) = data_of t.0
+data_in held = Other
 
 -- The data of the kind of link with a name.
 unfoldable pub data_named : List ℕ → Data
-data_named n =
-    cond (is_gre n) Gre (cond (is_gre6 n) Gre6 (cond (is_ip_tunnel n) IpTunnel (cond (is_pair n) Pair
-    (cond (bytes_eq n (codes "vxlan")) Vxlan
-    (cond (bytes_eq n (codes "geneve")) Geneve (cond (bytes_eq n (codes "bareudp")) BareUdp
-    (cond (bytes_eq n (codes "batadv")) Batadv (cond (bytes_eq n (codes "netkit")) Netkit Other))))))))
+data_named n = data_in (held_by_name KINDS n)
 
 -- ---- lists
 
+-- The attributes of a link, by their table.
+abbrev pub link_attributes : Shared → Table
+link_attributes t = cond (t.0 == LINK_UNSPEC.0) Unspec (cond (t.0 == LINK_BRIDGE.0) Bridge Link)
+
 -- The attributes of a link of an address family.
 abbrev pub family_table : ℕ → Table
-family_table n = cond (n == 0) Unspec (cond (n == 7) Bridge Link)
+family_table n = link_attributes (tables.family_table n)
 
 -- The data that follow an attribute: after the first one of a pair they are `AfterFirst`.
 abbrev pub next_data : Data → Data

@@ -1,11 +1,39 @@
 //! The lists in which encoding quirks occur, as far as their quirks differ.
 
 ghost use Rattle.std.specs.Prelude.{◌≡◌, ◌≤◌, ◌<◌, length, IfSome};
-ghost use Rattle.link_capture_quirks.specs.QuirkTables.{is_gre, is_gre6, is_ip_tunnel, is_pair, data_named};
+ghost use Rattle.link_capture_quirks.specs.QuirkTables.{data_of, data_in, data_named};
 ghost use Rattle.link_capture_quirks.specs.QuirkTables.{family_table, next_table, next_list, inside_table};
 ghost use Rattle.link_capture_quirks.specs.QuirkTables.{has_peer, inside, table_depth, depth};
 
+use link_tables::{Form, Held, data_held, table};
 use netlink_packet_core_numbers::without_nul;
+
+// The indexes of the shared tables in whose rows quirks differ.
+const LINK_UNSPEC: u8 = table::LINK_UNSPEC.0;
+
+const LINK_BRIDGE: u8 = table::LINK_BRIDGE.0;
+
+const VXLAN: u8 = table::VXLAN.0;
+
+const GENEVE: u8 = table::GENEVE.0;
+
+const GRE: u8 = table::GRE.0;
+
+const GRE6: u8 = table::GRE6.0;
+
+const IP4_TUNNEL: u8 = table::IP4_TUNNEL.0;
+
+const IP6_TUNNEL: u8 = table::IP6_TUNNEL.0;
+
+const BAREUDP: u8 = table::BAREUDP.0;
+
+const BATADV: u8 = table::BATADV.0;
+
+const NETKIT: u8 = table::NETKIT.0;
+
+const VETH: u8 = table::VETH.0;
+
+const VXCAN: u8 = table::VXCAN.0;
 
 /// The data of a kind of link, as far as their quirks differ.
 #[derive(Clone, Copy)]
@@ -59,30 +87,38 @@ pub struct Listed {
     pub judged: bool,
 }
 
-fn is_gre(name: &[u8]) -> bool
-    ensures { result ≡ is_gre name.now }
+/// Returns the data with the rows of a table, by its index.
+fn data_of(table: u8) -> Data
+    ensures { result ≡ data_of table }
 {
-    name == b"gre".as_slice() || name == b"gretap".as_slice() || name == b"erspan".as_slice()
+    match table {
+        VXLAN => Data::Vxlan,
+        GENEVE => Data::Geneve,
+        GRE => Data::Gre,
+        GRE6 => Data::Gre6,
+        IP4_TUNNEL | IP6_TUNNEL => Data::IpTunnel,
+        BAREUDP => Data::BareUdp,
+        BATADV => Data::Batadv,
+        NETKIT => Data::Netkit,
+        _ => Data::Other,
+    }
 }
 
-fn is_gre6(name: &[u8]) -> bool
-    ensures { result ≡ is_gre6 name.now }
+/// Returns the data with a payload of the shared tables.
+fn data_in(held: Held) -> Data
+    ensures { result ≡ data_in held }
 {
-    name == b"ip6gre".as_slice()
-        || name == b"ip6gretap".as_slice()
-        || name == b"ip6erspan".as_slice()
-}
-
-fn is_ip_tunnel(name: &[u8]) -> bool
-    ensures { result ≡ is_ip_tunnel name.now }
-{
-    name == b"ipip".as_slice() || name == b"sit".as_slice() || name == b"ip6tnl".as_slice()
-}
-
-fn is_pair(name: &[u8]) -> bool
-    ensures { result ≡ is_pair name.now }
-{
-    name == b"veth".as_slice() || name == b"vxcan".as_slice()
+    match held {
+        Held::List(Form::FirstOnly, table) => {
+            if table.0 == VETH || table.0 == VXCAN {
+                Data::Pair
+            } else {
+                Data::Other
+            }
+        }
+        Held::List(_, table) => data_of(table.0),
+        _ => Data::Other,
+    }
 }
 
 /// Returns the data of the kind of link with a name.
@@ -90,37 +126,20 @@ fn is_pair(name: &[u8]) -> bool
 fn data_named(name: &[u8]) -> Data
     ensures { result ≡ data_named name.now }
 {
-    if is_gre(name) {
-        Data::Gre
-    } else if is_gre6(name) {
-        Data::Gre6
-    } else if is_ip_tunnel(name) {
-        Data::IpTunnel
-    } else if is_pair(name) {
-        Data::Pair
-    } else if name == b"vxlan".as_slice() {
-        Data::Vxlan
-    } else if name == b"geneve".as_slice() {
-        Data::Geneve
-    } else if name == b"bareudp".as_slice() {
-        Data::BareUdp
-    } else if name == b"batadv".as_slice() {
-        Data::Batadv
-    } else if name == b"netkit".as_slice() {
-        Data::Netkit
-    } else {
-        Data::Other
-    }
+    data_in(data_held(name))
 }
 
 /// Returns the list kind of the attributes of a link of an address family.
 pub fn family_table(family: u8) -> Table
     ensures { result ≡ family_table family }
 {
-    match family {
-        0 => Table::Unspec,
-        7 => Table::Bridge,
-        _ => Table::Link,
+    let table = link_tables::family_table(family);
+    if table.0 == LINK_UNSPEC {
+        Table::Unspec
+    } else if table.0 == LINK_BRIDGE {
+        Table::Bridge
+    } else {
+        Table::Link
     }
 }
 

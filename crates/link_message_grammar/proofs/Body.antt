@@ -131,7 +131,7 @@ module _ (p q : Peer) (migrates : (f : Family) → Migrates (list_rule_of p f) (
     canonical = λ b x y.
         let k = both_accept b x y in
         let rest = inside (λ r. r.canonical) b k.header ∙ (migrates (family b)).canonical (attribute_bytes b) k.old k.new in
-        ap (λ z. z ++ (list_rule_of q (family (header_text b ++ old_text b))).canonical (attribute_bytes (header_text b ++ old_text b))) (k.header.canonical_accepted (old_text b)) ∙ ap (λ z. header_text b ++ z) rest;
+        ap (λ z. z ++ (list_rule_of q (family (header_text b ++ old_text b))).canonical (attribute_bytes (header_text b ++ old_text b))) (k.header.idempotent (old_text b)) ∙ ap (λ z. header_text b ++ z) rest;
   }
 
 module _ (p : Peer) (lawful_peer : LawfulPeer p) where

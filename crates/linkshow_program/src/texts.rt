@@ -19,25 +19,25 @@ pub const HELP: &str =
        linkshow --version
 
 Shows a netlink link capture as lines: the messages of FILE, or of standard
-input where there is no FILE or it is -. A capture is a byte string of
-netlink messages, one after the other, each at a multiple of 4. Its lines are
-those of its normal text: what means the same has the same lines.
+input if there is no FILE or it is -. A capture is a byte string of netlink
+messages, one after the other, each at a multiple of 4. Its lines are those
+of its normal text: captures that mean the same have the same lines.
 
   --without-numbers  leave out sequence and port numbers, which change from
                      run to run
-  --only TYPE,..     show messages of these types alone, by name or number:
+  --only TYPE,..     show only messages of these types, by name or number:
                      newlink,setlink,77
   --limit N          the greatest length of a message in bytes, from 16 to
                      4294967295; without it, 1048576
-  --kernels          note on standard error first what kernels tell apart
-                     and the lines don't show
+  --kernels          first note on standard error each encoding that kernels
+                     treat differently from its normal text
   --help             this text
-  --version          the version of linkshow, and the number of the form of
-                     its lines
+  --version          the version of linkshow, and the format version of its
+                     lines
 
-Status 0: the capture is legal, and its lines are written. 2: a fault, told
-on standard error with its place in bytes; the lines before it are written.
-3: wrong words.
+Status 0: the capture is legal, and its lines are written. 2: a fault, which
+standard error names with its offset in bytes; the lines before it are
+written. 3: a usage error.
 
 Example, the links of this network namespace:
 

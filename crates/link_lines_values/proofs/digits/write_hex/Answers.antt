@@ -6,8 +6,8 @@ use Rattle.link_lines_values.proofs.digits.write_hex.Goals as goal
 pub loop-start-init : goal.loop-start-init
 loop-start-init c = (
   omega arith,
-  c.determined-out,
-  ap (digits_onto 64 16 false c.args.number) (drop_of_length-le c.args.out.now {i = 64} (omega (arith, c.determined-out))) ∙ all_digits _,
+  c.told-out,
+  ap (digits_onto 64 16 false c.args.number) (drop_of_length-le c.args.out.now {i = 64} (omega (arith, c.told-out))) ∙ all_digits _,
 )
 
 pub loop-start-preserved : goal.loop-start-preserved

@@ -240,12 +240,12 @@ impl LinkInfo {
         Ok(list)
     }
 
-    /// Reads link info. An empty list is legal.
+    /// Reads link info. An empty list is accepted.
     ///
     /// # Errors
     ///
-    /// Out of memory if an allocation fails and the list is legal; any other [`DecodeError`] if and
-    /// only if it isn't. If an allocation fails, the rest of the list is checked without
+    /// Out of memory if an allocation fails and the list is accepted; any other [`DecodeError`] if
+    /// and only if it isn't. If an allocation fails, the rest of the list is checked without
     /// allocating.
     pub fn parse_list(alloc: Global, bytes: &[u8]) -> Result<Vec<LinkInfo>, DecodeError>
         ensures judged { IsRefusedUnless result (info_rule.accepted bytes.now) }
@@ -260,12 +260,12 @@ impl LinkInfo {
     }
 
     /// Reads link info; a rule decides which peers in the data of `netkit`, `veth` and `vxcan` are
-    /// accepted, and the value of a peer holds its canonical payload. An empty list is legal.
+    /// accepted, and the value of a peer holds its canonical payload. An empty list is accepted.
     /// `parse_list` is this under `BytesPeer`.
     ///
     /// # Errors
     ///
-    /// Out of memory if an allocation fails and the list is legal under the rule; any other
+    /// Out of memory if an allocation fails and the list is accepted under the rule; any other
     /// [`DecodeError`] if and only if it isn't. If an allocation fails, the rest of the list is
     /// checked without allocating.
     pub fn parse_list_with<R: PeerRule>(

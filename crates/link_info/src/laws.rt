@@ -17,8 +17,8 @@ pub use link_info_grammar::laws::{
 pub use link_info_kinds::laws::{names_determine_kinds, names_determine_port_kinds};
 pub use link_info_types::laws::{constants_are_named, tunnel_constants_are_named};
 
-/// The canonical encoding of legal link info is legal, already canonical, and at most 77 times as
-/// long; two legal lists are equivalent if and only if their canonical encodings are equal.
+/// The canonical encoding of accepted link info is accepted, already canonical, and at most 77 times
+/// as long; two accepted lists are equivalent if and only if their canonical encodings are equal.
 #[tactic(auto, using(link_info_grammar::proofs::Families::info_is_lawful))]
 pub fn link_info_is_lawful()
     ensures { LinkInfoIsLawful }

@@ -37,8 +37,8 @@ impl LinkMessage {
     ///
     /// # Errors
     ///
-    /// A refusal if the body isn't legal; out of memory if an allocation fails for a legal one.
-    /// After a failed allocation the rest of the attributes is checked without allocating.
+    /// A refusal if the body isn't accepted; out of memory if an allocation fails for an accepted
+    /// one. After a failed allocation the rest of the attributes is checked without allocating.
     #[tactic(auto, using(crate::proofs::Bodies::bodies))]
     pub fn parse(alloc: Global, bytes: &[u8]) -> Result<LinkMessage, DecodeError>
         ensures ok { OnOk result (IsTrue (link_body.accepted bytes.now)) }
@@ -67,7 +67,7 @@ impl LinkMessage {
     }
 
     /// Returns whether an attribute is written as a list of ports (IFLA_VF_PORTS) without an entry,
-    /// which no legal body has. A message that was read has one if the list in the body had only
+    /// which no accepted body has. A message that was read has one if the list in the body had only
     /// entries of kinds other than 1.
     #[tactic(auto, using(crate::proofs::Bodies::sizes))]
     pub fn has_empty_ports(&self) -> bool

@@ -2,7 +2,7 @@
 use Rattle.std.proofs.Common.{◌≡◌, ℕ, Bool, List, [], ◌∷◌, ◌++◌, true, false, Option, Some, None, Result, Ok, Err, refl, sym, ap, subst, ◌∙◌}
 use Rattle.link_capture_grammar.specs.declared.fault.CaptureFault.{CaptureFault}
 use Rattle.link_capture_reader.specs.States.{IsReported, SinkState, IsReportedOrCut}
-use Rattle.link_capture_quirks.specs.declared.quirk_kinds.QuirkAt.{QuirkAt}
+use Rattle.link_capture_quirks.specs.declared.quirk_at.QuirkAt.{QuirkAt}
 use Rattle.link_capture_quirks.specs.CaptureQuirks.{quirks_then_fault}
 use Rattle.linkshow_program.specs.Runs.{note_text, notes_text}
 use Rattle.linkshow_program.proofs.Reporting.{Come, come_all, come_failed, come_more, come_none}

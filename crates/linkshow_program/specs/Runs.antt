@@ -10,7 +10,7 @@ use Rattle.link_capture_grammar.specs.Faults.{fault_text}
 use Rattle.link_capture_commands.specs.Commands.{status_of}
 use Rattle.link_capture_reader.specs.Devices.{Rises, ReportsItsEnd, risen}
 use Rattle.link_capture_reader.specs.Outcomes.{ReadFault}
-use Rattle.link_capture_quirks.specs.declared.quirk_kinds.QuirkAt.{QuirkAt}
+use Rattle.link_capture_quirks.specs.declared.quirk_at.QuirkAt.{QuirkAt}
 use Rattle.link_capture_quirks.specs.QuirkTexts.{quirk_text}
 use Rattle.link_capture_quirks.specs.CaptureQuirks.{capture_quirks}
 use Rattle.link_lines.specs.Captures.{Choice}

@@ -5,6 +5,6 @@ pub returns-clause-measure : goal.returns-clause-measure
 unfolding info_rule_under info_grammar_under data_rule_under port_data_rule_under
 returns-clause-measure g c = c.measure_info.ensures.measure
 
-pub returns-clause-canonical : goal.returns-clause-canonical
+pub returns-clause-already_canonical : goal.returns-clause-already_canonical
 unfolding info_rule_under info_grammar_under data_rule_under port_data_rule_under
-returns-clause-canonical g c = c.measure_info.ensures.already_canonical
+returns-clause-already_canonical g c = c.measure_info.ensures.already_canonical

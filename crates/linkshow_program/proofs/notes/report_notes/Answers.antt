@@ -9,7 +9,7 @@ pub notes-init : goal.notes-init
 notes-init g c = record {
   can = tt;
   finite = tt;
-  noted = noted-none _ c.quirks-left.result.reported c.quirks-left.result.fault _ (ap notes_text c.quirks-left.ensures.reported);
+  noted = noted-none _ c.quirks-left.result.quirks_left c.quirks-left.result.fault _ (ap notes_text c.quirks-left.ensures.quirks_left);
 }
 
 pub returns-then-not-report_text : goal.returns-then-not-report_text

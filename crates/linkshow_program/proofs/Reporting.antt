@@ -65,10 +65,10 @@ no_more_reported before after x first second a b e f = come_failed before before
 -- ---- texts, one after the other
 
 -- These texts remain of others.
-abbrev pub Told : SinkState → SinkState → List (Bor (List ℕ)) → List (Bor (List ℕ)) → Type 0
-Told before now left texts = Come before now (texts_joined left) (texts_joined texts)
+abbrev pub Reported : SinkState → SinkState → List (Bor (List ℕ)) → List (Bor (List ℕ)) → Type 0
+Reported before now left texts = Come before now (texts_joined left) (texts_joined texts)
 
-pub none_reported : (before : SinkState) (texts : List (Bor (List ℕ))) → Told before before texts texts
+pub none_reported : (before : SinkState) (texts : List (Bor (List ℕ))) → Reported before before texts texts
 none_reported before texts = come_none before (texts_joined texts)
 
 texts_cut : (left : List (Bor (List ℕ))) (d : Bor (List ℕ)) → 1 ≤ length left → texts_joined left ≡ (get_or left 0 d).now ++ texts_joined (take (length left - 1) (drop 1 left))
@@ -76,7 +76,7 @@ texts_cut [] d m = absurd (omega arith)
 texts_cut (x ∷ more) d m = ap (λ t. x.now ++ texts_joined t) (sym (take_rest (x ∷ more) 1))
 
 -- One more text was written.
-pub more_reported : (before now next : SinkState) (left texts : List (Bor (List ℕ))) (d : Bor (List ℕ)) (r : Bool) → 1 ≤ length left → Told before now left texts → r ≡ true → IsReported now next (get_or left 0 d).now r → Told before next (take (length left - 1) (drop 1 left)) texts
+pub more_reported : (before now next : SinkState) (left texts : List (Bor (List ℕ))) (d : Bor (List ℕ)) (r : Bool) → 1 ≤ length left → Reported before now left texts → r ≡ true → IsReported now next (get_or left 0 d).now r → Reported before next (take (length left - 1) (drop 1 left)) texts
 more_reported before now next left texts d r m t b i = come_more before now next (texts_joined left) (get_or left 0 d).now _ (texts_joined texts) r t (texts_cut left d m) b i
 
 none_left : (left : List (Bor (List ℕ))) → length left < 1 → texts_joined left ≡ []
@@ -84,11 +84,11 @@ none_left [] m = refl
 none_left (x ∷ more) m = absurd (omega arith)
 
 -- All of them were written.
-pub all_reported : (before now : SinkState) (left texts : List (Bor (List ℕ))) → length left < 1 → Told before now left texts → IsReported before now (texts_joined texts) true
+pub all_reported : (before now : SinkState) (left texts : List (Bor (List ℕ))) → length left < 1 → Reported before now left texts → IsReported before now (texts_joined texts) true
 all_reported before now left texts m t = come_all before now (texts_joined left) (texts_joined texts) t (none_left left m)
 
 -- The sink failed inside a text.
-pub report_failed : (before now next : SinkState) (left texts : List (Bor (List ℕ))) (d : Bor (List ℕ)) (r : Bool) → 1 ≤ length left → Told before now left texts → r ≡ false → IsReported now next (get_or left 0 d).now r → IsReported before next (texts_joined texts) false
+pub report_failed : (before now next : SinkState) (left texts : List (Bor (List ℕ))) (d : Bor (List ℕ)) (r : Bool) → 1 ≤ length left → Reported before now left texts → r ≡ false → IsReported now next (get_or left 0 d).now r → IsReported before next (texts_joined texts) false
 report_failed before now next left texts d r m t b i = come_failed before now next (texts_joined left) (get_or left 0 d).now _ (texts_joined texts) r t (texts_cut left d m) b i
 
 -- ---- names from the outermost to the innermost

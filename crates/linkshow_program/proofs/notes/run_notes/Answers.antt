@@ -17,7 +17,7 @@ returns-in-Ok g c =
     let Lined : List ℕ → Type 0 = λ x. Shows (chosen c.args.options.now) (Some x) (Some c.show-outcome.new.source.rest.now) (g.K.Sink.holds c.args.sink.now) (g.K.Sink.holds c.show-outcome.new.sink)
     (ReportsItsEnd c.new-whole.result.ends_reported c.show-outcome.new.source.ends_reported (Some c.show-outcome.new.source.rest.now)) (Rises 0 0) (Rises (g.K.Sink.failures c.args.sink.now) (g.K.Sink.failures c.show-outcome.new.sink)) c.args.options.now.limit c.show-outcome.result in
     let Noted : List ℕ → Type 0 = λ x. IsReportedOrCut (sink_state g.E.Sink.holds g.E.Sink.failures c.args.errors.now) (sink_state g.E.Sink.holds g.E.Sink.failures c.report_notes.new.errors) (notes_text (capture_quirks c.args.options.now.limit x)) in
-    let Told : List ℕ → Type 0 = λ x. IsReportedOrCut (sink_state g.E.Sink.holds g.E.Sink.failures c.report_notes.new.errors) (sink_state g.E.Sink.holds g.E.Sink.failures c.report.new.errors) (report_of (option_map (λ name. name.now) c.args.options.now.file) x c.show-outcome.result) in (
+    let Reported : List ℕ → Type 0 = λ x. IsReportedOrCut (sink_state g.E.Sink.holds g.E.Sink.failures c.report_notes.new.errors) (sink_state g.E.Sink.holds g.E.Sink.failures c.report.new.errors) (report_of (option_map (λ name. name.now) c.args.options.now.file) x c.show-outcome.result) in (
       read.0,
       read.1,
       inl (
@@ -34,7 +34,7 @@ returns-in-Ok g c =
           (
             sink_state g.E.Sink.holds g.E.Sink.failures c.report_notes.new.errors,
             subst Noted noted c.report_notes.ensures,
-            subst Told (c.as_slice-in-Ok-2.ensures.value ∙ read.3) c.report.ensures.reported,
+            subst Reported (c.as_slice-in-Ok-2.ensures.value ∙ read.3) c.report.ensures.reported,
           ),
           c.report.ensures.status,
         ),

@@ -95,7 +95,7 @@ fn measure_link(body: &[u8]) -> Result<MeasuredBody, FaultKind>
         len: found.text_len,
         attributes: found.attributes,
         is_canonical: found.is_canonical,
-        canonical_prefix: found.canonical_prefix as usize,
+        canonical_prefix: found.prefix as usize,
     })
 }
 

@@ -164,7 +164,7 @@ pub record PortsAreEntries : Type 0 where
   pub read : (f : ℕ → Row) (bytes : List ℕ) → 0 < length bytes →
       reading_as ports (without_context f) bytes ≡ reading_as of_kind_one (without_context f) bytes
   pub empty : (f : ℕ → Row) (bytes : List ℕ) → length bytes ≡ 0 → (rows_rule ports f).accepted bytes ≡ false
-  -- A legal list of ports is empty if and only if it keeps no entry, so that nothing is written, or a list of ports
+  -- An accepted list of ports is empty if and only if it keeps no entry, so that nothing is written, or a list of ports
   -- inside an entry is empty.
   pub empty_ports : (f : ℕ → Row) (bytes : List ℕ) → (rows_rule ports f).accepted bytes ≡ true →
       (rows_rule ports f).empty_ports bytes ≡

@@ -51,7 +51,7 @@ written_kind r k = cond r.is_typed (proper_kind k + cond r.is_nested 0x8000 0) k
 abbrev pub same_kind : Row → Row → ℕ → ℕ → Bool
 same_kind r s k l = cond (r.is_typed && s.is_typed) (proper_kind k == proper_kind l) (k == l)
 
--- Two attributes are equivalent, each under its own row.
+-- Two attributes are equivalent: their kinds are the same, and so are their payloads, under the row of either.
 abbrev pub same_attribute : Row → Row → Attribute → Attribute → Bool
 same_attribute r s e f = same_kind r s e.kind f.kind &&
     (r.rule.same e.payload f.payload && s.rule.same e.payload f.payload)

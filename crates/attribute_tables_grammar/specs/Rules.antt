@@ -17,8 +17,9 @@ pub record Rule : Type 0 where
   -- A list of ports inside keeps no entry, and its kind may not be empty.
   pub empty_ports : List ℕ → Bool
 
--- The laws of a rule: canonical payloads are accepted, fit and are idempotent; they decide equivalence; they are at
--- most 77 times as long, with headers; the attributes inside take at least 4 bytes each.
+-- The laws of a rule, for accepted payloads: the canonical payload is accepted unless ports inside would be empty, fits
+-- if the payload does, and is already canonical; canonical payloads decide equivalence; with headers, one is at most
+-- 77 times as long; the attributes inside take at least 4 bytes each; the canonical payload of bytes that fit is bytes.
 pub record Lawful (r : Rule) : Type 0 where
   pub canonical_accepted : (p : List ℕ) → r.accepted p ≡ true → r.empty_ports p ≡ false →
       (r.accepted (r.canonical p) ≡ true) × (r.empty_ports (r.canonical p) ≡ false)

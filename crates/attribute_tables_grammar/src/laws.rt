@@ -99,7 +99,7 @@ pub fn single_first_attributes_are_read()
 {}
 
 /// A non-empty list of ports has the rule of a list of entries of kind 1; an empty one is rejected.
-/// A legal list of ports is empty if and only if it keeps no entry, or a list of ports inside an
+/// An accepted list of ports is empty if and only if it keeps no entry, or a list of ports inside an
 /// entry is empty.
 pub fn ports_are_entries()
     ensures { PortsAreEntries }

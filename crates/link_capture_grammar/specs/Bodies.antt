@@ -8,11 +8,11 @@ use Rattle.link_message_grammar.specs.Body.{link_body}
 pub data Refusal : Type 0 where
   refused empty_ports unfit : Refusal
 
--- The text of a body of type 2 (NLMSG_ERROR): the body, which has a code of 4 bytes and more.
+-- The text of a body of type 2 (NLMSG_ERROR): the body; one without a whole code of 4 bytes is refused.
 abbrev pub error_text : List ℕ → Result (List ℕ) Refusal
 error_text b = cond (nat_lt (length b) 4) (Err refused) (Ok b)
 
--- The text of a body of type 3 (NLMSG_DONE): the body, which has a code and more; for an empty body the code 0.
+-- The text of a body of type 3 (NLMSG_DONE): the code 0 for an empty body, else as that of an NLMSG_ERROR.
 abbrev pub done_text : List ℕ → Result (List ℕ) Refusal
 done_text b = cond (nat_eq (length b) 0) (Ok (0 ∷ 0 ∷ 0 ∷ 0 ∷ [])) (error_text b)
 
@@ -26,8 +26,8 @@ ruled_text r b =
 abbrev pub is_link_type : ℕ → Bool
 is_link_type t = nat_le 16 t && nat_le t 19
 
--- The text of a body of type t: empty for NOOP, by the rule for links, and the body itself for OVERRUN and for every
--- type that isn't known.
+-- The text of a body of type t: empty for NOOP, with a code for ERROR and DONE, by the rule for links, and the body
+-- itself for every other type.
 unfoldable pub body_text_under : Rule → ℕ → List ℕ → Result (List ℕ) Refusal
 body_text_under r t b =
     cond (nat_eq t 1) (Ok [])

@@ -48,7 +48,8 @@ first_frame_under r limit c =
     checked_header limit (length c) (frame_length c)
     (judged_text limit c (body_text_under r (frame_type c) (frame_body c)))
 
--- An accepted frame: its bytes are there, and it has the length in its header, which is within the limit.
+-- What acceptance implies of a frame's length: its bytes are there, and they have the length in its header, which is
+-- from 16 to the limit.
 pub record Accepted (limit : ℕ) (c : List ℕ) (frame : ℕ × List ℕ) : Type 0 where
   pub header : 16 ≤ length c
   pub low : 16 ≤ frame.0

@@ -12,7 +12,8 @@ use Rattle.link_capture_grammar.specs.Captures.{first_frame_under}
 abbrev pub done_body : List ℕ → List ℕ
 done_body b = cond (nat_eq (length b) 0) (0 ∷ 0 ∷ 0 ∷ 0 ∷ []) b
 
--- Two bodies of type t mean the same: always if it is NOOP, by the rule if it is a link's, otherwise if they are equal.
+-- Two bodies of type t mean the same: always if it is NOOP, by the rule if it is a link's, otherwise if they are equal,
+-- where the empty body of a DONE counts as the code 0.
 unfoldable pub same_body_under : Rule → ℕ → List ℕ → List ℕ → Bool
 same_body_under r t a b =
     cond (nat_eq t 1) true

@@ -65,8 +65,8 @@ FeedFault limit s piece old new kind at =
 abbrev pub IsFrameOffsetOf : List ℕ → ℕ → Type 0
 IsFrameOffsetOf c at = (at < length c) × (at % 4 ≡ 0)
 
--- The frame at the offset `at` is accepted, and the vector had less capacity than the frame's text and the texts before
--- it need.
+-- The frame at the offset `at` is accepted, and the vector had less capacity than what it held, the texts before the
+-- frame and the frame's text need together.
 abbrev pub LacksCapacityAt : {Z : Type 0} → ℕ → List ℕ → ℕ → Vec ℕ Z → Type 0
 LacksCapacityAt limit c at old =
     (n : ℕ) × (text : List ℕ) × (first_frame limit (drop at c) ≡ Ok (n, text)) ×

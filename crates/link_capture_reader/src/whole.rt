@@ -31,7 +31,7 @@ pub fn normalize_bytes(bytes: &[u8], limit: u32, out: &mut Vec<u8>) -> Result<()
     ensures fault { IfErr result
         (λ fault. fault.kind ≢ FaultKind.Memory → (first_fault limit bytes.now ≡ Some fault)
         × GainsTexts limit bytes.now out.old out.new) }
-    // A fault is at the start of a frame.
+    // A fault is inside the capture, at a multiple of 4.
     ensures offset { IfErr result (λ fault. IsFrameOffsetOf bytes.now fault.offset) }
     // A normal text is legal, and already canonical.
     ensures normal { IsLegal limit (texts limit bytes.now)

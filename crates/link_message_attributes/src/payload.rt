@@ -160,7 +160,7 @@ pub(crate) fn parse_extent_masks(
 /// # Errors
 ///
 /// A refusal if the list isn't legal or has no attribute; out of memory if an allocation fails for
-/// a legal list.
+/// an accepted list.
 pub(crate) fn parse_link_info(alloc: Global, payload: &[u8]) -> Result<Vec<LinkInfo>, DecodeError>
     ensures judged { IsRefusedUnless result (info_payload_rule.accepted payload.now) }
     ensures written { ListIsWrittenBy result link_info_entry link_info_fits info_payload_rule

@@ -90,7 +90,7 @@ pub record IsReadBack (p : Peer) (b : List ℕ) : Type 0 where
   pub family : family ((body_rule p).canonical b) ≡ family b
   pub attributes : reading_of p ((body_rule p).canonical b) ≡ reading_of p b
 
--- A legal body that fits, and in which no list of ports is empty, is read from its canonical text as from its own
+-- An accepted body that fits, and in which no list of ports is empty, is read from its canonical text as from its own
 -- bytes.
 abbrev pub CanonicalTextsAreReadBack : Peer → Type 0
 CanonicalTextsAreReadBack p = (b : List ℕ) → (body_rule p).accepted b ≡ true → (body_rule p).fits b ≡ true →

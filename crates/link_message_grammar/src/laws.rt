@@ -74,8 +74,8 @@ pub fn bodies_are_headers_and_attributes()
     ensures { BodiesAreHeadersAndAttributes link_peer }
 {}
 
-/// A legal body that fits, and in which no list of ports is empty, is read from its canonical text
-/// as from its own bytes.
+/// An accepted body that fits, and in which no list of ports would be empty, is read from its
+/// canonical text as from its own bytes.
 pub fn canonical_texts_are_read_back()
     ensures { CanonicalTextsAreReadBack link_peer }
 {}

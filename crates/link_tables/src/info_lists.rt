@@ -86,11 +86,11 @@ macro_rules! geneve {
             5, b"IFLA_GENEVE_PORT", Exact(2), BigEndian(PLAIN);
             6, b"IFLA_GENEVE_COLLECT_METADATA", Presence, Presence;
             7, b"IFLA_GENEVE_REMOTE6", Exact(16), Address;
-            8, b"IFLA_GENEVE_UDP_CSUM", NonzeroByte, Truth;
-            9, b"IFLA_GENEVE_UDP_ZERO_CSUM6_TX", NonzeroByte, Truth;
-            10, b"IFLA_GENEVE_UDP_ZERO_CSUM6_RX", NonzeroByte, Truth;
+            8, b"IFLA_GENEVE_UDP_CSUM", NonzeroByte, Boolean;
+            9, b"IFLA_GENEVE_UDP_ZERO_CSUM6_TX", NonzeroByte, Boolean;
+            10, b"IFLA_GENEVE_UDP_ZERO_CSUM6_RX", NonzeroByte, Boolean;
             11, b"IFLA_GENEVE_LABEL", Exact(4), BigEndian(PLAIN);
-            12, b"IFLA_GENEVE_TTL_INHERIT", NonzeroByte, Truth;
+            12, b"IFLA_GENEVE_TTL_INHERIT", NonzeroByte, Boolean;
             13, b"IFLA_GENEVE_DF", Exact(1), Number(GENEVE_DF);
             14, b"IFLA_GENEVE_INNER_PROTO_INHERIT", Presence, Presence;
             15;
@@ -115,7 +115,7 @@ macro_rules! gre {
             7, b"IFLA_GRE_REMOTE", Exact(4), Address;
             8, b"IFLA_GRE_TTL", Exact(1), Number(PLAIN);
             9, b"IFLA_GRE_TOS", Exact(1), Number(PLAIN);
-            10, b"IFLA_GRE_PMTUDISC", OneByte, Truth;
+            10, b"IFLA_GRE_PMTUDISC", OneByte, Boolean;
             11;
             12;
             13;
@@ -176,7 +176,7 @@ macro_rules! gtp {
             2, b"IFLA_GTP_FD1", Exact(4), Number(PLAIN);
             3, b"IFLA_GTP_PDP_HASHSIZE", Exact(4), Number(PLAIN);
             4, b"IFLA_GTP_ROLE", Exact(4), Number(GTP_ROLE);
-            5, b"IFLA_GTP_CREATE_SOCKETS", NonzeroByte, Truth;
+            5, b"IFLA_GTP_CREATE_SOCKETS", NonzeroByte, Boolean;
             6, b"IFLA_GTP_RESTART_COUNT", Exact(1), Number(PLAIN);
             7, b"IFLA_GTP_LOCAL", Exact(4), Address;
             8, b"IFLA_GTP_LOCAL6", Exact(16), Address;
@@ -221,7 +221,7 @@ macro_rules! ip_tunnel {
             7, b"IFLA_IPTUN_FLOWINFO", Exact(4), BigEndian(PLAIN);
             8, b"IFLA_IPTUN_FLAGS", $flags, FlagsBySize;
             9, b"IFLA_IPTUN_PROTO", Exact(1), Number(PLAIN);
-            10, b"IFLA_IPTUN_PMTUDISC", NonzeroByte, Truth;
+            10, b"IFLA_IPTUN_PMTUDISC", NonzeroByte, Boolean;
             11, b"IFLA_IPTUN_6RD_PREFIX", Exact(16), Address;
             12, b"IFLA_IPTUN_6RD_RELAY_PREFIX", Exact(4), Address;
             13, b"IFLA_IPTUN_6RD_PREFIXLEN", Exact(2), Number(PLAIN);
@@ -318,7 +318,7 @@ macro_rules! netkit {
     ($write:ident) => {
         $write! {
             1 -> b"IFLA_NETKIT_PEER_INFO", Peer;
-            2, b"IFLA_NETKIT_PRIMARY", NonzeroByte, Truth;
+            2, b"IFLA_NETKIT_PRIMARY", NonzeroByte, Boolean;
             3, b"IFLA_NETKIT_POLICY", Exact(4), Number(NETKIT_POLICY);
             4, b"IFLA_NETKIT_PEER_POLICY", Exact(4), Number(NETKIT_POLICY);
             5, b"IFLA_NETKIT_MODE", Exact(4), Number(NETKIT_MODE);
@@ -408,34 +408,34 @@ macro_rules! vxlan {
             4, b"IFLA_VXLAN_LOCAL", Exact(4), Address;
             5, b"IFLA_VXLAN_TTL", Exact(1), Number(PLAIN);
             6, b"IFLA_VXLAN_TOS", Exact(1), Number(PLAIN);
-            7, b"IFLA_VXLAN_LEARNING", NonzeroByte, Truth;
+            7, b"IFLA_VXLAN_LEARNING", NonzeroByte, Boolean;
             8, b"IFLA_VXLAN_AGEING", Exact(4), Number(PLAIN);
             9, b"IFLA_VXLAN_LIMIT", Exact(4), Number(PLAIN);
             10, b"IFLA_VXLAN_PORT_RANGE", Exact(4), PortRange;
-            11, b"IFLA_VXLAN_PROXY", NonzeroByte, Truth;
-            12, b"IFLA_VXLAN_RSC", NonzeroByte, Truth;
-            13, b"IFLA_VXLAN_L2MISS", NonzeroByte, Truth;
-            14, b"IFLA_VXLAN_L3MISS", NonzeroByte, Truth;
+            11, b"IFLA_VXLAN_PROXY", NonzeroByte, Boolean;
+            12, b"IFLA_VXLAN_RSC", NonzeroByte, Boolean;
+            13, b"IFLA_VXLAN_L2MISS", NonzeroByte, Boolean;
+            14, b"IFLA_VXLAN_L3MISS", NonzeroByte, Boolean;
             15, b"IFLA_VXLAN_PORT", Exact(2), BigEndian(PLAIN);
             16, b"IFLA_VXLAN_GROUP6", Exact(16), Address;
             17, b"IFLA_VXLAN_LOCAL6", Exact(16), Address;
-            18, b"IFLA_VXLAN_UDP_CSUM", NonzeroByte, Truth;
-            19, b"IFLA_VXLAN_UDP_ZERO_CSUM6_TX", NonzeroByte, Truth;
-            20, b"IFLA_VXLAN_UDP_ZERO_CSUM6_RX", NonzeroByte, Truth;
-            21, b"IFLA_VXLAN_REMCSUM_TX", NonzeroByte, Truth;
-            22, b"IFLA_VXLAN_REMCSUM_RX", NonzeroByte, Truth;
+            18, b"IFLA_VXLAN_UDP_CSUM", NonzeroByte, Boolean;
+            19, b"IFLA_VXLAN_UDP_ZERO_CSUM6_TX", NonzeroByte, Boolean;
+            20, b"IFLA_VXLAN_UDP_ZERO_CSUM6_RX", NonzeroByte, Boolean;
+            21, b"IFLA_VXLAN_REMCSUM_TX", NonzeroByte, Boolean;
+            22, b"IFLA_VXLAN_REMCSUM_RX", NonzeroByte, Boolean;
             23, b"IFLA_VXLAN_GBP", Presence, Presence;
             24, b"IFLA_VXLAN_REMCSUM_NOPARTIAL", Presence, Presence;
-            25, b"IFLA_VXLAN_COLLECT_METADATA", NonzeroByte, Truth;
+            25, b"IFLA_VXLAN_COLLECT_METADATA", NonzeroByte, Boolean;
             26, b"IFLA_VXLAN_LABEL", Exact(4), BigEndian(PLAIN);
             27, b"IFLA_VXLAN_GPE", Presence, Presence;
             28, b"IFLA_VXLAN_TTL_INHERIT", AtMost(1), OptionalByte;
             29, b"IFLA_VXLAN_DF", Exact(1), Number(VXLAN_DF);
-            30, b"IFLA_VXLAN_VNIFILTER", NonzeroByte, Truth;
-            31, b"IFLA_VXLAN_LOCALBYPASS", NonzeroByte, Truth;
+            30, b"IFLA_VXLAN_VNIFILTER", NonzeroByte, Boolean;
+            31, b"IFLA_VXLAN_LOCALBYPASS", NonzeroByte, Boolean;
             32, b"IFLA_VXLAN_LABEL_POLICY", Exact(4), Number(PLAIN);
             33, b"IFLA_VXLAN_RESERVED_BITS", Exact(8), BigEndian(PLAIN);
-            34, b"IFLA_VXLAN_MC_ROUTE", NonzeroByte, Truth;
+            34, b"IFLA_VXLAN_MC_ROUTE", NonzeroByte, Boolean;
         }
     };
 }

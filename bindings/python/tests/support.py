@@ -24,9 +24,9 @@ def cases(kind: str) -> List[str]:
     return [str(case) for case in vectors.cases(kind)]
 
 
-def answers(kind: str) -> List[str]:
-    """What is to be answered to the cases of a kind."""
-    return [str(answer) for answer in vectors.answers(kind)]
+def results(kind: str) -> List[str]:
+    """The stored results of the cases of a kind."""
+    return [str(result) for result in vectors.results(kind)]
 
 
 def captures(kind: str) -> List[Tuple[int, List[bytes]]]:

@@ -12,7 +12,7 @@ import unittest
 from typing import Callable, Optional, Tuple
 
 import linkcap
-from support import answers, captures, cases, cleared, header_constants, is_legal, means_the_same, sample
+from support import captures, cases, cleared, header_constants, is_legal, means_the_same, results, sample
 
 Written = Tuple[bytes, Optional[linkcap.Fault]]
 Call = Callable[..., object]
@@ -59,7 +59,7 @@ class Vectors(unittest.TestCase):
     maxDiff = 200
 
     def check_norm(self, run: Callable[[bytes, int, int], Written]) -> None:
-        given, stored = captures("norm"), answers("norm")
+        given, stored = captures("norm"), results("norm")
         self.assertEqual(len(given), len(stored))
         for number, ((limit, (capture,)), line) in enumerate(zip(given, stored)):
             self.assertEqual(norm_line(capture, limit, *run(capture, limit, number)) + "\n", line)
@@ -71,7 +71,7 @@ class Vectors(unittest.TestCase):
         self.check_norm(lambda capture, limit, number: normalize_pieces(capture, limit, (1, 7, 100)[number % 3]))
 
     def test_same(self) -> None:
-        given, stored = captures("same"), answers("same")
+        given, stored = captures("same"), results("same")
         self.assertEqual(len(given), len(stored))
         for (limit, (first, second)), line in zip(given, stored):
             try:
@@ -96,7 +96,7 @@ class Vectors(unittest.TestCase):
         self.assertGreater(compared, 1000)
 
     def test_show(self) -> None:
-        given, stored = cases("show"), answers("show")
+        given, stored = cases("show"), results("show")
         self.assertEqual(len(given), len(stored))
         for case, expected in zip(given, stored):
             limit, *choice, capture = case.split(" ")
@@ -109,7 +109,7 @@ class Vectors(unittest.TestCase):
             self.assertTrue(shown == expected, case[:200])
 
     def test_lines_in_pieces(self) -> None:
-        for number, (case, expected) in enumerate(zip(cases("show"), answers("show"))):
+        for number, (case, expected) in enumerate(zip(cases("show"), results("show"))):
             limit, *choice, capture = case.split(" ")
             numbers = choice != ["without-numbers"]
             only = [int(kind) for kind in choice[0].split(",")] if choice and numbers else None
@@ -124,7 +124,7 @@ class Vectors(unittest.TestCase):
             self.assertTrue("".join(shown) == expected, case[:200])
 
     def test_quirks(self) -> None:
-        given, stored = captures("spelling"), answers("spelling")
+        given, stored = captures("spelling"), results("spelling")
         self.assertEqual((len(given), len(stored)), (287, 287))
         for (limit, (capture,)), line in zip(given, stored):
             try:
@@ -138,7 +138,7 @@ class Vectors(unittest.TestCase):
                 self.assertTrue(quirk.words.endswith(f" at {quirk.offset}"))
 
     def test_why(self) -> None:
-        given, stored = captures("refusal"), answers("refusal")
+        given, stored = captures("refusal"), results("refusal")
         self.assertEqual(len(given), len(stored))
         for (limit, (capture,)), line in zip(given, stored):
             found = linkcap.why(capture, limit)

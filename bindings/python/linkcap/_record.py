@@ -16,7 +16,7 @@ def record(command: Sequence[_Word], *, setup: Sequence[str] = (), here: bool = 
     """The capture of the route messages that a command sends, its threads and child processes included.
 
     The command runs in a network namespace of its own, in which the shell commands of `setup` have run, or, with `here`, in
-    the caller's. The program linkrec has to be on the PATH, or named by LINKREC; it wants strace, and without root a kernel
+    the caller's. The program linkrec has to be on the PATH, or named by LINKREC; it needs strace, and without root a kernel
     that allows user namespaces.
 
     # Errors
@@ -30,11 +30,11 @@ def record(command: Sequence[_Word], *, setup: Sequence[str] = (), here: bool = 
         raise RecordError("no program linkrec: put it on the PATH, or name it by LINKREC (linkcap's ./install installs it)")
     with tempfile.TemporaryDirectory() as folder:
         capture = os.path.join(folder, "capture")
-        ran = subprocess.run([program, *_options(setup, here), "-o", capture, "--", *command], stdout=subprocess.DEVNULL,
-                             stderr=subprocess.PIPE, check=False)
-        if ran.returncode:
-            reported = ran.stderr.decode(errors="replace").strip()
-            raise RecordError(f"{os.fspath(command[0])} ended with status {ran.returncode}: {reported}")
+        process = subprocess.run([program, *_options(setup, here), "-o", capture, "--", *command], stdout=subprocess.DEVNULL,
+                                 stderr=subprocess.PIPE, check=False)
+        if process.returncode:
+            report = process.stderr.decode(errors="replace").strip()
+            raise RecordError(f"{os.fspath(command[0])} ended with status {process.returncode}: {report}")
         with open(capture, "rb") as file:
             return file.read()
 

@@ -61,7 +61,7 @@ def set_number(data, at, size, value):
     data[at:at + size] = (value % 256 ** size).to_bytes(size, "little")
 
 
-def aligned(length):
+def round_up(length):
     return (length + 3) // 4 * 4
 
 
@@ -70,7 +70,7 @@ def frames(data):
     at = 0
     while at + 16 <= len(data):
         yield at
-        at += aligned(max(16, number(data, at, 4)))
+        at += round_up(max(16, number(data, at, 4)))
 
 
 def attributes(data, begin, end, depth=0):
@@ -83,7 +83,7 @@ def attributes(data, begin, end, depth=0):
         yield at
         if depth < 5 and length >= 8:
             yield from attributes(data, at + 4, at + length, depth + 1)
-        at += aligned(length)
+        at += round_up(length)
 
 
 def all_attributes(data):
@@ -154,7 +154,7 @@ def duplicate(rng, data):
     offsets = all_attributes(data)
     if offsets:
         at = rng.choice(offsets)
-        size = aligned(number(data, at, 2))
+        size = round_up(number(data, at, 2))
         copy = data[at:at + size]
         resize_containers(data, at, at + number(data, at, 2), len(copy))
         data[at:at] = copy
@@ -172,8 +172,8 @@ def nest(rng, data):
         inner += bytes(-len(inner) % 4)
         kind = rng.choice([1, 2, 5, 18, 22, 24, 26, 52, number(data, at + 2, 2)])
         inner = min(65535, len(inner) + 4).to_bytes(2, "little") + (kind % 65536).to_bytes(2, "little") + inner
-    resize_containers(data, at, at + size, aligned(len(inner)) - aligned(size))
-    data[at:at + aligned(size)] = inner + bytes(-len(inner) % 4)
+    resize_containers(data, at, at + size, round_up(len(inner)) - round_up(size))
+    data[at:at + round_up(size)] = inner + bytes(-len(inner) % 4)
 
 
 def lengthen(rng, data):
@@ -184,8 +184,8 @@ def lengthen(rng, data):
         size = number(data, at, 2)
         more = rng.choice(SPECIAL[-5:]) - size
         if more > 0:
-            resize_containers(data, at, at + size, aligned(size + more) - aligned(size))
-            data[at + aligned(size):at + aligned(size)] = bytes(aligned(size + more) - aligned(size))
+            resize_containers(data, at, at + size, round_up(size + more) - round_up(size))
+            data[at + round_up(size):at + round_up(size)] = bytes(round_up(size + more) - round_up(size))
             set_number(data, at, 2, size + more)
 
 
@@ -193,7 +193,7 @@ def fill_padding(rng, data):
     """Writes random bytes into the padding of attributes."""
     for at in all_attributes(data):
         length = number(data, at, 2)
-        for index in range(at + length, min(len(data), at + aligned(length))):
+        for index in range(at + length, min(len(data), at + round_up(length))):
             data[index] = rng.randrange(256)
 
 
@@ -283,7 +283,7 @@ def case_line(limit, *captures):
 def check_chunk(job):
     """The counts of one chunk of captures, and (limit, capture, law) of each capture that breaks a law."""
     seed, sources = job
-    counts, broken = collections.Counter(), []
+    counts, violations = collections.Counter(), []
     cases = [(limit, capture) for limit, siblings in groups(seed, sources) for capture in siblings]
     text_cases, expected_texts, pair_cases, expected_pairs = [], [], [], []
     results = run_vectors("norm", [case_line(limit, capture.hex()) for limit, capture in cases])
@@ -296,7 +296,7 @@ def check_chunk(job):
             law = check_linkcap(limit, capture, text, fault)
             counts["runs of linkcap"] += 1
         if law:
-            broken.append((limit, capture.hex(), law))
+            violations.append((limit, capture.hex(), law))
         text_cases.append(case_line(limit, text))
         expected_texts.append((text, limit, capture))
         if fault:
@@ -315,13 +315,13 @@ def check_chunk(job):
     for result, (text, limit, capture) in zip(run_vectors("norm", text_cases), expected_texts):
         counts["texts and legal prefixes"] += 1
         if not result.startswith(text + " ") or fault_offset(result) is not None:
-            broken.append((limit, capture.hex(), "a text or a legal prefix has another text"))
+            violations.append((limit, capture.hex(), "a text or a legal prefix has another text"))
     for result, (expected, limit, capture) in zip(run_vectors("same", pair_cases), expected_pairs):
         counts["pairs"] += 1
         counts["pairs: " + (result.split(":")[0])] += 1
         if result != expected:
-            broken.append((limit, capture.hex(), "a pair is %s, expected %s" % (result, expected)))
-    return counts, broken
+            violations.append((limit, capture.hex(), "a pair is %s, expected %s" % (result, expected)))
+    return counts, violations
 
 
 def main():
@@ -331,10 +331,10 @@ def main():
     counts, wrong = collections.Counter(), 0
     with multiprocessing.Pool(max(1, (os.cpu_count() or 2) - 1)) as pool:
         jobs = ((seed * 1000003 + chunk, sources) for chunk in range(chunks))
-        for chunk_counts, broken in pool.imap_unordered(check_chunk, jobs):
+        for chunk_counts, violations in pool.imap_unordered(check_chunk, jobs):
             counts += chunk_counts
-            wrong += len(broken)
-            for limit, capture, law in broken[:5]:
+            wrong += len(violations)
+            for limit, capture, law in violations[:5]:
                 print("WRONG %s: %d %s" % (law, limit, capture), flush=True)
     for name, times in sorted(counts.items()):
         print("%9d %s" % (times, name))

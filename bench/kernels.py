@@ -199,16 +199,16 @@ def describe(result):
 
 def compare(request, text):
     """`alike`, `parted` or `not here`; both codes; and a description with the differences."""
-    first, repeated, second = run(request), run(request), run(text)
-    for result in (first, repeated, second):
+    first, repetition, second = run(request), run(request), run(text)
+    for result in (first, repetition, second):
         if is_unsupported(result):
             return "not here", (None, None), result.get("lacks", result.get("message", ""))
-    different = differences(first, second) - differences(first, repeated)
+    pairs = differences(first, second) - differences(first, repetition)
     codes = (first["code"], second["code"])
     line = f"{describe(first)} | {describe(second)}"
-    if different:
-        line += " | " + ", ".join(sorted(f"{name} {kind}".strip() for name, kind in different))
-    return ("parted" if codes[0] != codes[1] or different else "alike"), codes, line
+    if pairs:
+        line += " | " + ", ".join(sorted(f"{name} {kind}".strip() for name, kind in pairs))
+    return ("parted" if codes[0] != codes[1] or pairs else "alike"), codes, line
 
 
 def stored_pairs():

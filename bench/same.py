@@ -60,14 +60,14 @@ def main():
             with open(at(name), "wb") as file:
                 file.write(capture)
         size = os.path.getsize(at("one"))
-        norm = best_time([program, "norm", limit], 0, at("one"), at("text"))
-        read = best_time([program, "same", at("faulty"), at("one"), limit], 2)
-        print("%d bytes a side; reading both files %.0f MB/s" % (size, size / read / 1e6))
-        print("%-34s %8.0f MB/s" % ("norm", size / norm / 1e6))
+        norm_time = best_time([program, "norm", limit], 0, at("one"), at("text"))
+        read_time = best_time([program, "same", at("faulty"), at("one"), limit], 2)
+        print("%d bytes a side; reading both files %.0f MB/s" % (size, size / read_time / 1e6))
+        print("%-34s %8.0f MB/s" % ("norm", size / norm_time / 1e6))
         print("%-34s %8.0f MB/s" % ("cmp with a copy", size / best_time(["cmp", at("one"), at("copy")], 0) / 1e6))
         for name, label, status in [("copy", "a copy", 0), ("text", "its normal text", 0), ("last", "another last message", 1)]:
-            same = best_time([program, "same", at("one"), at(name), limit], status) - read
-            print("%-34s %8.0f MB/s, %.1f times norm" % ("same with " + label, size / same / 1e6, norm / same))
+            same_time = best_time([program, "same", at("one"), at(name), limit], status) - read_time
+            print("%-34s %8.0f MB/s, %.1f times norm" % ("same with " + label, size / same_time / 1e6, norm_time / same_time))
 
 
 if __name__ == "__main__":

@@ -68,8 +68,8 @@ def key_of(names):
 
 def copy_crate(name, repository):
     """Copies a crate without its build results and its must-fail edits."""
-    ignored = shutil.ignore_patterns("out", "must-fail")
-    shutil.copytree(TOP / "crates" / name, repository / "crates" / name, ignore=ignored)
+    ignore = shutil.ignore_patterns("out", "must-fail")
+    shutil.copytree(TOP / "crates" / name, repository / "crates" / name, ignore=ignore)
 
 
 class Progress:

@@ -49,15 +49,15 @@ def texts(crate, edit):
 
 def fault(crate, edit):
     """Why an edit doesn't apply, or None."""
-    edited = {}
+    edited_texts = {}
     for file, old, new in texts(crate, edit):
         if file is None or old is None or not file.is_file():
             return "it names no file of crates/%s" % crate
-        text = edited.get(file) or file.read_text(encoding="utf-8")
+        text = edited_texts.get(file) or file.read_text(encoding="utf-8")
         if text.count(old) != 1:
             return "an old text occurs %d times in %s" % (text.count(old), file.relative_to(TOP))
-        edited[file] = text.replace(old, new)
-    return None if edited else "it has no pair of `old:` and `new:`"
+        edited_texts[file] = text.replace(old, new)
+    return None if edited_texts else "it has no pair of `old:` and `new:`"
 
 
 def check():

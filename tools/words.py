@@ -65,13 +65,13 @@ def prose(path, text):
     """Yields the number and the prose of each line that has some: Markdown, a comment, or a line of a docstring."""
     end = path[path.rfind("."):] if "." in path.rsplit("/", 1)[-1] else ".sh"
     in_docstrings = docstring_lines(path, text) if is_python(path, text) else set()
-    fenced = False
+    in_fence = False
     for number, line in enumerate(text.split("\n"), 1):
         if end == ".md":
             if line.lstrip().startswith(("```", "~~~")):
-                fenced = not fenced
+                in_fence = not in_fence
                 continue
-            if not fenced:
+            if not in_fence:
                 yield number, NOT_PROSE.sub("", line)
         elif number in in_docstrings:
             yield number, NOT_PROSE.sub("", line)

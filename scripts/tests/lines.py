@@ -60,8 +60,8 @@ def filter_faults():
         name, option, argument, expected = row.split("\t")
         lines = (TOP / name).read_text().splitlines()
         names = lines_filter.names_of(argument) if option == "without" else set()
-        filtered = lines_filter.without(lines, names) if names else lines_filter.about(lines, argument)
-        if digest("".join(line + "\n" for line in filtered)) != expected:
+        filtered_lines = lines_filter.without(lines, names) if names else lines_filter.about(lines, argument)
+        if digest("".join(line + "\n" for line in filtered_lines)) != expected:
             yield f"the lines of {name} with --{option} {argument}"
 
 

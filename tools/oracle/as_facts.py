@@ -55,12 +55,11 @@ def bodies(capture):
 def choose_bodies(seed, count):
     """Bodies, about half of them mutated and about a third refused."""
     rng = random.Random(seed)
-    found = {b for case in vectors.cases("norm") for b in bodies(bytes.fromhex(case.split(" ")[1]))}
-    found = sorted(found)
-    found += [check.mutate(rng, b) for b in found if b]
-    rng.shuffle(found)
-    accepted = [b for b in found if o.body_check(b) is not None]
-    refused = [b for b in found if o.body_check(b) is None]
+    candidates = sorted({b for case in vectors.cases("norm") for b in bodies(bytes.fromhex(case.split(" ")[1]))})
+    candidates += [check.mutate(rng, b) for b in candidates if b]
+    rng.shuffle(candidates)
+    accepted = [b for b in candidates if o.body_check(b) is not None]
+    refused = [b for b in candidates if o.body_check(b) is None]
     return accepted[:count - count // 3] + refused[:count // 3]
 
 

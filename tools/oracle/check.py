@@ -70,14 +70,14 @@ def check_examples():
     for line in open(os.path.join(HERE, "worked.tsv"), encoding="utf-8"):
         if line.startswith("#"):
             continue
-        function, stage, option, given, expected, note = line.rstrip("\n").split("\t")
+        function, stage, option, data, expected, note = line.rstrip("\n").split("\t")
         if function == "same":
-            result = results.same_result("%s %s" % (option, given))
+            result = results.same_result("%s %s" % (option, data))
         else:
-            result = COMPUTE[function](stage, option, bytes.fromhex(given))
+            result = COMPUTE[function](stage, option, bytes.fromhex(data))
         count += 1
         if result != expected:
-            failures.append("%s %s %s: %s, expected %s (%s)" % (function, option, given[:60], result[:100], expected[:100], note))
+            failures.append("%s %s %s: %s, expected %s (%s)" % (function, option, data[:60], result[:100], expected[:100], note))
     return count, failures
 
 
@@ -131,7 +131,7 @@ def mutate(rng, capture):
 
 def check_laws(seed, count):
     """(number of captures, a line for each law that one breaks)."""
-    rng, line_texts, failures, checked = random.Random(seed), LineTexts(), [], 0
+    rng, line_texts, violations = random.Random(seed), LineTexts(), []
     stored = [case.split(" ") for case in vectors.cases("norm")]
     stored = [(int(limit), bytes.fromhex(capture)) for limit, capture in stored]
     small = [(limit, capture) for limit, capture in stored if 16 < len(capture) < 2000]
@@ -140,22 +140,21 @@ def check_laws(seed, count):
         limit, capture = rng.choice(small)
         mutations.append((limit, mutate(rng, capture), capture))
     for limit, capture, *originals in [*stored, *mutations]:
-        checked += 1
-        broken = [*broken_laws(capture, limit), *line_texts.broken_laws(capture, limit)]
+        laws = [*broken_laws(capture, limit), *line_texts.broken_laws(capture, limit)]
         for original in originals:
-            broken += broken_equivalence(capture, original, limit)
-        failures += ["%s: limit %d, %s" % (law, limit, capture.hex()[:400]) for law in broken]
-    return checked, failures
+            laws += broken_equivalence(capture, original, limit)
+        violations += ["%s: limit %d, %s" % (law, limit, capture.hex()[:400]) for law in laws]
+    return len(stored) + len(mutations), violations
 
 
 def main(args):
     seed, count = ([int(arg) for arg in args] + [1, 2000][len(args):])[:2]
     examples, wrong_examples = check_examples()
-    captures, broken = check_laws(seed, count)
-    for line in wrong_examples + broken:
+    captures, violations = check_laws(seed, count)
+    for line in wrong_examples + violations:
         print(line)
-    print("%d examples, %d wrong; %d captures, %d laws broken" % (examples, len(wrong_examples), captures, len(broken)))
-    return 1 if wrong_examples or broken else 0
+    print("%d examples, %d wrong; %d captures, %d laws broken" % (examples, len(wrong_examples), captures, len(violations)))
+    return 1 if wrong_examples or violations else 0
 
 
 if __name__ == "__main__":

@@ -239,8 +239,8 @@ def read_list(rules, table, context, b):
 
 
 def read_link_body(rules, b):
-    """The Body of b, or None: b has at least 16 bytes, and an accepted list
-    after them."""
+    """The Body of b; None if b has fewer than 16 bytes, or no accepted list
+    after the first 16."""
     if len(b) < 16:
         return None
     body = Body()
@@ -746,10 +746,10 @@ def run_measure(limit, stage, peers_judged):
 
 
 def main(args):
-    """The exit status of a run.
+    """Runs the program, and returns its exit status.
 
-    Before the arguments of linkcap come options that linkcap doesn't have:
-    --stage NAME, --peers, --no-peers.  Nor has it the command `measure`.
+    The options --stage NAME, --peers and --no-peers may precede the arguments
+    of linkcap.  There is one more command, `measure [LIMIT]`.
     """
     stage, peers_judged = "peers", None
     while args and args[0].startswith("--"):

@@ -22,7 +22,7 @@ import linkshow             # noqa: E402
 import quirks               # noqa: E402
 import vectors              # noqa: E402
 
-MOST_DIFFERENCES = 20       # that are printed of a kind
+MOST_DIFFERENCES = 20       # printed for a kind
 
 
 def read_limit(word):
@@ -69,8 +69,8 @@ def show_result(case):
 def quirks_result(case):
     """Each quirk with its offset and `; ` after it, then `legal` or the fault."""
     limit, capture = case.split(" ")
-    found, fault = quirks.find_quirks(bytes.fromhex(capture), read_limit(limit))
-    return "".join("%s at %d; " % quirk for quirk in found) + outcome(fault)
+    pairs, fault = quirks.find_quirks(bytes.fromhex(capture), read_limit(limit))
+    return "".join("%s at %d; " % pair for pair in pairs) + outcome(fault)
 
 
 def refusal_result(case):
@@ -97,7 +97,7 @@ COMPUTE = {"norm": norm_result, "same": same_result, "spelling": quirks_result, 
 
 def compute_results(kinds):
     """(line and label, result) of each case of these kinds. ValueError names the line of one that is no case."""
-    for number, label, kind, case in vectors.labelled():
+    for number, label, kind, case in vectors.labelled_cases():
         if kind not in kinds:
             continue
         try:

@@ -26,7 +26,7 @@ def lines(name):
     return text[:-1].split("\n")
 
 
-def labelled():
+def labelled_cases():
     """(line number, label, kind, case) of each case. A line that begins with `# ` is the label of the cases that follow it,
     which are of one kind, up to the next label."""
     label, label_kind, last_kind = None, None, KINDS[0]
@@ -47,7 +47,7 @@ def labelled():
 
 
 def cases(kind):
-    return [case for _, _, other, case in labelled() if other == kind]
+    return [case for _, _, other, case in labelled_cases() if other == kind]
 
 
 def show_results(stdout_lines):
@@ -65,7 +65,7 @@ def show_results(stdout_lines):
 def case_of_line(number):
     """(line number, label) of the case whose result has a line of crates/vectors/stdout; None past the last line."""
     all_results = (result for kind in KINDS for result in results(kind))
-    for case_line, label, _, _ in labelled():
+    for case_line, label, _, _ in labelled_cases():
         number -= next(all_results, "").count("\n")
         if number <= 0:
             return case_line, label
@@ -74,7 +74,7 @@ def case_of_line(number):
 
 def results(kind):
     """The stored results of a kind, each with its newline."""
-    kinds = [other for _, _, other, _ in labelled()]
+    kinds = [other for _, _, other, _ in labelled_cases()]
     start = sum(KINDS.index(other) < KINDS.index(kind) for other in kinds)
     stdout_lines = lines("stdout")[start:]
     if kind == KINDS[-1]:

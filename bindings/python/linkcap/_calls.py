@@ -8,7 +8,7 @@ from typing import Any, Callable, Dict, Iterable, List, NamedTuple, Optional, Su
 
 from . import _fault, _native, lines_json
 from ._fault import Refusal, failure
-from ._native import Borrowed, Capture, address_of
+from ._native import BorrowedBytes, Capture, address_of
 from ._types import MessageType, type_numbers
 
 DEFAULT_LIMIT = 1048576
@@ -55,7 +55,7 @@ def checked_limit(limit: SupportsIndex) -> int:
 def check(capture: Capture, limit: SupportsIndex = DEFAULT_LIMIT) -> None:
     """Returns if a capture is legal; else raises its first `Fault`."""
     most, fault = checked_limit(limit), _native.FaultStruct()
-    with Borrowed(capture) as borrowed:
+    with BorrowedBytes(capture) as borrowed:
         status = _native.call("linkcap_check")(borrowed.at, borrowed.length, most, address_of(fault))
         if status != _native.OK:
             raise failure(status, fault, borrowed.at, borrowed.length, most)
@@ -65,7 +65,7 @@ def measure(capture: Capture, limit: SupportsIndex = DEFAULT_LIMIT) -> Measure:
     """The sizes of a legal capture; else raises its first `Fault`."""
     most, fault, numbers = checked_limit(limit), _native.FaultStruct(), _native.SizesStruct()
     call = _native.call("linkcap_measure")
-    with Borrowed(capture) as borrowed:
+    with BorrowedBytes(capture) as borrowed:
         status = call(borrowed.at, borrowed.length, most, address_of(numbers), address_of(fault))
         if status != _native.OK:
             raise failure(status, fault, borrowed.at, borrowed.length, most)
@@ -76,7 +76,7 @@ def _write(call: Callable[..., int], capture: Capture, limit: int, first_size: C
     """The output of a call for a capture, of n bytes. The call gets a buffer of `first_size(n)` bytes, and a larger one if
     that is too small."""
     fault, size = _native.FaultStruct(), ctypes.c_uint64()
-    with Borrowed(capture) as borrowed:
+    with BorrowedBytes(capture) as borrowed:
         capacity, status = first_size(borrowed.length), _native.NO_ROOM
         while status == _native.NO_ROOM:
             out = _native.Output(capacity)
@@ -104,7 +104,7 @@ def same(first: Capture, second: Capture, limit: SupportsIndex = DEFAULT_LIMIT, 
     """
     most, fault = checked_limit(limit), _native.FaultStruct()
     call = _native.call("linkcap_same_ignoring_numbers" if ignore_numbers else "linkcap_same")
-    with Borrowed(first) as one, Borrowed(second) as other:
+    with BorrowedBytes(first) as one, BorrowedBytes(second) as other:
         status = call(one.at, one.length, other.at, other.length, most, address_of(fault))
         if status > _native.DIFFERENT:
             faulty = other if fault.side == 2 else one
@@ -116,8 +116,8 @@ def lines(capture: Capture, limit: SupportsIndex = DEFAULT_LIMIT, *, numbers: bo
           only: Optional[Iterable[MessageType]] = None) -> str:
     """The lines of a legal capture, as `linkshow` writes them; else raises its first `Fault`.
 
-    Without `numbers` they lack sequence and port numbers, which change from run to run. With `only` they are those of
-    messages of these types alone, by name or number: `only=["newlink", 17]`.
+    Without `numbers` they lack sequence and port numbers, which change from run to run. With `only` they are only those of
+    messages of these types, by name or number: `only=["newlink", 17]`.
     """
     most = checked_limit(limit)
     types = type_array(only)
@@ -173,7 +173,7 @@ def quirks(capture: Capture, limit: SupportsIndex = DEFAULT_LIMIT) -> List[Quirk
     """
     most, fault, count = checked_limit(limit), _native.FaultStruct(), ctypes.c_uint64()
     call = _native.call("linkcap_quirks")
-    with Borrowed(capture) as borrowed:
+    with BorrowedBytes(capture) as borrowed:
         capacity, status = 16, _native.NO_ROOM
         while status == _native.NO_ROOM:
             structs = (_native.QuirkStruct * capacity)()
@@ -203,7 +203,7 @@ def why(capture: Capture, limit: SupportsIndex = DEFAULT_LIMIT) -> Optional[Refu
     Refusal(words='IFLA_MTU: a payload of 3 bytes at 32', offset=32)
     """
     most = checked_limit(limit)
-    with Borrowed(capture) as borrowed:
+    with BorrowedBytes(capture) as borrowed:
         return _fault.refusal(borrowed.at, borrowed.length, most)
 
 
@@ -213,13 +213,13 @@ _HEADER = struct.Struct("<IHHII")
 def messages(capture: Capture, limit: SupportsIndex = DEFAULT_LIMIT) -> List[Message]:
     """The messages of a legal capture; else raises its first `Fault`.
 
-    A message's bytes are `capture[message.offset:message.offset + message.length]`, and are a capture themselves.
+    A message's bytes are `capture[message.offset:message.offset + message.length]`, which is a capture.
 
     >>> messages(bytes.fromhex("10000000030002000100000000000000"))
     [Message(offset=0, length=16, type=3, flags=2, sequence_number=1, port_number=0)]
     """
     result, offset = [], 0
-    with Borrowed(capture) as borrowed:
+    with BorrowedBytes(capture) as borrowed:
         check(capture, limit)
         while offset + _HEADER.size <= borrowed.length:
             message = Message(offset, *_HEADER.unpack(ctypes.string_at(borrowed.at + offset, _HEADER.size)))

@@ -43,7 +43,7 @@ class Fault(Exception):
     side: Optional[int]
     #: as "cut frame at 48"
     words: str
-    #: what the call wrote before it: normal text, or lines in ASCII
+    #: the output before it: normal text, or lines in ASCII
     written: bytes
     #: the attribute that isn't accepted and the reason, if the kind is `Kind.REFUSED` and there is memory for the words
     why: Optional[Refusal]

@@ -53,7 +53,7 @@ _ONE_BYTE = ctypes.create_string_buffer(1)
 NOT_NULL = ctypes.addressof(_ONE_BYTE)
 
 
-class Borrowed:
+class BorrowedBytes:
     """The address and the length of a bytes-like object. It isn't copied, and can't be resized while this exists."""
 
     __slots__ = ("at", "length", "_view")
@@ -66,7 +66,7 @@ class Borrowed:
         self.at: int = at.value or NOT_NULL
         self.length: int = length.value
 
-    def __enter__(self) -> "Borrowed":
+    def __enter__(self) -> "BorrowedBytes":
         return self
 
     def __exit__(self, kind: Optional[Type[BaseException]], error: Optional[BaseException],
@@ -98,9 +98,9 @@ def address_of(value: Union[ctypes.Structure, ctypes.c_uint64, "ctypes.Array[Any
 def _candidates() -> List[str]:
     """The paths of the library that are tried in turn. If this package contains the library, no other is tried."""
     here = os.path.dirname(os.path.abspath(__file__))
-    bundled = os.path.join(here, "liblinkcap.so")
-    if os.path.exists(bundled):
-        return [bundled]
+    bundled_path = os.path.join(here, "liblinkcap.so")
+    if os.path.exists(bundled_path):
+        return [bundled_path]
     folders: List[str] = []
     try:
         folders.append(importlib.import_module("_linkcap_editable").FOLDER)

@@ -6,7 +6,7 @@ from typing import Any, Generic, Iterable, Iterator, List, Optional, Protocol, S
 from . import _native
 from ._calls import DEFAULT_LIMIT, checked_limit, type_array
 from ._fault import Fault, failure
-from ._native import Borrowed, Capture, address_of
+from ._native import BorrowedBytes, Capture, address_of
 from ._types import MessageType
 
 _HEADER = 16
@@ -16,10 +16,10 @@ class _Readable(Protocol):
     def read(self, size: int) -> Optional[bytes]: ...
 
 
-Written = TypeVar("Written", bytes, str)
+ResultT = TypeVar("ResultT", bytes, str)
 
 
-class _Pieces(Generic[Written]):
+class _Pieces(Generic[ResultT]):
     """The common part of readers. Between pieces it keeps the bytes of a cut message. The time is linear in the capture's
     length, for pieces of any sizes.
 
@@ -38,18 +38,18 @@ class _Pieces(Generic[Written]):
         self._start = 0  # of the rest, in bytes from the capture's start
         self._least_length = _HEADER  # with a shorter rest no call writes anything
         self._has_ended = False
-        self._running = threading.Lock()
+        self._lock = threading.Lock()
 
-    def _result(self, written: bytes) -> Written:
+    def _result(self, output: bytes) -> ResultT:
         """The result of `feed` and `finish`, from the bytes that were written."""
         raise NotImplementedError
 
-    def feed(self, piece: Capture) -> Written:
+    def feed(self, piece: Capture) -> ResultT:
         """Takes the next piece, and returns the output for the messages that it completes, with their padding.
 
         Raises the capture's first `Fault`, whose `written` is the output for the messages that this piece completes before it.
         """
-        with Borrowed(piece) as borrowed:
+        with BorrowedBytes(piece) as borrowed:
             self._begin()
             try:
                 # A reader in which a signal handler raises an exception has ended: which bytes were used isn't known.
@@ -58,19 +58,19 @@ class _Pieces(Generic[Written]):
                 self._has_ended = False
                 return self._result(text)
             finally:
-                self._running.release()
+                self._lock.release()
 
-    def finish(self) -> Written:
+    def finish(self) -> ResultT:
         """Ends the capture. Returns the output for a last message that lacks padding, or raises a `Fault`."""
         self._begin()
         try:
             self._has_ended = True
-            with Borrowed(self._rest) as rest:
+            with BorrowedBytes(self._rest) as rest:
                 return self._result(self._write(rest.at, rest.length, True)[1])
         finally:
-            self._running.release()
+            self._lock.release()
 
-    def read_file(self, file: _Readable, size: int = 1 << 16) -> Iterator[Written]:
+    def read_file(self, file: _Readable, size: int = 1 << 16) -> Iterator[ResultT]:
         """Feeds a binary file from its position to its end, in pieces of `size` bytes, and finishes. Yields each output that
         isn't empty.
 
@@ -90,13 +90,13 @@ class _Pieces(Generic[Written]):
                 return
 
     def _begin(self) -> None:
-        if not self._running.acquire(blocking=False):
+        if not self._lock.acquire(blocking=False):
             raise RuntimeError("another call of this reader is running")
         if self._has_ended:
-            self._running.release()
+            self._lock.release()
             raise ValueError("the reader has ended, or has raised a fault")
 
-    def _feed(self, piece: Borrowed) -> bytes:
+    def _feed(self, piece: BorrowedBytes) -> bytes:
         if not self._rest:
             used, text = self._write(piece.at, piece.length, False)
             self._rest += ctypes.string_at(piece.at + used, piece.length - used)
@@ -105,14 +105,14 @@ class _Pieces(Generic[Written]):
         self._rest += ctypes.string_at(piece.at, piece.length)
         if len(self._rest) < self._least_length:
             return b""
-        with Borrowed(self._rest) as rest:
+        with BorrowedBytes(self._rest) as rest:
             used, text = self._write(rest.at, rest.length, False)
         del self._rest[:used]
         self._advance(used)
         return text
 
     def _advance(self, used: int) -> None:
-        """Counts the bytes that were used. The next call needs a header, or the length that the header in the rest has."""
+        """Counts the bytes that were used, and sets the least length of the rest: a header's, or the length in the header."""
         self._start += used
         has_header = len(self._rest) >= _HEADER
         self._least_length = int.from_bytes(self._rest[:4], "little") if has_header else _HEADER
@@ -146,8 +146,8 @@ class Reader(_Pieces[bytes]):
 
     _call = "linkcap_normalize_some"
 
-    def _result(self, written: bytes) -> bytes:
-        return written
+    def _result(self, output: bytes) -> bytes:
+        return output
 
 
 class LineReader(_Pieces[str]):
@@ -171,13 +171,13 @@ class LineReader(_Pieces[str]):
         at, length = self._types.buffer_info()
         self._options = (not numbers, at or _native.NOT_NULL, length)
 
-    def _result(self, written: bytes) -> str:
-        return written.decode("ascii")
+    def _result(self, output: bytes) -> str:
+        return output.decode("ascii")
 
     def _write(self, at: int, length: int, is_last: bool) -> Tuple[int, bytes]:
         try:
-            used, written = super()._write(at, length, is_last)
+            used, output = super()._write(at, length, is_last)
         except Fault as fault:
             fault.written = b"" if self._shows_nothing else fault.written
             raise
-        return used, b"" if self._shows_nothing else written
+        return used, b"" if self._shows_nothing else output

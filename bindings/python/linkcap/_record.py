@@ -1,4 +1,4 @@
-"""Recording what a command sends, by the program linkrec."""
+"""Recording of the messages that a command sends, with the program linkrec."""
 import os
 import shutil
 import subprocess
@@ -9,14 +9,14 @@ _Word = Union[str, "os.PathLike[str]"]
 
 
 class RecordError(RuntimeError):
-    """A command that couldn't be recorded, or that failed; its text is what the programs reported."""
+    """A command that couldn't be recorded, or that failed. The text is what the programs reported."""
 
 
 def record(command: Sequence[_Word], *, setup: Sequence[str] = (), here: bool = False) -> bytes:
     """The capture of the route messages that a command sends, its threads and child processes included.
 
-    The command runs in a network namespace of its own, in which the shell commands of `setup` have run, or, with `here`, in
-    the caller's. The program linkrec has to be on the PATH, or named by LINKREC; it needs strace, and without root a kernel
+    The command runs in a new network namespace, in which the shell commands of `setup` have run, or, with `here`, in the
+    caller's. The program linkrec has to be on the PATH, or named by LINKREC; it needs strace, and without root a kernel
     that allows user namespaces.
 
     # Errors

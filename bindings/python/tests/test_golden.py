@@ -132,8 +132,8 @@ class Program(unittest.TestCase):
             (["lines", other], b"", 0, sample("lo-request.lines"), b""),
             (["lines", "--only", "getlink,3", other], b"", 0, sample("lo-request.lines"), b""),
             (["messages", other], b"", 0, b"0 48 18\n", b""),
-            (["same", "--ignore-numbers", other, "-"], self.renumbered(), 0, b"same\n", b""),
-            (["same", other, "-"], self.renumbered(), 1, b"different\n", b""),
+            (["same", "--ignore-numbers", other, "-"], self.with_other_numbers(), 0, b"same\n", b""),
+            (["same", other, "-"], self.with_other_numbers(), 1, b"different\n", b""),
             (["quirks"], sample("lo-request.bin")[:17] + b"\1" + sample("lo-request.bin")[18:], 0,
              b"second byte of the header of RTM_GETLINK at 17\n", b""),
             (["norm", "--limit", "15"], b"", 3, b"", b"linkcap: a limit is a number from 16 to 4294967295\n"),
@@ -142,7 +142,7 @@ class Program(unittest.TestCase):
             process = self.run_program(*arguments, stdin=stdin)
             self.assertEqual((process.returncode, process.stdout, process.stderr), (status, out, error), arguments)
 
-    def renumbered(self) -> bytes:
+    def with_other_numbers(self) -> bytes:
         """A request with another sequence number."""
         capture = sample("lo-request.bin")
         return capture[:8] + b"\1\2\3\4" + capture[12:]

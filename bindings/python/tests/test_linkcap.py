@@ -227,9 +227,9 @@ class Edges(unittest.TestCase):
         with tempfile.TemporaryFile() as file:
             file.write(capture)
             file.flush()
-            with mmap.mmap(file.fileno(), 0, access=mmap.ACCESS_READ) as mapped:
-                self.assertEqual(linkcap.normalize(mapped), text)
-                self.assertEqual(linkcap.messages(mapped), linkcap.messages(capture))
+            with mmap.mmap(file.fileno(), 0, access=mmap.ACCESS_READ) as mapping:
+                self.assertEqual(linkcap.normalize(mapping), text)
+                self.assertEqual(linkcap.messages(mapping), linkcap.messages(capture))
         others: Tuple[linkcap.Capture, ...] = (
             bytearray(capture), memoryview(capture), array.array("I", capture), memoryview(capture).cast("I"))
         for other in others:

@@ -1,13 +1,13 @@
 #!/usr/bin/env python3
-"""Compares `check` and `same`, the calls alone, with `cat`, `cmp` and `linkcap norm`, in one run pinned to one core.
+"""Compares the calls `check` and `same` with `cat`, `cmp` and `linkcap norm`, in one run pinned to one core.
 
     bench/calls.py [MEGABYTES]
 
-MEGABYTES is 50 where none is given. The captures are those of the samples, and RTM_NEWLINK messages of 82, 1000 and
-16,000 bytes. crates/capture_speed times the calls over bytes that lie in memory; programs read one file and write
-another. The samples are compared with themselves, with their normal text, and with a copy that has another sequence
-number in its last message. Of five rounds, in which the programs take turns, the best counts: MB/s of one capture,
-1 MB is 1,000,000 bytes. It builds nothing and no gate runs it: speed is measured here, and promised nowhere.
+MEGABYTES is 50 by default. The captures are those of the samples, and RTM_NEWLINK messages of 82, 1000 and 16,000 bytes.
+crates/capture_speed times the calls over bytes in memory; the programs read one file and write another. `same` compares the
+samples with themselves, with their normal text, and with a copy that has another sequence number in its last message. The
+programs take turns in five rounds, and the best of each counts: MB/s of one capture, 1 MB is 1,000,000 bytes. It builds
+nothing, and no gate runs it: no speed is promised.
 """
 import os
 import subprocess
@@ -31,7 +31,8 @@ def messages(length):
     return subprocess.run([os.path.join(TOP, "bench/messages_of.py"), str(length)], stdout=subprocess.PIPE, check=True).stdout
 
 
-def with_another_last_frame(capture):
+def change_last_frame(capture):
+    """A capture with another sequence number in its last message."""
     at = 0
     while True:
         after = at + (int.from_bytes(capture[at:at + 4], "little") + 3) // 4 * 4
@@ -40,18 +41,18 @@ def with_another_last_frame(capture):
         at = after
 
 
-def seconds(words, source, sink):
-    with open(source, "rb") as given, open(sink, "wb") as taken:
+def seconds(command, source, sink):
+    with open(source, "rb") as stdin, open(sink, "wb") as stdout:
         begin = time.perf_counter()
-        subprocess.run(words, stdin=given, stdout=taken, check=True)
+        subprocess.run(command, stdin=stdin, stdout=stdout, check=True)
         return time.perf_counter() - begin
 
 
-def calls(source, other=None):
-    """The seconds of one check and of one comparison, each the least of the program's own rounds."""
-    with open(source, "rb") as given:
-        ran = subprocess.run([SPEED, *([other] if other else [])], stdin=given, stdout=subprocess.DEVNULL, stderr=subprocess.PIPE, check=True, text=True)
-    return {line.split()[0]: int(line.split()[1]) / 1e9 for line in ran.stderr.splitlines()}
+def call_seconds(source, other=None):
+    """The seconds of one call of `check` and one of `same`, each the best of the rounds that capture_speed makes."""
+    with open(source, "rb") as stdin:
+        process = subprocess.run([SPEED, *([other] if other else [])], stdin=stdin, stdout=subprocess.DEVNULL, stderr=subprocess.PIPE, check=True, text=True)
+    return {line.split()[0]: int(line.split()[1]) / 1e9 for line in process.stderr.splitlines()}
 
 
 def main():
@@ -66,20 +67,20 @@ def main():
                 open(at(file), "wb").write(capture)
             times = {}
             for _ in range(ROUNDS):
-                took = {
+                round_times = {
                     "cat": seconds(["cat"], at("one"), at("out")),
                     "cmp": seconds(["cmp", at("one"), at("copy")], os.devnull, os.devnull),
                     "norm": seconds([NORM, "norm", LIMIT], at("one"), at("text")),
-                    **calls(at("one")),
+                    **call_seconds(at("one")),
                 }
-                times = {word: min(took[word], times.get(word, took[word])) for word in took}
-            speed = {word: len(capture) / time_ / 1e6 for word, time_ in times.items()}
+                times = {program: min(time_, times.get(program, time_)) for program, time_ in round_times.items()}
+            speed = {program: len(capture) / time_ / 1e6 for program, time_ in times.items()}
             print("%-24s %8.0f %8.0f %8.0f %8.0f %8.0f %14.1f" % (
                 name, speed["cat"], speed["cmp"], speed["norm"], speed["check"], speed["same"], speed["check"] / speed["norm"]))
             if name == "samples":
-                open(at("last"), "wb").write(capture[:-len(group)] + with_another_last_frame(group))
+                open(at("last"), "wb").write(capture[:-len(group)] + change_last_frame(group))
                 for label, other in (("their normal text", "text"), ("another last message", "last")):
-                    best = min(calls(at("one"), at(other))["same"] for _ in range(ROUNDS))
+                    best = min(call_seconds(at("one"), at(other))["same"] for _ in range(ROUNDS))
                     print("%-24s %8s %8s %8s %8s %8.0f" % ("  same, " + label, "", "", "", "", len(capture) / best / 1e6))
 
 

@@ -3,9 +3,9 @@
 #
 #     bench/fuzz.sh SECONDS [FOLDER]
 #
-# It needs clang++ with libFuzzer and Python, takes the library of the folder LINKCAP_LIB_DIR or makes it by
-# bindings/c/build.sh, and writes inputs of new coverage to FOLDER/found, else to a folder that goes at the end. The status
-# is 0 if no law was broken; an input that broke one is written to FOLDER, or to the current one. CXX names another clang++.
+# It needs clang++ with libFuzzer, and Python. It takes the library of the folder LINKCAP_LIB_DIR, or builds it with
+# bindings/c/build.sh. Inputs of new coverage go to FOLDER/found, or are dropped at the end if FOLDER isn't given. The status
+# is 0 if no law was broken; an input that broke one goes to FOLDER, or to the current folder. CXX names another clang++.
 # No gate runs it.
 set -euo pipefail
 [ $# -ge 1 ] && [ $# -le 2 ] || { echo "usage: bench/fuzz.sh SECONDS [FOLDER]" >&2; exit 2; }

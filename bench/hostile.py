@@ -1,19 +1,21 @@
 #!/usr/bin/env python3
-"""Makes broken captures, and holds what the programs answer against laws that want no second implementation.
+"""Makes broken captures, and checks the results of the programs by laws, without a second implementation.
 
     bench/hostile.sh [SEED [COUNT]]
 
-Captures come in groups of siblings under one limit: mutations of one sample or vector. Of each capture it is held that
+Captures come in groups of siblings under one limit: mutations of one sample or vector. These are the laws of a capture:
 
-- whole, in pieces of 1, 7 and 100 bytes, and checked, it has one answer (the program vectors sees to that);
-- a fault's place is a multiple of 4 inside the capture, and what stands before it is legal, with the texts told;
-- its normal text is legal, its own normal text, as long as told, and at most 77 times as long as the capture;
-- it means the same as its text, and as its neighbour exactly where their texts are equal; a pair with a fault has the
-  first one of the first capture, else of the second;
-- linkcap itself, on every thousandth, gives that text, fault and status, with no more addresses than 32 MB and 100
-  times the longest frame.
+- The whole capture, its pieces of 1, 7 and 100 bytes, and the call `check` have one result. The program vectors compares
+  these.
+- The offset of a fault is a multiple of 4 inside the capture. The capture up to there is legal, and its normal text is the
+  text of the result.
+- The normal text is legal and canonical, has the length of the result, and is at most 77 times as long as the capture.
+- The capture means the same as its normal text. It means the same as its neighbour if and only if their texts are equal. A
+  pair with a fault has the first fault of the first capture, or else that of the second.
+- Of every thousandth capture, linkcap gives this text, fault and status, in an address space of 32 MB and 100 times the
+  longest frame.
 
-It prints counts, and each capture that breaks a law; the status is 1 where one does.
+It prints counts, and the captures that break a law. The status is 1 if one does.
 """
 import collections
 import multiprocessing
@@ -55,24 +57,24 @@ def number(data, at, size):
     return int.from_bytes(data[at:at + size], "little")
 
 
-def put(data, at, size, value):
+def set_number(data, at, size, value):
     data[at:at + size] = (value % 256 ** size).to_bytes(size, "little")
 
 
-def aligned(length):
+def round_up(length):
     return (length + 3) // 4 * 4
 
 
 def frames(data):
-    """The starts of the frames, as far as their lengths lead."""
+    """The offsets of the frames, each found by the length of the frame before it."""
     at = 0
     while at + 16 <= len(data):
         yield at
-        at += aligned(max(16, number(data, at, 4)))
+        at += round_up(max(16, number(data, at, 4)))
 
 
 def attributes(data, begin, end, depth=0):
-    """The starts of attributes, and of what looks like attributes inside them."""
+    """The offsets of attributes, and of bytes inside them that may be attributes."""
     at = begin
     while at + 4 <= end:
         length = number(data, at, 2)
@@ -81,22 +83,22 @@ def attributes(data, begin, end, depth=0):
         yield at
         if depth < 5 and length >= 8:
             yield from attributes(data, at + 4, at + length, depth + 1)
-        at += aligned(length)
+        at += round_up(length)
 
 
 def all_attributes(data):
-    found = []
+    offsets = []
     for at in frames(data):
         if number(data, at + 4, 2) in LINKS:
-            found += attributes(data, at + 32, min(len(data), at + number(data, at, 4)))
-    return found
+            offsets += attributes(data, at + 32, min(len(data), at + number(data, at, 4)))
+    return offsets
 
 
 def flip(rng, data):
     data[rng.randrange(len(data))] ^= 1 << rng.randrange(8)
 
 
-def other_byte(rng, data):
+def replace_byte(rng, data):
     data[rng.randrange(len(data))] = rng.choice([0, 1, 2, 3, 4, 255, rng.randrange(256)])
 
 
@@ -109,103 +111,104 @@ def grow(rng, data):
     data[at:at] = bytes(rng.choice([0, 0, rng.randrange(256)]) for _ in range(rng.choice([1, 2, 3, 4, 8])))
 
 
-def frame_length(rng, data):
+def change_frame_length(rng, data):
     at = rng.choice(list(frames(data)) or [0])
     length = number(data, at, 4)
-    put(data, at, 4, rng.choice([length - 1, length + 1, length - 4, length + 4, GREATEST, *SPECIAL]))
+    set_number(data, at, 4, rng.choice([length - 1, length + 1, length - 4, length + 4, GREATEST, *SPECIAL]))
 
 
-def frame_type(rng, data):
-    put(data, rng.choice(list(frames(data)) or [0]) + 4, 2, rng.choice([*range(21), 65535]))
+def change_frame_type(rng, data):
+    set_number(data, rng.choice(list(frames(data)) or [0]) + 4, 2, rng.choice([*range(21), 65535]))
 
 
-def attribute_length(rng, data):
-    found = all_attributes(data)
-    if found:
-        at = rng.choice(found)
+def change_attribute_length(rng, data):
+    offsets = all_attributes(data)
+    if offsets:
+        at = rng.choice(offsets)
         length = number(data, at, 2)
-        put(data, at, 2, rng.choice([length - 1, length + 1, length - 4, length + 4, *SPECIAL]))
+        set_number(data, at, 2, rng.choice([length - 1, length + 1, length - 4, length + 4, *SPECIAL]))
 
 
-def attribute_kind(rng, data):
-    found = all_attributes(data)
-    if found:
-        at = rng.choice(found)
+def change_attribute_kind(rng, data):
+    offsets = all_attributes(data)
+    if offsets:
+        at = rng.choice(offsets)
         kind = number(data, at + 2, 2)
         flags = rng.choice([0, 16384, 32768, 49152])
-        put(data, at + 2, 2, rng.choice([kind % 16384 | flags, rng.randrange(70) | flags, kind]))
+        set_number(data, at + 2, 2, rng.choice([kind % 16384 | flags, rng.randrange(70) | flags, kind]))
 
 
-def resize(data, place, end, change):
-    """Tells the frame and the attributes around a place that what ends there has another size."""
+def resize_containers(data, start, end, change):
+    """Adds `change` to the lengths of the frame and of the attributes around an attribute from `start` to `end`."""
     for at in all_attributes(data):
-        if at < place and at + number(data, at, 2) >= end:
-            put(data, at, 2, number(data, at, 2) + change)
+        if at < start and at + number(data, at, 2) >= end:
+            set_number(data, at, 2, number(data, at, 2) + change)
     for at in frames(data):
-        if at < place < at + number(data, at, 4):
-            put(data, at, 4, number(data, at, 4) + change)
+        if at < start < at + number(data, at, 4):
+            set_number(data, at, 4, number(data, at, 4) + change)
             return
 
 
-def double(rng, data):
-    """Twice the same attribute."""
-    found = all_attributes(data)
-    if found:
-        at = rng.choice(found)
-        size = aligned(number(data, at, 2))
+def duplicate(rng, data):
+    """Inserts a copy of an attribute before it."""
+    offsets = all_attributes(data)
+    if offsets:
+        at = rng.choice(offsets)
+        size = round_up(number(data, at, 2))
         copy = data[at:at + size]
-        resize(data, at, at + number(data, at, 2), len(copy))
+        resize_containers(data, at, at + number(data, at, 2), len(copy))
         data[at:at] = copy
 
 
 def nest(rng, data):
-    """An attribute inside up to 12 others."""
-    found = all_attributes(data)
-    if not found:
+    """Puts an attribute into a chain of up to 12 others."""
+    offsets = all_attributes(data)
+    if not offsets:
         return
-    at = rng.choice(found)
+    at = rng.choice(offsets)
     size = number(data, at, 2)
     inner = bytes(data[at:at + size])
     for _ in range(rng.randrange(1, 13)):
         inner += bytes(-len(inner) % 4)
         kind = rng.choice([1, 2, 5, 18, 22, 24, 26, 52, number(data, at + 2, 2)])
         inner = min(65535, len(inner) + 4).to_bytes(2, "little") + (kind % 65536).to_bytes(2, "little") + inner
-    resize(data, at, at + size, aligned(len(inner)) - aligned(size))
-    data[at:at + aligned(size)] = inner + bytes(-len(inner) % 4)
+    resize_containers(data, at, at + size, round_up(len(inner)) - round_up(size))
+    data[at:at + round_up(size)] = inner + bytes(-len(inner) % 4)
 
 
 def lengthen(rng, data):
-    """An attribute of some 65535 bytes; seldom, since it takes its time."""
-    found = all_attributes(data)
-    if found and rng.random() < 0.02:
-        at = rng.choice(found)
+    """Lengthens an attribute to about 65535 bytes. It does so seldom, since these captures take long."""
+    offsets = all_attributes(data)
+    if offsets and rng.random() < 0.02:
+        at = rng.choice(offsets)
         size = number(data, at, 2)
         more = rng.choice(SPECIAL[-5:]) - size
         if more > 0:
-            resize(data, at, at + size, aligned(size + more) - aligned(size))
-            data[at + aligned(size):at + aligned(size)] = bytes(aligned(size + more) - aligned(size))
-            put(data, at, 2, size + more)
+            resize_containers(data, at, at + size, round_up(size + more) - round_up(size))
+            data[at + round_up(size):at + round_up(size)] = bytes(round_up(size + more) - round_up(size))
+            set_number(data, at, 2, size + more)
 
 
-def padding(rng, data):
-    """Other bytes where an attribute's padding is."""
+def fill_padding(rng, data):
+    """Writes random bytes into the padding of attributes."""
     for at in all_attributes(data):
         length = number(data, at, 2)
-        for place in range(at + length, min(len(data), at + aligned(length))):
-            data[place] = rng.randrange(256)
+        for index in range(at + length, min(len(data), at + round_up(length))):
+            data[index] = rng.randrange(256)
 
 
-def again(rng, data):
-    """The capture twice, or a frame of it behind it."""
+def append_copy(rng, data):
+    """Appends a copy of the capture, from one of its frames on."""
     starts = list(frames(data))
     data += bytes(-len(data) % 4) + (data[rng.choice(starts):] if starts else data)
 
 
-MUTATIONS = [flip, other_byte, cut, grow, frame_length, frame_type, attribute_length, attribute_kind, attribute_kind,
-             double, nest, lengthen, padding, padding, again]
+MUTATIONS = [flip, replace_byte, cut, grow, change_frame_length, change_frame_type, change_attribute_length,
+             change_attribute_kind, change_attribute_kind, duplicate, nest, lengthen, fill_padding, fill_padding,
+             append_copy]
 
 
-def mutated(rng, base):
+def mutate(rng, base):
     data = bytearray(base)
     for _ in range(rng.choice([0, 1, 1, 1, 2, 3])):
         if data:
@@ -214,48 +217,48 @@ def mutated(rng, base):
 
 
 def groups(seed, sources):
-    """Siblings, and their limit."""
+    """Yields a limit and a group of siblings, GROUPS times."""
     rng = random.Random(seed)
     for _ in range(GROUPS):
         base = rng.choice(sources)
         near = number(base, 0, 4) + rng.randrange(-4, 60)
         limit = rng.choice([*LIMITS, max(16, min(near, GREATEST))])
-        yield limit, [mutated(rng, base) for _ in range(GROUP)]
+        yield limit, [mutate(rng, base) for _ in range(GROUP)]
 
 
-def answers(kind, lines):
-    """What the program vectors answers cases of a kind, each answer in a line."""
-    text = "".join(kind + " " + line for line in lines)
-    run = subprocess.run([program("vectors")], input=text.encode(), stdout=subprocess.PIPE)
-    found = run.stdout.decode().splitlines()
-    if run.returncode == 0 and len(found) == len(lines):
-        return found
-    if len(lines) == 1:
-        return ["disagrees with itself"]
-    half = len(lines) // 2
-    return answers(kind, lines[:half]) + answers(kind, lines[half:])
+def run_vectors(kind, cases):
+    """The results of the program vectors for cases of a kind, each a line; `inconsistent` if it ends with an error."""
+    text = "".join(kind + " " + case for case in cases)
+    process = subprocess.run([program("vectors")], input=text.encode(), stdout=subprocess.PIPE)
+    results = process.stdout.decode().splitlines()
+    if process.returncode == 0 and len(results) == len(cases):
+        return results
+    if len(cases) == 1:
+        return ["inconsistent"]
+    half = len(cases) // 2
+    return run_vectors(kind, cases[:half]) + run_vectors(kind, cases[half:])
 
 
-def fault_place(told):
-    return int(told.rsplit(" ", 1)[1]) if " at " in told else None
+def fault_offset(fault):
+    return int(fault.rsplit(" ", 1)[1]) if " at " in fault else None
 
 
-def law_of_one(limit, capture, answer):
-    """The text that is told, the fault or None, and the law that is broken, or None."""
-    if " " not in answer:
-        return "", None, answer
-    text, told = answer.split(" ", 1)
+def check_result(capture, result):
+    """The text in hex and the fault or None of a result of `norm`, and the law that the result breaks, or None."""
+    if " " not in result:
+        return "", None, result
+    text, rest = result.split(" ", 1)
     size = len(text) // 2
-    place = fault_place(told)
-    if place is not None:
-        if place % 4 or place >= len(capture):
-            return text, told, "a fault outside the capture"
-        return text, told, "long texts before a fault" if size > 77 * place else None
-    numbers = told.split(" ")
+    offset = fault_offset(rest)
+    if offset is not None:
+        if offset % 4 or offset >= len(capture):
+            return text, rest, "a fault outside the capture"
+        return text, rest, "a long text before a fault" if size > 77 * offset else None
+    numbers = rest.split(" ")
     if len(numbers) != 3 or not all(word.isdigit() for word in numbers):
-        return text, None, "an answer of another form"
+        return text, None, "a result of another format"
     if int(numbers[2]) != size:
-        return text, None, "another length is told"
+        return text, None, "a text of another length"
     return text, None, "a long text" if size > 77 * len(capture) else None
 
 
@@ -263,59 +266,62 @@ def longest_frame(capture):
     return max((min(number(capture, at, 4), len(capture) - at) for at in frames(capture)), default=0)
 
 
-def run_linkcap(limit, capture, text, told):
-    """The law that linkcap breaks: it answers as the program vectors did, in the addresses that the longest frame wants."""
-    room = 32000000 + 100 * longest_frame(capture)
-    run = subprocess.run([program("linkcap"), "norm", str(limit)], input=capture, capture_output=True,
-                         preexec_fn=lambda: resource.setrlimit(resource.RLIMIT_AS, (room, room)))
-    if run.returncode != (2 if told else 0) or run.stderr.decode() != (told + "\n" if told else ""):
-        return "linkcap tells something else"
-    return None if run.stdout.hex() == text else "linkcap writes something else"
+def check_linkcap(limit, capture, text, fault):
+    """The law that linkcap breaks, or None. It has to give this text and fault in an address space for the longest frame."""
+    size = 32000000 + 100 * longest_frame(capture)
+    process = subprocess.run([program("linkcap"), "norm", str(limit)], input=capture, capture_output=True,
+                             preexec_fn=lambda: resource.setrlimit(resource.RLIMIT_AS, (size, size)))
+    if process.returncode != (2 if fault else 0) or process.stderr.decode() != (fault + "\n" if fault else ""):
+        return "linkcap reports another fault"
+    return None if process.stdout.hex() == text else "linkcap writes another text"
 
 
-def sweep(job):
-    """Judges one chunk. Gives counts, and the captures that break a law."""
+def case_line(limit, *captures):
+    return " ".join([str(limit), *captures]) + "\n"
+
+
+def check_chunk(job):
+    """The counts of one chunk of captures, and (limit, capture, law) of each capture that breaks a law."""
     seed, sources = job
-    counts, broken = collections.Counter(), []
+    counts, violations = collections.Counter(), []
     cases = [(limit, capture) for limit, siblings in groups(seed, sources) for capture in siblings]
-    line = lambda limit, *captures: " ".join([str(limit), *captures]) + "\n"
-    found = answers("norm", [line(limit, capture.hex()) for limit, capture in cases])
-    again_lines, pair_lines, wanted, wanted_pairs = [], [], [], []
-    judged = []
-    for index, ((limit, capture), answer) in enumerate(zip(cases, found)):
-        text, told, law = law_of_one(limit, capture, answer)
-        judged.append((text, told))
+    text_cases, expected_texts, pair_cases, expected_pairs = [], [], [], []
+    results = run_vectors("norm", [case_line(limit, capture.hex()) for limit, capture in cases])
+    previous = None
+    for index, ((limit, capture), result) in enumerate(zip(cases, results)):
+        text, fault, law = check_result(capture, result)
         counts["captures"] += 1
-        counts[told.rsplit(" at ", 1)[0] if told else "legal"] += 1
+        counts[fault.rsplit(" at ", 1)[0] if fault else "legal"] += 1
         if law is None and index % 1000 == 0:
-            law = run_linkcap(limit, capture, text, told)
+            law = check_linkcap(limit, capture, text, fault)
             counts["runs of linkcap"] += 1
         if law:
-            broken.append((limit, capture.hex(), law))
-        again_lines.append(line(limit, text))
-        wanted.append((text, limit, capture))
-        if told:
-            again_lines.append(line(limit, capture[:fault_place(told)].hex()))
-            wanted.append((text, limit, capture))
+            violations.append((limit, capture.hex(), law))
+        text_cases.append(case_line(limit, text))
+        expected_texts.append((text, limit, capture))
+        if fault:
+            text_cases.append(case_line(limit, capture[:fault_offset(fault)].hex()))
+            expected_texts.append((text, limit, capture))
         else:
-            pair_lines.append(line(limit, capture.hex(), text))
-            wanted_pairs.append(("same", limit, capture))
+            pair_cases.append(case_line(limit, capture.hex(), text))
+            expected_pairs.append(("same", limit, capture))
         if index % GROUP:
-            before, told_before = judged[index - 1]
-            pair_lines.append(line(limit, cases[index - 1][1].hex(), capture.hex()))
-            answer = "first: " + told_before if told_before else "second: " + told if told else (
-                "same" if before == text else "different")
-            wanted_pairs.append((answer, limit, capture))
-    for answer, (text, limit, capture) in zip(answers("norm", again_lines), wanted):
-        counts["texts and fronts"] += 1
-        if not answer.startswith(text + " ") or fault_place(answer) is not None:
-            broken.append((limit, capture.hex(), "a text or a front has another text"))
-    for answer, (told, limit, capture) in zip(answers("same", pair_lines), wanted_pairs):
+            previous_text, previous_fault = previous
+            pair_cases.append(case_line(limit, cases[index - 1][1].hex(), capture.hex()))
+            expected = "first: " + previous_fault if previous_fault else "second: " + fault if fault else (
+                "same" if previous_text == text else "different")
+            expected_pairs.append((expected, limit, capture))
+        previous = text, fault
+    for result, (text, limit, capture) in zip(run_vectors("norm", text_cases), expected_texts):
+        counts["texts and legal prefixes"] += 1
+        if not result.startswith(text + " ") or fault_offset(result) is not None:
+            violations.append((limit, capture.hex(), "a text or a legal prefix has another text"))
+    for result, (expected, limit, capture) in zip(run_vectors("same", pair_cases), expected_pairs):
         counts["pairs"] += 1
-        counts["pairs: " + (answer.split(":")[0])] += 1
-        if answer != told:
-            broken.append((limit, capture.hex(), "a pair is %s and not %s" % (answer, told)))
-    return counts, broken
+        counts["pairs: " + (result.split(":")[0])] += 1
+        if result != expected:
+            violations.append((limit, capture.hex(), "a pair is %s, expected %s" % (result, expected)))
+    return counts, violations
 
 
 def main():
@@ -325,10 +331,10 @@ def main():
     counts, wrong = collections.Counter(), 0
     with multiprocessing.Pool(max(1, (os.cpu_count() or 2) - 1)) as pool:
         jobs = ((seed * 1000003 + chunk, sources) for chunk in range(chunks))
-        for found, broken in pool.imap_unordered(sweep, jobs):
-            counts += found
-            wrong += len(broken)
-            for limit, capture, law in broken[:5]:
+        for chunk_counts, violations in pool.imap_unordered(check_chunk, jobs):
+            counts += chunk_counts
+            wrong += len(violations)
+            for limit, capture, law in violations[:5]:
                 print("WRONG %s: %d %s" % (law, limit, capture), flush=True)
     for name, times in sorted(counts.items()):
         print("%9d %s" % (times, name))

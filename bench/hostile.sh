@@ -1,11 +1,10 @@
 #!/usr/bin/env bash
-# Judges broken captures by laws that want no second implementation.
+# Checks the results of the programs on broken captures by laws, without a second implementation.
 #
 #     bench/hostile.sh [SEED [COUNT]]
 #
-# makes COUNT captures (1000000 where none is given) from the samples and the vectors by the mutations of
-# bench/hostile.py, the same ones for the same SEED (1), and runs the programs vectors and linkcap on them. It builds
-# nothing, and no gate runs it.
+# bench/hostile.py makes COUNT captures (1000000) from the samples and the vectors by mutations, the same ones for the same
+# SEED (1), and runs the programs vectors and linkcap on them. It builds nothing, and no gate runs it.
 set -euo pipefail
 cd "$(dirname "$0")/.."
 

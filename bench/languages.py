@@ -4,11 +4,10 @@ processor time, in one run pinned to one core.
 
     bench/languages.py [SECONDS]
 
-SECONDS is how long each call is timed for, 1 where none is given; of five rounds in which all take turns the best counts. It wants what
-bindings/check.sh does, Debian's package libmnl-dev, and crates/linkcap/out/linkcap; PYTHON names the Python that has
+Each call is timed for SECONDS, 1 by default, in five rounds in which all take turns; the best round counts. It needs the
+same as bindings/check.sh, Debian's package libmnl-dev, and crates/linkcap/out/linkcap. PYTHON names the Python that has
 pyroute2. `norm` is the program's processor time, user and system, over 50 MB of the same messages from file to file, less
-that of `cat`: its reading and writing. It builds nothing in the repository, and no gate runs it: speed is measured here,
-and promised nowhere.
+that of `cat`, for reading and writing. It builds nothing in the repository, and no gate runs it: no speed is promised.
 """
 import os
 import shutil
@@ -31,29 +30,30 @@ def samples():
     return b"".join(open(os.path.join(TOP, "samples", name), "rb").read() for name in ("get-veth.bin", "notify-vrf.bin"))
 
 
-def processor_time(words, source):
+def processor_time(command, source):
     """The processor time of a run from file to file."""
-    with open(source, "rb") as given, tempfile.TemporaryFile() as taken:
-        child = subprocess.Popen(words, stdin=given, stdout=taken)
-        _, status, used = os.wait4(child.pid, 0)
-    assert status == 0, words
-    return used.ru_utime + used.ru_stime
+    with open(source, "rb") as stdin, tempfile.TemporaryFile() as stdout:
+        child = subprocess.Popen(command, stdin=stdin, stdout=stdout)
+        _, status, usage = os.wait4(child.pid, 0)
+    assert status == 0, command
+    return usage.ru_utime + usage.ru_stime
 
 
 def run_round(capture, work, programs, environment, seconds):
-    """Nanoseconds of one call each; those of `norm` and `cat` for as many bytes."""
+    """The nanoseconds of one call over the capture, by name; of `norm` and `cat` those for as many bytes."""
     source = os.path.join(work, "input")
-    times = os.path.getsize(source) // len(capture)
-    took = {"norm": processor_time([NORM, "norm"], source) * 1e9 / times, "cat": processor_time(["cat"], source) * 1e9 / times}
-    for language, words in programs.items():
-        ran = subprocess.run([*words, seconds], input=capture, stdout=subprocess.PIPE, env=environment, check=True)
-        for line in ran.stdout.decode().splitlines():
+    copies = os.path.getsize(source) // len(capture)
+    times = {"norm": processor_time([NORM, "norm"], source) * 1e9 / copies, "cat": processor_time(["cat"], source) * 1e9 / copies}
+    for language, command in programs.items():
+        process = subprocess.run([*command, seconds], input=capture, stdout=subprocess.PIPE, env=environment, check=True)
+        for line in process.stdout.decode().splitlines():
             call, nanoseconds = line.split()
-            took[f"{language} {call}"] = float(nanoseconds)
-    return took
+            times[f"{language} {call}"] = float(nanoseconds)
+    return times
 
 
 def build(work):
+    """The command of each language's program, and the environment in which they run."""
     lib = os.path.join(work, "lib")
     subprocess.run([os.path.join(TOP, "bindings/c/build.sh"), lib], check=True)
     flags = subprocess.run(["pkg-config", "--cflags", "--libs", "libmnl"], stdout=subprocess.PIPE, check=True, text=True).stdout.split()
@@ -84,11 +84,11 @@ def main():
             with open(os.path.join(work, "input"), "wb") as file:
                 file.write(capture * (50000000 // len(capture)))
             rounds = [run_round(capture, work, programs, environment, seconds) for _ in range(ROUNDS)]
-            best = {label: min(took[label] for took in rounds) for label in rounds[0]}
+            best = {label: min(times[label] for times in rounds) for label in rounds[0]}
             best = {"norm, less reading and writing": best.pop("norm") - best.pop("cat"), **best}
             print(f"{name}: {len(capture)} bytes a call")
-            for label, took in best.items():
-                print(f"  {label:32} {1e9 / took:12.0f} calls a second {len(capture) * 1e3 / took:9.0f} MB/s", flush=True)
+            for label, nanoseconds in best.items():
+                print(f"  {label:32} {1e9 / nanoseconds:12.0f} calls a second {len(capture) * 1e3 / nanoseconds:9.0f} MB/s", flush=True)
 
 
 main()

@@ -3,7 +3,7 @@
 
     bench/messages_of.py LENGTH
 
-LENGTH is at least 44. Each has a name, and attributes of 36 bytes of a kind that no table has.
+LENGTH is at least 44. Each message has a name, and attributes of 36 bytes of a kind that no table has.
 """
 import struct
 import sys

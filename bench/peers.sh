@@ -1,25 +1,25 @@
 #!/usr/bin/env bash
-# Compares `linkcap norm` with what others do with the same bytes, in one run: by the clock, by the processor's time of
-# the program itself (user), and by that with the kernel's for it (cpu).
+# Compares `linkcap norm` with other programs on the same bytes, in one run: by the clock, by the processor time of the
+# program itself (user), and by that and the kernel's time for it (cpu).
 #
 #     bench/peers.sh [PROGRAM [BEFORE [MEGABYTES]]]
 #
-# PROGRAM is crates/linkcap/out/linkcap where none is given, BEFORE an older one beside it (`-` for none), and MEGABYTES
-# 50. Beside them are `cat`, libnl's objects, one for each message, and a walk by libmnl over all attributes, which
-# checks sizes and writes nothing: two small programs in bench/peers/, built here from Debian's packages libnl-3-dev,
-# libnl-route-3-dev and libmnl-dev. They read the input whole, and go through it once. The last column is the walk from
-# memory: what four rounds more over the same bytes take.
+# PROGRAM is crates/linkcap/out/linkcap by default, BEFORE an older version of it (by default `-`, for none), and MEGABYTES
+# 50. The others are `cat`; libnl, which makes an object of each message; and libmnl, which walks over all attributes, checks
+# sizes and writes nothing. The last two are small programs in bench/peers/, built here with Debian's packages libnl-3-dev,
+# libnl-route-3-dev and libmnl-dev. They read the whole input, and go through it once. The last column is libmnl's walk in
+# memory: the mean time of four more walks over the same bytes.
 #
-# The inputs are the samples that a kernel sent (of a request with a peer inside libnl 3.7.0 makes no object: it
-# crashes); a dump of the kernel's own links, where `ip netns` is allowed: 50 veth pairs, 50 bridges, 50 vxlan, 50 vrf,
-# 50 dummy and 50 vlan links, as far as the kernel has drivers for them; and messages of 82, 1000 and 16000 bytes. No
-# gate runs this. Of five rounds in which all take turns the best time counts. 1 MB is 1,000,000 bytes.
+# The inputs are the samples that a kernel sent (libnl 3.7.0 crashes on a request with a peer inside); a dump of 50 veth
+# pairs, 50 bridges, 50 vxlan, 50 vrf, 50 dummy and 50 vlan links, if `ip netns` is allowed and as far as the kernel has
+# drivers for them; and messages of 82, 1000 and 16000 bytes. No gate runs this. The programs take turns in five rounds, and
+# the best time of each counts. 1 MB is 1,000,000 bytes.
 set -euo pipefail
 cd "$(dirname "$0")/.."
 
 program=$(realpath "${1:-crates/linkcap/out/linkcap}")
 before=${2:--}
-wanted=$((${3:-50} * 1000000))
+least_size=$((${3:-50} * 1000000))
 rounds=5
 [ -x "$program" ] || { echo "no program at $program: build it first" >&2; exit 1; }
 work=$(mktemp -d)
@@ -45,7 +45,7 @@ make_dump() {
     ip netns exec "$netns" scripts/linkrec dump
 }
 
-# Runs a command from the input to an output; sets `took` to milliseconds by the clock, of the program, and of both.
+# run_once COMMAND..: runs a command on the input; sets `took` to its milliseconds by the clock, user, and user and system.
 run_once() {
     local TIMEFORMAT='%3R %3U %3S' whole user system
     rm -f "$work/output"
@@ -54,12 +54,13 @@ run_once() {
     took=($((10#${whole/./})) $((10#${user/./})) $((10#${user/./} + 10#${system/./})))
 }
 
-# Runs all over the group in this file, repeated; the best time of each kind counts.
+# compare NAME GROUP: runs all programs on the file GROUP, repeated up to the least size, and prints a line for each kind of
+# time.
 compare() {
     local name=$1 group=$2 size round i kind commands=() labels=()
     local -A best=()
     size=$(stat -c %s "$group")
-    for ((i = 0; i < (wanted + size - 1) / size; i++)); do cat "$group"; done > "$work/input"
+    for ((i = 0; i < (least_size + size - 1) / size; i++)); do cat "$group"; done > "$work/input"
     size=$(stat -c %s "$work/input")
     labels=(cat norm before objects walk walks)
     commands=("cat" "$program norm 4294967295" "$before norm 4294967295" "$work/objects" "$work/walk" "$work/walk 5")

@@ -3,17 +3,16 @@
 #
 #     bench/run.sh [PROGRAM [MEGABYTES [LENGTH]]]
 #
-# PROGRAM is crates/linkcap/out/linkcap where none is given, and MEGABYTES 50. The messages are those of the samples, or
-# RTM_NEWLINK messages of LENGTH bytes (at least 44), with attributes of 36 bytes.
+# PROGRAM is crates/linkcap/out/linkcap by default, and MEGABYTES 50. The messages are those of the samples, or RTM_NEWLINK
+# messages of LENGTH bytes (at least 44), with attributes of 36 bytes.
 #
-# It builds nothing and no gate runs it: speed is measured here, and promised nowhere. Each program reads one file and
-# writes another, so that no pipe is between. Of five rounds, in which the two take turns, the best time and the
-# greatest memory count. 1 MB is 1,000,000 bytes.
+# It builds nothing, and no gate runs it: no speed is promised. Each program reads one file and writes another, without a
+# pipe. The two take turns in five rounds; the best time and the greatest memory of each count. 1 MB is 1,000,000 bytes.
 set -euo pipefail
 cd "$(dirname "$0")/.."
 
 program=$(realpath "${1:-crates/linkcap/out/linkcap}")
-wanted=$((${2:-50} * 1000000))
+least_size=$((${2:-50} * 1000000))
 length=${3:-}
 rounds=5
 # The two dumps twice, the requests once: the mean frame has about 1000 bytes.
@@ -23,7 +22,7 @@ samples=(get-veth notify-vrf get-veth notify-vrf req-veth)
 work=$(mktemp -d)
 trap 'rm -rf "$work"' EXIT
 
-# One capture follows another where the first's size is a multiple of 4.
+# A capture may follow another one only if that one's size is a multiple of 4.
 make_group() {
     local files=() sample file
     for sample in "${samples[@]}"; do
@@ -38,7 +37,7 @@ make_group() {
 }
 
 if [ -n "$length" ]; then bench/messages_of.py "$length"; else make_group; fi > "$work/group"
-groups=$(((wanted + $(stat -c %s "$work/group") - 1) / $(stat -c %s "$work/group")))
+groups=$(((least_size + $(stat -c %s "$work/group") - 1) / $(stat -c %s "$work/group")))
 for ((i = 0; i < groups; i++)); do cat "$work/group"; done > "$work/input"
 size=$(stat -c %s "$work/input")
 
@@ -54,7 +53,7 @@ EOF
 )
 echo "input: $size bytes, $((frames * groups)) frames, mean $((size / (frames * groups))) bytes"
 
-# Runs a command from the input to an output of its own; sets `micros`, and `kilobytes` of peak resident memory.
+# run_once COMMAND..: runs a command on the input; sets `micros`, its time, and `kilobytes`, its peak resident memory.
 run_once() {
     local begin end
     rm -f "$work/output"
@@ -65,7 +64,7 @@ run_once() {
         micros=$((end - begin))
         kilobytes=$(tail -n 1 "$work/peak")
     else
-        # Counts a few megabytes of python3 itself where the command has less.
+        # If the command takes less memory than python3, the peak is that of python3, a few megabytes.
         read -r micros kilobytes < <(python3 - "$work/input" "$work/output" "$@" <<'EOF'
 import resource, subprocess, sys, time
 with open(sys.argv[1], "rb") as source, open(sys.argv[2], "wb") as sink:

@@ -3,10 +3,10 @@
 
     bench/same.py [PROGRAM [MEGABYTES]]
 
-PROGRAM is crates/linkcap/out/linkcap where none is given, and MEGABYTES 50. A capture of the samples is compared with
-a copy of itself, with its normal text, and with a copy that has another sequence number in its last message. Of five
-rounds the best time counts. Reading both files is timed apart, by a first file that is refused at its first byte, and
-taken off: MB/s of one side, 1 MB is 1,000,000 bytes. It builds nothing and no gate runs it.
+PROGRAM is crates/linkcap/out/linkcap by default, and MEGABYTES 50. It compares a capture of the samples with a copy, with
+its normal text, and with a copy that has another sequence number in its last message. The best time of five rounds counts,
+less the time for reading both files, which a first file gives that has a fault at its first byte: MB/s of one side, 1 MB is
+1,000,000 bytes. It builds nothing, and no gate runs it.
 """
 import os
 import subprocess
@@ -29,23 +29,24 @@ def last_frame(capture):
 
 
 def captures(megabytes):
-    """The captures by their names: one, its copies, and one that is refused at once."""
+    """The captures by name: `one`, its copies, and one that has a fault at its first byte."""
     group = b"".join(open(os.path.join(TOP, "samples", name + ".bin"), "rb").read() for name in SAMPLES)
     one = group * max(1, megabytes * 1000000 // len(group))
     last = bytearray(one)
     last[len(one) - len(group) + last_frame(group) + 8] ^= 1
-    return {"one": one, "copy": one, "last": bytes(last), "refused": bytes(4) + one[4:]}
+    return {"one": one, "copy": one, "last": bytes(last), "faulty": bytes(4) + one[4:]}
 
 
-def best(words, statuses, source=None, sink=None):
+def best_time(command, status, source=None, sink=None):
+    """The seconds of the best of several runs, which have to end with a status."""
     times = []
     for _ in range(ROUNDS):
-        with open(source or os.devnull, "rb") as given, open(sink or os.devnull, "wb") as taken:
+        with open(source or os.devnull, "rb") as stdin, open(sink or os.devnull, "wb") as stdout:
             begin = time.perf_counter()
-            status = subprocess.run(words, stdin=given, stdout=taken, stderr=subprocess.DEVNULL).returncode
+            process = subprocess.run(command, stdin=stdin, stdout=stdout, stderr=subprocess.DEVNULL)
             times.append(time.perf_counter() - begin)
-        if status not in statuses:
-            sys.exit("%s ended with status %d" % (" ".join(words), status))
+        if process.returncode != status:
+            sys.exit("%s ended with status %d" % (" ".join(command), process.returncode))
     return min(times)
 
 
@@ -59,14 +60,14 @@ def main():
             with open(at(name), "wb") as file:
                 file.write(capture)
         size = os.path.getsize(at("one"))
-        norm = best([program, "norm", limit], [0], at("one"), at("text"))
-        read = best([program, "same", at("refused"), at("one"), limit], [2])
-        print("%d bytes a side; reading both files %.0f MB/s" % (size, size / read / 1e6))
-        print("%-34s %8.0f MB/s" % ("norm", size / norm / 1e6))
-        print("%-34s %8.0f MB/s" % ("cmp with a copy", size / best(["cmp", at("one"), at("copy")], [0]) / 1e6))
-        for name, told, status in [("copy", "a copy", 0), ("text", "its normal text", 0), ("last", "another last message", 1)]:
-            took = best([program, "same", at("one"), at(name), limit], [status]) - read
-            print("%-34s %8.0f MB/s, %.1f times norm" % ("same with " + told, size / took / 1e6, norm / took))
+        norm_time = best_time([program, "norm", limit], 0, at("one"), at("text"))
+        read_time = best_time([program, "same", at("faulty"), at("one"), limit], 2)
+        print("%d bytes a side; reading both files %.0f MB/s" % (size, size / read_time / 1e6))
+        print("%-34s %8.0f MB/s" % ("norm", size / norm_time / 1e6))
+        print("%-34s %8.0f MB/s" % ("cmp with a copy", size / best_time(["cmp", at("one"), at("copy")], 0) / 1e6))
+        for name, label, status in [("copy", "a copy", 0), ("text", "its normal text", 0), ("last", "another last message", 1)]:
+            same_time = best_time([program, "same", at("one"), at(name), limit], status) - read_time
+            print("%-34s %8.0f MB/s, %.1f times norm" % ("same with " + label, size / same_time / 1e6, norm_time / same_time))
 
 
 if __name__ == "__main__":

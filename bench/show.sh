@@ -3,19 +3,19 @@
 #
 #     bench/show.sh [PROGRAM [MEGABYTES]]
 #
-# PROGRAM is crates/linkshow/out/linkshow where none is given, and MEGABYTES 50. Each reads one file and writes another;
-# of three rounds, in which all take turns, the best time counts. 1 MB is 1,000,000 bytes of the input. No gate runs this.
+# PROGRAM is crates/linkshow/out/linkshow by default, and MEGABYTES 50. Each program reads one file and writes another. They
+# take turns in three rounds, and the best time of each counts. 1 MB is 1,000,000 bytes of the input. No gate runs this.
 set -euo pipefail
 cd "$(dirname "$0")/.."
 
 program=$(realpath "${1:-crates/linkshow/out/linkshow}")
-wanted=$((${2:-50} * 1000000))
+least_size=$((${2:-50} * 1000000))
 [ -x "$program" ] || { echo "no program at $program: build it first" >&2; exit 1; }
 work=$(mktemp -d)
 trap 'rm -rf "$work"' EXIT
 
 cat samples/get-veth.bin samples/notify-vrf.bin > "$work/group"
-groups=$(((wanted + $(stat -c %s "$work/group") - 1) / $(stat -c %s "$work/group")))
+groups=$(((least_size + $(stat -c %s "$work/group") - 1) / $(stat -c %s "$work/group")))
 for ((i = 0; i < groups; i++)); do cat "$work/group"; done > "$work/input"
 size=$(stat -c %s "$work/input")
 

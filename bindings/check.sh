@@ -3,10 +3,10 @@
 #
 #     bindings/check.sh
 #
-# It needs the command rt, and uses a compiler, valgrind, pkg-config, Python, pytest, mypy, numpy, pyroute2, the Pythons of
+# It needs the command rt. It uses a compiler, valgrind, pkg-config, Python, pytest, mypy, numpy, pyroute2, the Pythons of
 # pyenv, cargo, clippy, Debian's Rust and its package of the crate netlink-packet-route, go, strace and Debian's package of
-# vishvananda/netlink if they are there; it says and counts what it skipped. CC, CXX and PYTHON name others than cc, c++ and
-# python3. Builds are in a folder of their own, which goes at the end. The last line is `N passed, M failed, K skipped`.
+# vishvananda/netlink if they are installed, and prints and counts what it skips. CC, CXX and PYTHON name other programs than
+# cc, c++ and python3. It builds in a temporary folder. The last line is `N passed, M failed, K skipped`.
 set -uo pipefail
 cd "$(dirname "$0")/.."
 top=$PWD
@@ -18,16 +18,16 @@ cxx=${CXX:-c++}
 passed=0 failed=0 skipped=0
 export PYTHONDONTWRITEBYTECODE=1
 
-# Runs a command quietly, and counts it; its words are shown where it fails.
+# step NAME COMMAND..: runs a command, counts it, and prints the end of its output if it fails
 step() {
     local name=$1
     shift
-    if "$@" > "$work/words" 2>&1; then
+    if "$@" > "$work/log" 2>&1; then
         passed=$((passed + 1))
         echo "bindings: passed: $name"
     else
         failed=$((failed + 1))
-        tail -n 40 "$work/words"
+        tail -n 40 "$work/log"
         echo "bindings: FAILED: $name"
     fi
 }
@@ -47,13 +47,13 @@ finish() {
     exit
 }
 
-# The first block of code of a language on the page.
+# block LANGUAGE: the first block of code of a language on the page
 block() {
     awk -v fence="\`\`\`$1" '$0 == fence { inside = 1; next } inside && $0 == "```" { exit } inside' "$page"
 }
 
-# Writes the stored cases and results of a kind to files, without labels (lines of `# `). Results of `show`, the last
-# kind, have several lines.
+# cut_vectors KIND: writes the stored cases and results of a kind to files, without labels (lines that begin with `# `). Only
+# results of `show`, the last kind, have several lines.
 cut_vectors() {
     local kind=$1 first last='$'
     first=$(($(sed "/^$kind /,\$d; /^# /d" crates/vectors/stdin | wc -l) + 1))
@@ -62,26 +62,27 @@ cut_vectors() {
     sed -n "$first,${last}p" crates/vectors/stdout > "$work/$kind.results"
 }
 
-# Computes the vectors of a kind, and compares.
-results() {
-    local what=$1 kind=$2
+# compare_results CALL KIND PROGRAM..: compares the results of a call for the cases of a kind with the stored ones
+compare_results() {
+    local call=$1 kind=$2
     shift 2
-    [ -s "$work/$kind.cases" ] && "$@" "$what" < "$work/$kind.cases" | cmp - "$work/$kind.results"
+    [ -s "$work/$kind.cases" ] && "$@" "$call" < "$work/$kind.cases" | cmp - "$work/$kind.results"
 }
 
-all_results() {
+# compare_all_results NAME PROGRAM..: the same of all calls
+compare_all_results() {
     local name=$1
     shift
-    step "C, $name: norm" results norm norm "$@"
-    step "C, $name: norm in pieces" results pieces norm "$@"
-    step "C, $name: same" results same same "$@"
-    step "C, $name: show" results show show "$@"
-    step "C, $name: show in pieces" results show-pieces show "$@"
-    step "C, $name: quirks" results quirks spelling "$@"
-    step "C, $name: why" results why refusal "$@"
+    step "C, $name: norm" compare_results norm norm "$@"
+    step "C, $name: norm in pieces" compare_results pieces norm "$@"
+    step "C, $name: same" compare_results same same "$@"
+    step "C, $name: show" compare_results show show "$@"
+    step "C, $name: show in pieces" compare_results show-pieces show "$@"
+    step "C, $name: quirks" compare_results quirks spelling "$@"
+    step "C, $name: why" compare_results why refusal "$@"
 }
 
-shown_symbols() {
+exports_only_linkcap() {
     ! nm -D --defined-only "$lib/liblinkcap.so" | awk '$2 != "A" { print $3 }' | grep -v '^linkcap_' \
         && ! nm --defined-only --extern-only "$lib/liblinkcap.a" | awk 'NF == 3 { print $3 }' | grep -v '^linkcap_'
 }
@@ -90,7 +91,7 @@ page_in_c() {
     block c > "$work/norm.c"
     "$cc" -std=c11 -Wall -Wextra -Werror -I "$lib" -o "$work/norm" "$work/norm.c" "$lib/liblinkcap.a"
     "$work/norm" < samples/req-veth.bin | cmp - samples/req-veth.bin || return
-    # 3 MiB of what is its own normal text.
+    # 3 MiB of a capture that is already canonical.
     yes samples/req-veth.bin | head -n 3000 | xargs cat > "$work/long"
     [ "$(wc -c < "$work/long")" -gt $((3 << 20)) ] && "$work/norm" < "$work/long" | cmp - "$work/long" || return
     "$work/norm" < "$work/long" > /dev/full && return 1
@@ -120,15 +121,15 @@ END
     [ "$(cat samples/lo-request.bin samples/lo-request.bin | "$work/example")" = $'0 18\n48 18' ]
 }
 
-# What ./install installs: the page's program over the library, the programs, manuals and completion.
-installed() {
+# Runs ./install, and checks the page's program with the installed library, the programs, manuals and completion.
+check_installation() {
     ./install "$work/prefix" || return
     export PKG_CONFIG_PATH=$work/prefix/lib/pkgconfig
     "$cc" -o "$work/installed" "$work/norm.c" $(pkg-config --cflags --libs linkcap) "-Wl,-rpath,$work/prefix/lib" || return
     "$work/installed" < samples/req-veth.bin | cmp - samples/req-veth.bin || return
-    "$cc" -o "$work/archived" "$work/norm.c" $(pkg-config --cflags --libs linkcap-static) || return
-    ! readelf -d "$work/archived" | grep -q liblinkcap || return
-    "$work/archived" < samples/req-veth.bin | cmp - samples/req-veth.bin || return
+    "$cc" -o "$work/static" "$work/norm.c" $(pkg-config --cflags --libs linkcap-static) || return
+    ! readelf -d "$work/static" | grep -q liblinkcap || return
+    "$work/static" < samples/req-veth.bin | cmp - samples/req-veth.bin || return
     cmp "$(pkg-config --variable=archive linkcap)" "$lib/liblinkcap.a" || return
     "$work/prefix/bin/linkcap" norm < samples/req-veth.bin | cmp - samples/req-veth.bin || return
     "$work/prefix/bin/linkshow" < samples/req-veth.bin | cmp - samples/req-veth.lines || return
@@ -148,24 +149,24 @@ test_c() {
     step "C: build" "$cc" "${flags[@]}" -O2 -o "$work/results" bindings/c/tests/results.c "$lib/liblinkcap.a"
     step "C: build, shared" "$cc" "${flags[@]}" -O2 -o "$work/shared" bindings/c/tests/results.c -L "$lib" -llinkcap "-Wl,-rpath,$lib"
     step "C: build of the edges" "$cc" "${flags[@]}" -O2 -o "$work/edges" bindings/c/tests/edges.c "$lib/liblinkcap.a" "${wrap[@]}"
-    step "C: linkcap_* alone is shown" shown_symbols
+    step "C: only linkcap_* is exported" exports_only_linkcap
     for kind in norm same show refusal spelling; do cut_vectors $kind; done
-    all_results "static" "$work/results"
-    all_results "shared" "$work/shared"
+    compare_all_results "static" "$work/results"
+    compare_all_results "shared" "$work/shared"
     step "C: edges" "$work/edges" "${samples[@]}"
     local san=(-g -O1 -fsanitize=address,undefined -fno-sanitize-recover=all)
     if echo 'int main(void) { return 0; }' | "$cc" "${san[@]}" -x c -o "$work/none" - 2> /dev/null && "$work/none"; then
         step "C, sanitizers: build" "$cc" "${flags[@]}" "${san[@]}" -o "$work/sane" bindings/c/tests/results.c "$lib/liblinkcap.a"
         step "C, sanitizers: build of the edges" "$cc" "${flags[@]}" "${san[@]}" -o "$work/sane_edges" \
             bindings/c/tests/edges.c "$lib/liblinkcap.a" "${wrap[@]}"
-        all_results "sanitizers" "$work/sane"
+        compare_all_results "sanitizers" "$work/sane"
         step "C, sanitizers: edges" "$work/sane_edges" "${samples[@]}"
     else
         skip "C, sanitizers" "$cc has none here"
     fi
     if has valgrind; then
         local grind=(valgrind -q --error-exitcode=9 --leak-check=full --show-leak-kinds=all --errors-for-leak-kinds=all)
-        all_results "valgrind" "${grind[@]}" "$work/results"
+        compare_all_results "valgrind" "${grind[@]}" "$work/results"
         step "C, valgrind: edges" "${grind[@]}" "$work/edges" samples/req-veth.bin
     else
         skip "C, valgrind" "no valgrind"
@@ -181,11 +182,11 @@ test_c() {
     if ! has pkg-config; then
         skip "C: installed" "no pkg-config"
     else
-        step "C: installed" installed
+        step "C: installed" check_installation
     fi
 }
 
-# The first Python that has pytest, or else the first.
+# The first Python that has pytest, or else the first one.
 choose_python() {
     local candidate
     for candidate in ${PYTHON:-python3 /usr/bin/python3}; do
@@ -194,7 +195,7 @@ choose_python() {
     for candidate in ${PYTHON:-python3}; do has "$candidate" && { echo "$candidate"; return; }; done
 }
 
-# Interrupted calls on each other Python at hand: those of pyenv.
+# Tests interrupted calls with the other Pythons, those of pyenv.
 test_other_pythons() {
     local python version
     for python in "${PYENV_ROOT:-$HOME/.pyenv}"/versions/*/bin/python; do
@@ -225,7 +226,7 @@ test_python() {
     python=$(choose_python)
     [ -n "$python" ] || { skip Python "no Python"; return; }
     echo "bindings: $("$python" --version)"
-    if ! "$python" -m venv --system-site-packages "$work/venv" > "$work/words" 2>&1; then
+    if ! "$python" -m venv --system-site-packages "$work/venv" > "$work/log" 2>&1; then
         skip Python "no module venv"
         return
     fi
@@ -250,7 +251,7 @@ test_python() {
     fi
 }
 
-# Documentation is built where no library is found.
+# The documentation can be built without the library.
 rust_docs() {
     env -u LINKCAP_LIB_DIR PKG_CONFIG_PATH=/nonexistent PKG_CONFIG_LIBDIR=/nonexistent RUSTDOCFLAGS="-D warnings" \
         cargo doc -q --offline --no-deps --manifest-path bindings/rust/Cargo.toml
@@ -294,8 +295,8 @@ test_rust() {
     fi
 }
 
-# The library as it is installed, for pkg-config.
-installed_library() {
+# install_library PREFIX: installs the library for pkg-config
+install_library() {
     local name
     mkdir -p "$1/lib/pkgconfig" "$1/include"
     cp -P "$lib"/liblinkcap.* "$1/lib"
@@ -305,20 +306,20 @@ installed_library() {
     done
 }
 
-formatted_go() {
+go_is_formatted() {
     local unformatted
     unformatted=$(gofmt -l bindings/go)
     [ -z "$unformatted" ] || { echo "gofmt would change $unformatted"; return 1; }
 }
 
-# Without cgo a build fails, and the only error names what is needed.
+# A build without cgo fails, and its only error names the requirements.
 go_without_cgo() {
     ! env -C bindings/go CGO_ENABLED=0 go build ./... 2> "$work/errors" || return
     cat "$work/errors"
     [ "$(grep -c '^\./' "$work/errors")" -eq 1 ] && grep -q linkcap_needs_Linux_and_CGO_ENABLED_1_and_a_C_compiler "$work/errors"
 }
 
-# Requests of vishvananda/netlink beside golden files; those of LinkAdd itself need root and strace.
+# Compares requests of vishvananda/netlink with golden files. Those of LinkAdd need root and strace.
 test_vishvananda() {
     local folder=bindings/go/vishvananda_test
     if [ ! -d /usr/share/gocode/src/github.com/vishvananda/netlink ]; then
@@ -337,10 +338,10 @@ test_go() {
     has go || { skip Go "no go"; return; }
     has pkg-config || { skip Go "no pkg-config"; return; }
     echo "bindings: $(go version)"
-    installed_library "$work/go"
+    install_library "$work/go"
     export PKG_CONFIG_PATH=$work/go/lib/pkgconfig GOCACHE=$work/go/cache GOPROXY=off
     local test=(env -C bindings/go go test)
-    step "Go: format" formatted_go
+    step "Go: format" go_is_formatted
     step "Go: vet" env -C bindings/go go vet ./...
     step "Go: the calls" "${test[@]}" ./...
     step "Go: the calls, shared" env LD_LIBRARY_PATH="$work/go/lib" "${test[@]}" -tags linkcap_shared ./...
@@ -362,8 +363,8 @@ lib=$work/lib
 step "the library" bindings/c/build.sh "$lib"
 [ "$failed" -eq 0 ] || finish
 
-# Runs a part of the tests beside the others, in a folder of its own, which gets the counts.
-beside() {
+# start PART: runs a part of the tests in the background, in a separate folder, to which it writes the counts
+start() {
     (
         work=$work/$1 passed=0 failed=0 skipped=0
         mkdir "$work"
@@ -373,12 +374,12 @@ beside() {
 }
 
 parts=(c python other_pythons python_types rust go)
-for part in "${parts[@]}"; do beside "$part"; done
+for part in "${parts[@]}"; do start "$part"; done
 wait
 for part in "${parts[@]}"; do
     cat "$work/$part.log"
     [ -s "$work/$part/counts" ] || echo "0 1 0" > "$work/$part/counts"
-    read -r more broken left < "$work/$part/counts"
-    passed=$((passed + more)) failed=$((failed + broken)) skipped=$((skipped + left))
+    read -r part_passed part_failed part_skipped < "$work/$part/counts"
+    passed=$((passed + part_passed)) failed=$((failed + part_failed)) skipped=$((skipped + part_skipped))
 done
 finish

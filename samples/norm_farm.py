@@ -1,13 +1,13 @@
 #!/usr/bin/env python3
 """Normalises files on the workers of a Dask farm, and writes one line about each to standard output.
 
-    samples/norm_farm.py --workers 2 captures/*.bin > report.tsv                  processes here
-    samples/norm_farm.py --scheduler tcp://HOST:8786 captures/*.bin > report.tsv  a farm that is there
+    samples/norm_farm.py --workers 2 captures/*.bin > report.tsv                  by processes on this machine
+    samples/norm_farm.py --scheduler tcp://HOST:8786 captures/*.bin > report.tsv  on a running farm
     find captures -name '*.bin' | samples/norm_farm.py --workers 2 - > report.tsv
 
-Each task runs `norm_one.sh`, which stands beside this script, on one file, and gives back its line: the status, the
-file and the fault. So each worker has to see this folder and the files under the same names, and has the program. Lines
-come as the tasks end, in any order. The status is 0 where every file's is. Needs Dask's distributed, as in Debian's
+Each task runs `norm_one.sh`, in this script's folder, on one file, and returns its line: the status, the file and the
+fault. So each worker needs the program, and this folder and the files under the same names. Lines are written as the tasks
+end, in any order. The status is 0 if it is 0 for every file. It needs Dask's distributed, as in Debian's
 python3-distributed.
 """
 import argparse
@@ -17,7 +17,7 @@ import sys
 
 try:
     from distributed import Client, LocalCluster, as_completed
-except ImportError:  # told in main, behind --help
+except ImportError:  # reported in main, so that --help works
     Client = None
 
 NORM_ONE = os.path.join(os.path.dirname(os.path.realpath(__file__)), "norm_one.sh")

@@ -2,11 +2,12 @@
 """Draws the crates in layers, from crates.txt, into docs/architecture.md.
 
     tools/layers.py            writes the picture
-    tools/layers.py --check    ends with 1 where the page has another one
+    tools/layers.py --check    ends with status 1 if the page has another picture
 
-The picture is the block below the page's line `<!-- written by tools/layers.py -->`. A row is a depth: how many crates of
-this repository the longest chain of dependencies has that ends in a crate, itself counted. A column has the crates whose
-names begin with its own, and tells what follows; the last one has all others. Only Python is needed.
+The picture is the block below the page's line `<!-- written by tools/layers.py -->`. A row has the crates of one depth: the
+number of crates in the longest chain of dependencies in this repository that ends in a crate, which counts too. A column has
+the crates whose names begin with the column's name, without that beginning; the last column has all other crates. It needs
+only Python.
 """
 import itertools
 import re
@@ -15,71 +16,74 @@ from pathlib import Path
 
 TOP = Path(__file__).resolve().parent.parent
 PAGE = TOP / "docs" / "architecture.md"
-PLACE = re.compile(r"(<!-- written by tools/layers\.py -->\n```\n).*?(\n```\n)", re.S)
+PICTURE = re.compile(r"(<!-- written by tools/layers\.py -->\n```\n).*?(\n```\n)", re.S)
 COLUMNS = ["netlink_packet_core", "attribute", "link_info", "link_message", "link_capture", "link_lines"]
 OTHERS = "programs, users, tests"
-# Crates that have another column than their names say.
-ELSEWHERE = {"link_tables": "attribute", "link_interpreter": "attribute"}
-# Those whose depth is given below the picture.
-TOLD = ["netlink_packet_core", "link_info", "link_message", "link_capture", "link_lines", "linkcap", "linkshow"]
+# Crates in another column than that of their names
+OTHER_COLUMNS = {"link_tables": "attribute", "link_interpreter": "attribute"}
+# Crates whose depth is printed below the picture
+PRINTED_DEPTHS = ["netlink_packet_core", "link_info", "link_message", "link_capture", "link_lines", "linkcap", "linkshow"]
 
 
 def crates():
-    """What each crate stands on, by its name, in the file's order."""
+    """The direct dependencies of each crate, by the crate's name, in the file's order."""
     lines = (TOP / "crates.txt").read_text(encoding="utf-8").splitlines()
     parts = [line.partition(":") for line in lines if line and not line.startswith("#")]
-    return {name.split()[0]: below.split() for name, _, below in parts}
+    return {name.split()[0]: dependencies.split() for name, _, dependencies in parts}
 
 
-def depths(below):
-    """The depth of each crate. What stands on no crate of the repository has 1."""
-    found = {}
+def depths(dependencies):
+    """The depth of each crate. It is 1 for a crate that depends on no crate of the repository."""
+    depth_of = {}
 
     def depth(name):
-        if name not in found:
-            found[name] = 1 + max((depth(other) for other in below[name] if other in below), default=0)
-        return found[name]
+        if name not in depth_of:
+            depth_of[name] = 1 + max((depth(other) for other in dependencies[name] if other in dependencies), default=0)
+        return depth_of[name]
 
-    for name in below:
+    for name in dependencies:
         depth(name)
-    return found
+    return depth_of
 
 
 def column_of(name):
-    return ELSEWHERE.get(name) or next((column for column in COLUMNS if name == column or name.startswith(column + "_")), OTHERS)
+    return OTHER_COLUMNS.get(name) or next((column for column in COLUMNS if name == column or name.startswith(column + "_")), OTHERS)
 
 
-def told(name):
-    """A crate as its column tells it: a name that begins with the column's without that."""
+def short_name(name):
+    """The name of a crate in its column: without the column's name, if it begins with that."""
     column = column_of(name)
     return name[len(column):] if name.startswith(column + "_") else name
 
 
-def rows_of(depth, of):
+def rows_of(depth, depth_of):
     """The rows of one depth, each with a cell for every column."""
-    cells = [[told(name) for name in of if of[name] == depth and column_of(name) == column] for column in [*COLUMNS, OTHERS]]
+    crates_in = {column: [name for name in depth_of if depth_of[name] == depth and column_of(name) == column]
+                 for column in [*COLUMNS, OTHERS]}
+    cells = [[short_name(name) for name in names] for names in crates_in.values()]
     for number, row in enumerate(itertools.zip_longest(*cells, fillvalue="")):
         yield ["" if number else str(depth), *row]
 
 
 def picture():
-    of = depths(crates())
+    depth_of = depths(crates())
     rows = [["", *COLUMNS, OTHERS]]
-    for depth in range(1, max(of.values()) + 1):
-        rows += rows_of(depth, of)
+    for depth in range(1, max(depth_of.values()) + 1):
+        rows += rows_of(depth, depth_of)
     widths = [max(map(len, column)) for column in zip(*rows)]
     lines = ["  ".join(cell.ljust(width) for cell, width in zip(row, widths)).rstrip() for row in rows]
-    return "\n".join([*lines, "", "depths: " + ", ".join("%s %d" % (name, of[name]) for name in TOLD if name in of)])
+    printed_depths = ", ".join("%s %d" % (name, depth_of[name]) for name in PRINTED_DEPTHS if name in depth_of)
+    return "\n".join([*lines, "", "depths: " + printed_depths])
 
 
 def main():
     page = PAGE.read_text(encoding="utf-8")
-    drawn, count = PLACE.subn(lambda found: found.group(1) + picture() + found.group(2), page)
+    new_page, count = PICTURE.subn(lambda match: match.group(1) + picture() + match.group(2), page)
     if count != 1:
-        sys.exit("layers: %s has no place for the picture" % PAGE)
+        sys.exit("layers: %s hasn't one block for the picture" % PAGE)
     if sys.argv[1:] == ["--check"]:
-        sys.exit(0 if drawn == page else "layers: docs/architecture.md has another picture; tools/layers.py writes it")
-    PAGE.write_text(drawn, encoding="utf-8")
+        sys.exit(0 if new_page == page else "layers: docs/architecture.md has another picture; tools/layers.py writes it")
+    PAGE.write_text(new_page, encoding="utf-8")
 
 
 if __name__ == "__main__":

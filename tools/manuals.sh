@@ -1,18 +1,18 @@
 #!/usr/bin/env bash
-# Looks at the pages and words of man/: that man has no warning for a page, that its synopsis is the usage line of the
-# program's source, that completion knows each option, and each file that it names completes as such, and that linkcap(3) has
-# each call, type and constant of linkcap.h.
+# Checks the manuals and the completion in man/: that man prints no warning for a page, that its synopsis is the usage line of
+# the program's source, that completion knows each option and completes names of files, and that linkcap(3) has each call,
+# type and constant of linkcap.h.
 #
 #     tools/manuals.sh
 #
-# The status is 1 where something is wrong. It wants man.
+# The status is 1 if something is wrong. It needs man.
 set -uo pipefail
 cd "$(dirname "$0")/.."
 export LC_ALL=C.UTF-8 MANWIDTH=200
-wrong=0
+failed=0
 fault() {
     echo "manuals: $1"
-    wrong=1
+    failed=1
 }
 
 # The synopsis of a page as a usage line, in lower case.
@@ -26,43 +26,43 @@ usage() {
     grep -rhoE "usage: $1 [^\";\\\\]*" crates/*/src | sed -E 's/^usage: //; s/ +$//' | sort -u | tr '[:upper:]' '[:lower:]'
 }
 
-# What completion offers after some words.
-offered() {
+# completions COMMAND WORD..: what completion offers for the last word
+completions() {
     bash -c '. man/linkcap.bash; COMP_WORDS=("$@"); COMP_CWORD=$(($# - 1)); "_$1"; printf "%s\n" "${COMPREPLY[@]}"' - "$@"
 }
 
 for program in linkcap linkshow; do
-    words=$(man --warnings -E UTF-8 -l -Tutf8 -Z "man/$program.1" 2>&1 > /dev/null)
-    [ -z "$words" ] || fault "man/$program.1: $words"
+    warnings=$(man --warnings -E UTF-8 -l -Tutf8 -Z "man/$program.1" 2>&1 > /dev/null)
+    [ -z "$warnings" ] || fault "man/$program.1: $warnings"
     [ "$(synopsis $program)" = "$(usage $program)" ] \
         || fault "man/$program.1 has '$(synopsis $program)', the source '$(usage $program)'"
     for option in $(grep -oE -- '--[a-z][a-z-]+' <<< "$(usage $program)"); do
-        grep -qx -- "$option" <<< "$(offered "$program" --)" || fault "man/linkcap.bash: $program has $option"
+        grep -qx -- "$option" <<< "$(completions "$program" --)" || fault "man/linkcap.bash: $program has $option"
     done
 done
 for program in linkdiff linkrec linkgold linkjson; do
-    words=$(man --warnings -E UTF-8 -l -Tutf8 -Z "man/$program.1" 2>&1 > /dev/null)
-    [ -z "$words" ] || fault "man/$program.1: $words"
+    warnings=$(man --warnings -E UTF-8 -l -Tutf8 -Z "man/$program.1" 2>&1 > /dev/null)
+    [ -z "$warnings" ] || fault "man/$program.1: $warnings"
 done
 # options COMMAND..: the long options that a script's --help lists
 options() { "$@" --help | grep -oE -- '--[a-z][a-z-]+' | sort -u; }
-# documented OPTION PROGRAM: whether the manual has an option
-documented() { man -l "man/$2.1" | col -bx | grep -- "$1" > /dev/null; }
+# is_documented OPTION PROGRAM: whether the manual has an option
+is_documented() { man -l "man/$2.1" | col -bx | grep -- "$1" > /dev/null; }
 for program in linkdiff linkgold linkjson; do
     for option in $(options "scripts/$program"); do
-        grep -qx -- "$option" <<< "$(offered "$program" --)" || fault "man/linkcap.bash: $program has $option"
-        [ "$option" = --help ] || documented "$option" "$program" || fault "man/$program.1: no $option"
+        grep -qx -- "$option" <<< "$(completions "$program" --)" || fault "man/linkcap.bash: $program has $option"
+        [ "$option" = --help ] || is_documented "$option" "$program" || fault "man/$program.1: no $option"
     done
 done
 for command in run effect dump watch pcap strace cut split; do
     for option in $(options scripts/linkrec "$command"); do
-        grep -qx -- "$option" <<< "$(offered linkrec "$command" --)" || fault "man/linkcap.bash: linkrec $command has $option"
+        grep -qx -- "$option" <<< "$(completions linkrec "$command" --)" || fault "man/linkcap.bash: linkrec $command has $option"
     done
 done
-# calls: the prototypes in what is given, without white space
+# calls: the prototypes in the input, without white space
 calls() { tr -d ' \n' | grep -oE 'uint32_tlinkcap_[a-z_]+\([^;]*\);' | sort; }
-words=$(man --warnings -E UTF-8 -l -Tutf8 -Z man/linkcap.3 2>&1 > /dev/null)
-[ -z "$words" ] || fault "man/linkcap.3: $words"
+warnings=$(man --warnings -E UTF-8 -l -Tutf8 -Z man/linkcap.3 2>&1 > /dev/null)
+[ -z "$warnings" ] || fault "man/linkcap.3: $warnings"
 page=$(man -l man/linkcap.3 | col -bx)
 header=$(sed -E ':a;N;$!ba;s#/\*[^*]*\*+([^/*][^*]*\*+)*/##g' bindings/c/linkcap.h)
 synopsis=$(awk '/^SYNOPSIS/ { inside = 1; next } /^[A-Z]/ { inside = 0 } inside' <<< "$page")
@@ -72,7 +72,7 @@ names=$(grep -oE '\bLINKCAP_[A-Z_]+[A-Z]\b|\bstruct linkcap_[a-z]+ \{' <<< "$hea
 for name in $(sort -u <<< "$names"); do
     grep -qw -- "$name" <<< "$page" || fault "man/linkcap.3: no $name"
 done
-[ "$(offered linkcap n)" = norm ] || fault "man/linkcap.bash: linkcap n is norm"
-[ "$(offered linkcap same READ)" = README.md ] || fault "man/linkcap.bash: linkcap same takes files"
-[ "$wrong" -eq 0 ] && echo "manuals: as they are to be"
-exit "$wrong"
+[ "$(completions linkcap n)" = norm ] || fault "man/linkcap.bash: linkcap n is norm"
+[ "$(completions linkcap same READ)" = README.md ] || fault "man/linkcap.bash: linkcap same takes files"
+[ "$failed" -eq 0 ] && echo "manuals: no faults"
+exit "$failed"

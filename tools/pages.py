@@ -1,10 +1,10 @@
 #!/usr/bin/env python3
-"""Checks the pages: words, links, marks, and the blocks that claim to be a file's text.
+"""Checks the pages: their lengths, links and marks, and the blocks that quote a file.
 
     tools/pages.py                 checks, in a second
-    tools/pages.py --run PREFIX    runs the pages' commands too, over what ./install PREFIX installed
-        --have root,strace         those too that want nothing else
-    tools/pages.py --words         prints each page's words
+    tools/pages.py --run PREFIX    also runs the pages' commands, with the programs that ./install PREFIX installed
+        --have root,strace         also those whose mark `wants` names only these
+    tools/pages.py --words         prints the number of words of each page
     tools/pages.py --lines         first rewrites the line of each link to a definition
 
 A link to a definition is written [`first_fault_under`](../crates/link_capture_grammar/specs/Captures.antt#L70): line 70 of that
@@ -13,23 +13,23 @@ replaces the number by that of the line on which the file defines the name: in .
 `abbrev` or `unfoldable`; in .rt by `fn`, `struct`, `enum` or `trait`. It leaves a name that the file doesn't define, and the
 check reports it.
 
-A mark is a comment on a line by itself above a block. Blocks of `sh` are commands, each run by `bash -eu -o pipefail` in a
-folder of its page with links to all that stands at the repository's top, and with PREFIX/bin first on PATH. pip installs
-into that folder, and what wants root has a network namespace of its own. Of these blocks, one marked by
+A mark is a comment on a line by itself above a block. Blocks of `sh` are commands. `bash -eu -o pipefail` runs each in a
+folder for its page, which has links to all files and folders at the top of the repository; PREFIX/bin comes first on PATH.
+pip installs into that folder. Commands that want root run in a separate network namespace. Marks of commands are
 
-    <!-- wants root and strace -->                 isn't run, as it wants these
-    <!-- status 2 -->                              has to end with that status
-    <!-- given made.bin = samples/req-veth.bin -->  gets a copy under that name first
+    <!-- wants root and strace -->                 it is run only if --have names these
+    <!-- status 2 -->                              it has to end with that status
+    <!-- given made.bin = samples/req-veth.bin -->  it gets a copy of the file under that name first
 
-A block without a language is looked at where it is marked
+A block without a language is checked if it has one of these marks:
 
-    <!-- output -->                                what the commands before it write
+    <!-- output -->                                the output of the commands before it
     <!-- file: samples/get-veth.lines -->          text of that file
-    <!-- written by tools/layers.py -->           what that script writes there; it has its own check
+    <!-- written by tools/layers.py -->            text that this script writes, and checks itself
 
 Blocks of another language have one of these marks: `file: PATH`; `run by PATH`, a script that runs it; or `sketch`. Text of a
-file is pieces with empty lines between, each of which stands in the file, in order, a common indentation aside; of `use`
-lines only the names have to be imported there. The status is 1 where something is wrong.
+file consists of pieces with empty lines between. Each piece has to be in the file, in order, with any indentation of the whole
+piece; of lines `use` only the names have to be imported there. The status is 1 if something is wrong.
 """
 import argparse
 import os
@@ -64,7 +64,7 @@ class Block:
         self.lines = []
 
     def mark(self, word):
-        """What stands behind a mark's first word; None without such a mark."""
+        """The text after the first word of a mark, by this word; None if there is no such mark."""
         for mark in self.marks:
             first, _, rest = mark.partition(" ")
             if first.rstrip(":") == word:
@@ -76,7 +76,7 @@ class Block:
 
 
 class Page:
-    """A page: its text, its blocks, its lines outside of them, and what is wrong with its form."""
+    """A page: its text, its blocks, the lines outside of them, and faults of its marks and fences."""
 
     def __init__(self, name):
         self.name = name
@@ -84,8 +84,8 @@ class Page:
         self.blocks, self.prose, self.faults = [], [], []
         self.read()
 
-    def fault(self, line, words):
-        self.faults.append("%s:%d: %s" % (self.name, line, words))
+    def fault(self, line, message):
+        self.faults.append("%s:%d: %s" % (self.name, line, message))
 
     def read(self):
         block, fence, indent, marks = None, "", 0, []
@@ -119,15 +119,15 @@ class Page:
         return len(re.sub(r"<!--.*?-->", "", self.source, flags=re.S).split())
 
     def anchors(self):
-        """GitHub's names of the headings."""
-        found = {}
+        """The anchors that GitHub gives the headings."""
+        last_numbers = {}
         for _, line in self.prose:
             heading = re.match(r"#{1,6}\s+(.*?)\s*#*$", line)
             if heading:
                 text = re.sub(r"\[([^\]]*)\]\([^)]*\)", r"\1", heading.group(1))
                 name = re.sub(r"[^\w\- ]", "", text.lower()).replace(" ", "-")
-                found[name] = found.get(name, -1) + 1
-        return {name if n == 0 else "%s-%d" % (name, n) for name, most in found.items() for n in range(most + 1)}
+                last_numbers[name] = last_numbers.get(name, -1) + 1
+        return {name if n == 0 else "%s-%d" % (name, n) for name, last in last_numbers.items() for n in range(last + 1)}
 
 
 # --------------------------------------------------------------------------
@@ -135,13 +135,13 @@ class Page:
 
 def check_words(pages):
     for pattern, most in MOST_WORDS.items():
-        counted = sum(page.words() for page in pages if page.name in names_of(pattern))
-        if counted > most:
-            yield "%s: %d words, at most %d" % (pattern, counted, most)
+        count = sum(page.words() for page in pages if page.name in names_of(pattern))
+        if count > most:
+            yield "%s: %d words, at most %d" % (pattern, count, most)
 
 
 def check_links(page, by_name):
-    """Links lead to a file, and to a heading of it."""
+    """The links that lead to no file, or to no heading of it."""
     for number, line in page.prose:
         for target in LINK.findall(re.sub(r"(`+).*?\1", "", line)):
             if re.match(r"[a-z]+:", target):
@@ -211,7 +211,7 @@ def renumber(page):
 
 
 def check_paths(page):
-    """A path in backticks that begins at the top is there."""
+    """The paths in backticks, from the top of the repository, under which there is no file."""
     for number, line in page.prose:
         for _, span in re.findall(r"(`+)(.*?)\1", line):
             word = span.split()[0] if span.split() else ""
@@ -220,7 +220,7 @@ def check_paths(page):
 
 
 def check_indented(page):
-    """No block is one by its indentation, so that no command hides there."""
+    """The blocks that are indented and not fenced, whose commands this script wouldn't see."""
     in_list, blank = False, True
     for number, line in page.prose:
         if not line.strip():
@@ -236,8 +236,8 @@ def check_indented(page):
 
 
 def check_marks(page):
-    """Each block of a language but sh says where its text is held."""
-    commands = False
+    """The blocks whose marks don't fit: each language other than sh needs one that says how the text is checked."""
+    after_commands = False
     for block in page.blocks:
         where = "%s:%d" % (page.name, block.line)
         kinds = {word for word in ("file", "run", "sketch", "output") if block.mark(word) is not None}
@@ -246,44 +246,44 @@ def check_marks(page):
             yield "%s: a block of %s without a mark: file, run by or sketch" % (where, block.language)
         if for_commands and block.language != "sh":
             yield "%s: the mark %s is for commands" % (where, for_commands.pop())
-        if "output" in kinds and not commands:
+        if "output" in kinds and not after_commands:
             yield "%s: output of no commands" % where
         script = block.mark("run") or block.mark("written")
         if script is not None and not (TOP / script.split()[-1]).exists():
             yield "%s: no file %s" % (where, script.split()[-1])
-        commands = block.language == "sh"
+        after_commands = block.language == "sh"
 
 
 # --------------------------------------------------------------------------
 # Blocks that are a file's text
 
-def imported(text):
-    """The paths that lines `use ..;` import."""
-    found = set()
+def imports(text):
+    """The paths that lines `use ..;` import, each with whether it is a ghost import."""
+    paths = set()
     for ghost, tree in re.findall(r"^\s*(?:pub )?(ghost )?use ([^;]*);", text, flags=re.M):
-        found |= {(bool(ghost), path) for path in spread(re.sub(r"\s+", "", tree))}
-    return found
+        paths |= {(bool(ghost), path) for path in expand(re.sub(r"\s+", "", tree))}
+    return paths
 
 
-def spread(tree):
-    """Each path of `a::{b, c::{d, e}}`, or of one with dots."""
+def expand(tree):
+    """Each path of `a::{b, c::{d, e}}`, or of a tree with dots."""
     opening = tree.find("{")
     if opening < 0:
         return [tree]
-    parts, depth, begun = [], 0, ""
+    parts, depth, part = [], 0, ""
     for letter in tree[opening + 1:tree.rindex("}")]:
         depth += {"{": 1, "}": -1}.get(letter, 0)
         if letter == "," and depth == 0:
-            parts.append(begun)
-            begun = ""
+            parts.append(part)
+            part = ""
         else:
-            begun += letter
-    parts.append(begun)
-    return [tree[:opening] + path for part in parts if part for path in spread(part)]
+            part += letter
+    parts.append(part)
+    return [tree[:opening] + path for part in parts if part for path in expand(part)]
 
 
 def pieces_of(text):
-    """The pieces between empty lines; lines of `use` are a piece by themselves."""
+    """The pieces between empty lines, each with whether it is lines of `use`, which are a separate piece."""
     for piece in re.split(r"\n(?:[ \t]*\n)+", text.strip("\n")):
         uses = re.match(r"(?:(?:pub )?(?:ghost )?use [^;]*;\n?)+", piece)
         if uses:
@@ -293,25 +293,25 @@ def pieces_of(text):
             yield piece.rstrip(), False
 
 
-def not_in_file(text, held):
-    """The first piece that isn't in the file; None where all are."""
-    lines, at = held.split("\n"), 0
-    names = imported(held)
-    for piece, uses in pieces_of(text):
-        if uses:
-            missing = imported(piece) - names
+def first_missing(text, file_text):
+    """The first line of the first piece that isn't in the file; None if all pieces are there in order."""
+    lines, position = file_text.split("\n"), 0
+    file_imports = imports(file_text)
+    for piece, is_use in pieces_of(text):
+        if is_use:
+            missing = imports(piece) - file_imports
             if missing:
                 return "use " + sorted(missing)[0][1]
             continue
-        wanted = textwrap.dedent(piece).split("\n")
-        size = len(wanted)
-        for start in range(at, len(lines) - size + 1):
-            if lines[start].strip() == wanted[0].strip() \
-                    and textwrap.dedent("\n".join(lines[start:start + size])).split("\n") == wanted:
-                at = start + size
+        piece_lines = textwrap.dedent(piece).split("\n")
+        size = len(piece_lines)
+        for start in range(position, len(lines) - size + 1):
+            if lines[start].strip() == piece_lines[0].strip() \
+                    and textwrap.dedent("\n".join(lines[start:start + size])).split("\n") == piece_lines:
+                position = start + size
                 break
         else:
-            return wanted[0]
+            return piece_lines[0]
     return None
 
 
@@ -324,7 +324,7 @@ def check_snippets(page):
         if not (TOP / name).is_file():
             yield "%s: no file %s" % (where, name)
             continue
-        missing = not_in_file(block.text(), (TOP / name).read_text(encoding="utf-8"))
+        missing = first_missing(block.text(), (TOP / name).read_text(encoding="utf-8"))
         if missing is not None:
             yield "%s: not the text of %s, or not in its order: %s" % (where, name, missing.strip())
 
@@ -340,10 +340,10 @@ def environment(prefix, folder):
 
 
 def run(block, folder, prefix):
-    """(status, standard output, standard error) of a block; the status is None where it took too long. What wants root has
-    a network namespace of its own, so that it changes no link of the machine."""
-    alone = ["unshare", "-n"] if "root" in (block.mark("wants") or "") else []
-    shell = subprocess.Popen([*alone, "bash", "-eu", "-o", "pipefail", "-c", block.text()], cwd=folder,
+    """(status, standard output, standard error) of a block; the status is None if it took too long. A block that wants root
+    runs in a separate network namespace, so that it changes no link of the machine."""
+    namespace = ["unshare", "-n"] if "root" in (block.mark("wants") or "") else []
+    shell = subprocess.Popen([*namespace, "bash", "-eu", "-o", "pipefail", "-c", block.text()], cwd=folder,
                              env=environment(prefix, folder), stdin=subprocess.DEVNULL, stdout=subprocess.PIPE,
                              stderr=subprocess.PIPE, start_new_session=True)
     try:
@@ -355,7 +355,7 @@ def run(block, folder, prefix):
     return shell.returncode, out, err
 
 
-def give(block, folder):
+def copy_given_files(block, folder):
     for pair in (block.mark("given") or "").split(","):
         if pair.strip():
             name, source = (part.strip() for part in pair.split("="))
@@ -363,16 +363,16 @@ def give(block, folder):
             shutil.copy(TOP / source, folder / name)
 
 
-def wants(block, have):
-    """What a block wants that isn't there; None where it can be run."""
-    wanted = re.split(r",\s*(?:and\s+)?|\s+and\s+", block.mark("wants") or "")
-    return ", ".join(word for word in wanted if word and word not in have) or None
+def missing_requirements(block, have):
+    """The requirements in a block's mark `wants` that aren't among `have`, as text; None if there are none."""
+    requirements = re.split(r",\s*(?:and\s+)?|\s+and\s+", block.mark("wants") or "")
+    return ", ".join(word for word in requirements if word and word not in have) or None
 
 
 def run_page(page, prefix, have):
-    """What is wrong with a page's commands; and a word on each block."""
-    with tempfile.TemporaryDirectory() as made:
-        folder = Path(made)
+    """The faults of a page's commands. It prints which blocks it ran."""
+    with tempfile.TemporaryDirectory() as work:
+        folder = Path(work)
         for entry in TOP.iterdir():
             if entry.name != ".git":
                 (folder / entry.name).symlink_to(entry)
@@ -380,24 +380,26 @@ def run_page(page, prefix, have):
             if block.language != "sh":
                 continue
             where = "%s:%d" % (page.name, block.line)
-            if wants(block, have):
-                print("pages: not run: %s wants %s" % (where, wants(block, have)))
+            missing = missing_requirements(block, have)
+            if missing:
+                print("pages: not run: %s wants %s" % (where, missing))
                 continue
-            give(block, folder)
+            copy_given_files(block, folder)
             status, out, err = run(block, folder, prefix)
-            wanted = int(block.mark("status") or 0)
-            after = page.blocks[index + 1] if index + 1 < len(page.blocks) else None
-            if status != wanted:
-                told = "took over %d seconds" % SECONDS if status is None else "status %d, wanted %d" % (status, wanted)
-                yield "%s: %s: %s" % (where, told, (out + err).decode("utf-8", "replace")[-300:])
-            elif after is not None and after.mark("output") is not None and out.decode("utf-8", "replace") != after.text():
-                yield "%s:%d: other output: %r" % (page.name, after.line, out[:300])
+            expected = int(block.mark("status") or 0)
+            next_block = page.blocks[index + 1] if index + 1 < len(page.blocks) else None
+            if status != expected:
+                result = "took over %d seconds" % SECONDS if status is None else "status %d, expected %d" % (status, expected)
+                yield "%s: %s: %s" % (where, result, (out + err).decode("utf-8", "replace")[-300:])
+            elif next_block is not None and next_block.mark("output") is not None \
+                    and out.decode("utf-8", "replace") != next_block.text():
+                yield "%s:%d: other output: %r" % (page.name, next_block.line, out[:300])
             else:
                 print("pages: ran: %s" % where)
 
 
 def changes():
-    """What git sees changed in the repository."""
+    """The changed files of the repository, as `git status` prints them."""
     return subprocess.run(["git", "status", "--porcelain"], cwd=TOP, capture_output=True, text=True, check=False).stdout
 
 
@@ -415,28 +417,28 @@ def names_of(pattern):
 
 def main():
     parser = argparse.ArgumentParser(description=__doc__, formatter_class=argparse.RawDescriptionHelpFormatter)
-    parser.add_argument("--run", metavar="PREFIX", type=Path, help="run the commands too")
-    parser.add_argument("--have", metavar="WORD,..", default="", help="run what wants these, too")
-    parser.add_argument("--words", action="store_true", help="print each page's words")
+    parser.add_argument("--run", metavar="PREFIX", type=Path, help="also run the commands")
+    parser.add_argument("--have", metavar="WORD,..", default="", help="also run the commands whose mark `wants` names only these")
+    parser.add_argument("--words", action="store_true", help="print the number of words of each page")
     parser.add_argument("--lines", action="store_true", help="rewrite the lines of links to definitions")
-    parser.add_argument("page", nargs="*", help="these pages alone, by their paths from the top")
-    words = parser.parse_args()
+    parser.add_argument("page", nargs="*", help="check only these pages, by their paths from the top")
+    args = parser.parse_args()
     pages = [Page(name) for pattern in PAGES for name in sorted(names_of(pattern))]
     by_name = {page.name: page for page in pages}
-    faults = [] if words.page else list(check_words(pages))
-    chosen = [by_name[os.path.normpath(name)] for name in words.page] or pages
-    if words.lines:
-        chosen = [Page(page.name) if renumber(page) else page for page in chosen]
-    for page in chosen:
-        if words.words:
+    faults = [] if args.page else list(check_words(pages))
+    selection = [by_name[os.path.normpath(name)] for name in args.page] or pages
+    if args.lines:
+        selection = [Page(page.name) if renumber(page) else page for page in selection]
+    for page in selection:
+        if args.words:
             print("%6d %s" % (page.words(), page.name))
         faults += [*page.faults, *check_links(page, by_name), *check_definitions(page), *check_paths(page),
                    *check_indented(page), *check_marks(page), *check_snippets(page)]
-    if words.run is not None:
-        faults += run_all(chosen, words.run.resolve(), words.have.split(","))
+    if args.run is not None:
+        faults += run_all(selection, args.run.resolve(), args.have.split(","))
     for fault in faults:
         print("pages: " + fault)
-    print("pages: %d pages, %d faults" % (len(chosen), len(faults)))
+    print("pages: %d pages, %d faults" % (len(selection), len(faults)))
     return 1 if faults else 0
 
 

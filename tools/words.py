@@ -3,10 +3,13 @@
 
     tools/words.py [--count] [PATH..]      at the top of the repository; all tracked files if no path is given
 
-It reads Markdown outside code fences, and comments and docstrings of .rt, .antt, .py, .sh, .c, .h and .rs files; not what is
-between backticks. A comment `words: ok` exempts its line, for a word that programs print. The exit status is 1 if anything
-is listed. `--count` prints the number of lines only.
+It reads Markdown outside code fences, comments of .rt, .antt, .py, .sh, .c, .h and .rs files, and docstrings of Python files,
+which include scripts without a suffix whose first line names python3. It skips text between backticks and names of options. A
+comment `words: ok` exempts its line, for a word that programs print. The exit status is 1 if anything is listed. `--count`
+prints the number of lines only.
 """
+import ast
+import os
 import re
 import subprocess
 import sys
@@ -41,22 +44,41 @@ BANNED = [
 BANNED = [(re.compile(p, re.I), w) for p, w in BANNED]
 COMMENT = {".rt": r"^\s*//[/!]?(.*)|.*?\s//\s(.*)", ".rs": r"^\s*//[/!]?(.*)", ".antt": r"^\s*--(.*)", ".py": r"^\s*#(.*)", ".sh": r"^\s*#(.*)",
            ".c": r"^\s*(?:/\*+|\*|//)(.*)", ".h": r"^\s*(?:/\*+|\*|//)(.*)"}
+NOT_PROSE = re.compile(r"`[^`]*`|(?<!\S)\[?--[a-z][a-z-]*")
+HAS_DOCSTRING = (ast.Module, ast.ClassDef, ast.FunctionDef, ast.AsyncFunctionDef)
+
+
+def is_python(path, text):
+    return path.endswith(".py") or re.match(r"#!.*\bpython3\b", text) is not None
+
+
+def docstring_lines(path, text):
+    """The numbers of the lines that are in docstrings: those of the module, its classes and its functions."""
+    numbers = set()
+    for node in ast.walk(ast.parse(text, path)):
+        if isinstance(node, HAS_DOCSTRING) and ast.get_docstring(node, clean=False) is not None:
+            numbers.update(range(node.body[0].lineno, node.body[0].end_lineno + 1))
+    return numbers
 
 
 def prose(path, text):
+    """Yields the number and the prose of each line that has some: Markdown, a comment, or a line of a docstring."""
     end = path[path.rfind("."):] if "." in path.rsplit("/", 1)[-1] else ".sh"
-    fenced = False
+    in_docstrings = docstring_lines(path, text) if is_python(path, text) else set()
+    in_fence = False
     for number, line in enumerate(text.split("\n"), 1):
         if end == ".md":
             if line.lstrip().startswith(("```", "~~~")):
-                fenced = not fenced
+                in_fence = not in_fence
                 continue
-            if not fenced:
-                yield number, re.sub(r"`[^`]*`", "", line)
+            if not in_fence:
+                yield number, NOT_PROSE.sub("", line)
+        elif number in in_docstrings:
+            yield number, NOT_PROSE.sub("", line)
         elif end in COMMENT:
-            found = re.match(COMMENT[end], line)
-            if found:
-                yield number, re.sub(r"`[^`]*`", "", next((g for g in found.groups() if g), ""))
+            comment = re.match(COMMENT[end], line)
+            if comment:
+                yield number, NOT_PROSE.sub("", next((g for g in comment.groups() if g), ""))
 
 
 def main():
@@ -76,7 +98,7 @@ def main():
             hits = [(m.group(0), instead) for p, instead in BANNED for m in p.finditer(line)]
             if hits:
                 lines += 1
-                end = path[path.rfind("."):]
+                end = os.path.splitext(path)[1] or "without a suffix"
                 counts[end] = counts.get(end, 0) + 1
                 if "--count" not in sys.argv:
                     print("%s:%d: %s" % (path, number, "; ".join("'%s' -> %s" % h for h in hits)))

@@ -21,20 +21,20 @@ CAPTURE_KINDS = ("norm", "same", "spelling", "refusal", "show")
 
 
 def captures():
-    """The samples, and the captures of vectors: of a case, words of hex after its limit."""
+    """The samples, and the captures of the stored cases, which are in hex after the limit of a case."""
     for name in sorted(os.listdir(os.path.join(TOP, "samples"))):
         if name.endswith(".bin"):
             with open(os.path.join(TOP, "samples", name), "rb") as file:
                 yield file.read()
     for kind in CAPTURE_KINDS:
         for case in vectors.cases(kind):
-            words = case.split(" ")[1:]
-            for word in words if kind == "same" else words[-1:]:
-                yield bytes.fromhex(word)
+            columns = case.split(" ")[1:]
+            for column in columns if kind == "same" else columns[-1:]:
+                yield bytes.fromhex(column)
 
 
 def dictionary():
-    """Entries of libFuzzer's dictionaries."""
+    """The entries of the dictionary for libFuzzer."""
     for name in sorted(tables.DATA_ROWS):
         yield name.encode()
         yield name.encode() + b"\0"

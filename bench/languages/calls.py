@@ -1,6 +1,6 @@
 """Times calls over a capture from standard input, by processor time: `calls.py SECONDS < CAPTURE`, as calls.c does.
 
-Beside them stands pyroute2's own parsing, where pyroute2 is there.
+It also times pyroute2's parsing, if pyroute2 is installed.
 """
 import sys
 import time
@@ -16,8 +16,8 @@ def measure(name, seconds, call, *arguments):
             for _ in range(20):
                 call(*arguments)
             calls += 20
-        one = (time.process_time() - begin) / calls
-        best = one if best is None or one < best else best
+        seconds_a_call = (time.process_time() - begin) / calls
+        best = seconds_a_call if best is None else min(best, seconds_a_call)
     print(f"{name} {best * 1e9:.1f}", flush=True)
 
 

@@ -1,11 +1,11 @@
 #!/usr/bin/env bash
-# Makes liblinkcap.a and liblinkcap.so in a folder, and linkcap.h beside them.
+# Builds liblinkcap.a and liblinkcap.so in a folder, with linkcap.h.
 #
 #     bindings/c/build.sh FOLDER
 #
-# tools/build.py proves and builds the static library of the crate linkcap_c, and keeps it by content. The kit of the command
-# rt has the small layer between that library and malloc, which both libraries contain. They export nothing but linkcap_*. CC
-# names the compiler (cc).
+# tools/build.py proves, builds and caches the static library of the crate linkcap_c. Both libraries contain the small layer
+# between that library and malloc, which is in the kit of the command rt. They export only linkcap_*. CC names the compiler
+# (cc).
 set -euo pipefail
 here=$(cd "$(dirname "$0")" && pwd)
 [ $# -eq 1 ] || { echo "usage: bindings/c/build.sh FOLDER" >&2; exit 2; }

@@ -1,5 +1,5 @@
 #!/usr/bin/env bash
-# Installs liblinkcap.a, liblinkcap.so, linkcap.h, linkcap.pc, linkcap-static.pc and linkcap(3), under each call's name.
+# Installs liblinkcap.a, liblinkcap.so, linkcap.h, linkcap.pc, linkcap-static.pc, and linkcap(3) under the name of each call.
 #
 #     bindings/c/install.sh PREFIX
 #

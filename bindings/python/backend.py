@@ -1,8 +1,8 @@
 """A build backend without dependencies, so that `pip install bindings/python` needs no network.
 
-If the environment names a folder in LINKCAP_LIB_DIR, the wheel holds the liblinkcap.so of that folder; else the package
-looks for an installed one when it is imported. `pip install -e` notes the folder instead. The same files make the same
-wheel, byte for byte: times are those of SOURCE_DATE_EPOCH, or 1980.
+If the environment names a folder in LINKCAP_LIB_DIR, the wheel contains the liblinkcap.so of that folder; else the package
+looks for an installed library when it is imported. `pip install -e` records the folder's path instead. Builds are
+reproducible, byte for byte: times in archives are SOURCE_DATE_EPOCH, or 1980.
 """
 import base64
 import gzip
@@ -42,13 +42,13 @@ def _epoch():
 
 
 def _sources():
-    """The files of the package with their bytes."""
+    """The names of the package's files, with their bytes."""
     names = sorted(os.listdir(os.path.join(HERE, NAME)))
     return {f"{NAME}/{name}": _read(NAME, name) for name in names if name.endswith((".py", ".typed"))}
 
 
 def _library():
-    """The library as a file of the package; nothing if the environment names none."""
+    """The library as a file of the package; an empty dictionary if the environment names no folder."""
     folder = os.environ.get("LINKCAP_LIB_DIR")
     if not folder:
         return {}
@@ -85,7 +85,7 @@ def build_wheel(wheel_directory, config_settings=None, metadata_directory=None):
 
 
 def build_editable(wheel_directory, config_settings=None, metadata_directory=None):
-    """A wheel that leads to this folder, and to the library's if the environment names it."""
+    """Writes a wheel with the path of this folder, and that of the library's folder if the environment names it."""
     files = {f"_{NAME}_editable.pth": f"{HERE}\n".encode()}
     folder = os.environ.get("LINKCAP_LIB_DIR")
     if folder:
@@ -94,16 +94,16 @@ def build_editable(wheel_directory, config_settings=None, metadata_directory=Non
 
 
 def build_sdist(sdist_directory, config_settings=None):
-    """An archive of the sources, which has no library."""
+    """Writes an archive of the sources, without a library."""
     top = f"{NAME}-{VERSION}"
     files = {"PKG-INFO": METADATA.encode(), **{name: _read(name) for name in ("pyproject.toml", "backend.py")}, **_sources()}
-    packed = io.BytesIO()
-    with tarfile.open(fileobj=packed, mode="w", format=tarfile.PAX_FORMAT) as archive:
+    tar = io.BytesIO()
+    with tarfile.open(fileobj=tar, mode="w", format=tarfile.PAX_FORMAT) as archive:
         for name, content in files.items():
             entry = tarfile.TarInfo(f"{top}/{name}")
             entry.size, entry.mtime, entry.mode = len(content), _epoch(), 0o644
             archive.addfile(entry, io.BytesIO(content))
     with open(os.path.join(sdist_directory, f"{top}.tar.gz"), "wb") as file:
-        with gzip.GzipFile(filename="", mode="wb", fileobj=file, mtime=_epoch()) as zipped:
-            zipped.write(packed.getvalue())
+        with gzip.GzipFile(filename="", mode="wb", fileobj=file, mtime=_epoch()) as stream:
+            stream.write(tar.getvalue())
     return f"{top}.tar.gz"

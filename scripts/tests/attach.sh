@@ -1,12 +1,12 @@
 #!/usr/bin/env bash
-# Attaches linkrec to a daemon that is running, and ends the recording by Ctrl-C.
+# Attaches linkrec to a running daemon, and ends the recording with Ctrl-C.
 #
 #     scripts/tests/attach.sh LINKREC
 #
 # LINKSHOW is the program that shows captures. The status is 0 if the daemon's requests were recorded.
 set -uo pipefail
 work=$(mktemp -d)
-# The daemon has a route socket before it is attached to, and opens another later; it also asks generic netlink.
+# The daemon has a route socket before linkrec attaches, and opens another one later; it also uses generic netlink.
 python3 - << 'END' &
 import socket, struct, time
 def ask(route, kind, size):

@@ -1,11 +1,11 @@
 #!/usr/bin/env python3
-"""Compares what lines_json and lines_filter make of stored lines with results of an independent implementation.
+"""Compares the results of lines_json and lines_filter on stored lines with those of an independent implementation.
 
     scripts/tests/lines.py
 
-json.tsv has digests of the JSON of all samples' lines and of all stored answers of linkshow; lines that are newer than it
-are left out. filters.tsv has digests of what lines_filter leaves of some lines. format3.lines are lines of the coming
-format version, with their JSON in format3.json. The status is 0 if all agree.
+json.tsv has digests of the JSON of all samples' lines and of all stored results of `show`; it skips lines that are newer
+than json.tsv. filters.tsv has digests of lines that lines_filter filtered. format3.lines has lines of the next format
+version, and format3.json their JSON. The status is 0 if all agree.
 """
 import hashlib
 import json
@@ -27,11 +27,11 @@ def digest(text):
 
 
 def stored_lines():
-    """The lines of each sample, and of each stored answer, whose last line is the outcome."""
+    """The lines of each sample, and of each stored result of `show` without its last line, the outcome."""
     for sample in sorted((TOP / "samples").rglob("*.lines")):
         yield sample.read_text()
-    for answer in vectors.answers("show"):
-        yield "".join(answer.splitlines(True)[:-1])
+    for result in vectors.results("show"):
+        yield "".join(result.splitlines(True)[:-1])
 
 
 def as_json(lines):
@@ -39,54 +39,53 @@ def as_json(lines):
 
 
 def json_faults():
-    """Whose JSON differs from the stored digest, and how many there are."""
-    wanted = dict(row.split("\t") for row in (HERE / "json.tsv").read_text().splitlines()[1:])
-    known = [lines for lines in stored_lines() if digest(lines) in wanted]
-    found = [lines for lines in known if digest(json.dumps(as_json(lines), sort_keys=True)) != wanted[digest(lines)]]
-    if {digest(lines) for lines in known} != set(wanted):
+    """The lines whose JSON has another digest than the stored one."""
+    expected = dict(row.split("\t") for row in (HERE / "json.tsv").read_text().splitlines()[1:])
+    known = [lines for lines in stored_lines() if digest(lines) in expected]
+    different = [lines for lines in known if digest(json.dumps(as_json(lines), sort_keys=True)) != expected[digest(lines)]]
+    if {digest(lines) for lines in known} != set(expected):
         yield "json.tsv has lines that aren't stored any more"
-    for lines in found:
+    for lines in different:
         yield "the JSON of: " + lines[:200]
 
 
 def format3_faults():
-    wanted = [json.loads(line) for line in (HERE / "format3.json").read_text().splitlines()]
-    if as_json((HERE / "format3.lines").read_text()) != wanted:
+    expected = [json.loads(line) for line in (HERE / "format3.json").read_text().splitlines()]
+    if as_json((HERE / "format3.lines").read_text()) != expected:
         yield "the JSON of format3.lines"
 
 
 def filter_faults():
     for row in (HERE / "filters.tsv").read_text().splitlines()[1:]:
-        name, option, words, wanted = row.split("\t")
+        name, option, argument, expected = row.split("\t")
         lines = (TOP / name).read_text().splitlines()
-        names = lines_filter.names_of(words) if option == "without" else set()
-        left = lines_filter.without(lines, names) if names else lines_filter.about(lines, words)
-        if digest("".join(line + "\n" for line in left)) != wanted:
-            yield f"what --{option} {words} leaves of {name}"
+        names = lines_filter.names_of(argument) if option == "without" else set()
+        filtered_lines = lines_filter.without(lines, names) if names else lines_filter.about(lines, argument)
+        if digest("".join(line + "\n" for line in filtered_lines)) != expected:
+            yield f"the lines of {name} with --{option} {argument}"
 
 
-def names():
-    """Each attribute's name, with how linkshow shows its value, by the tables of the independent implementation."""
+def value_formats():
+    """Each attribute's name with the format of its value, by the tables of the independent implementation."""
     for line in (TOP / "tools/oracle/rows.tsv").read_text().splitlines():
-        what, *columns = line.split("\t")
-        if what == "row":
-            yield columns[2], columns[4].split()[0]
-        elif what == "named":
+        line_type, *columns = line.split("\t")
+        if line_type in ("row", "named"):
             yield columns[2], columns[4].split()[0]
 
 
 def name_faults():
-    if {name for name, _ in names()} != lines_filter.NAMES:
-        yield "NAMES of lines_filter: %s" % sorted({name for name, _ in names()} ^ lines_filter.NAMES)
-    if {name for name, how in names() if how in ("bytes", "hardware_address")} != lines_json.BYTES:
+    names = {name for name, _ in value_formats()}
+    if names != lines_filter.NAMES:
+        yield "NAMES of lines_filter: %s" % sorted(names ^ lines_filter.NAMES)
+    if {name for name, style in value_formats() if style in ("bytes", "hardware_address")} != lines_json.BYTES:
         yield "BYTES of lines_json"
 
 
 def main():
-    wrong = [*json_faults(), *format3_faults(), *filter_faults(), *name_faults()]
-    for what in wrong:
-        print(f"lines: differs: {what}")
-    return 1 if wrong else 0
+    faults = [*json_faults(), *format3_faults(), *filter_faults(), *name_faults()]
+    for fault in faults:
+        print(f"lines: differs: {fault}")
+    return 1 if faults else 0
 
 
 if __name__ == "__main__":

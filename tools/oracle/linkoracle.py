@@ -1,9 +1,9 @@
 #!/usr/bin/env python3
 """linkoracle: an independent implementation of normal texts.
 
-Written from the definitions of the format in words (docs/ tells the same ones)
-and apart from this repository's code, and never mended after what that code
-writes.  Standard library only; clear, not fast.
+It was written from the definitions of the format in words (docs/ has the same
+ones), separately from this repository's code, and is never corrected after the
+output of that code.  Standard library only; clear, not fast.
 
 Library (every call takes `stage=` and `peers_judged=`):
 
@@ -19,11 +19,11 @@ Library (every call takes `stage=` and `peers_judged=`):
 
 A fault is the triple (number, words, offset).  `stage` says which rows the
 tables have:
-  names  a link's name alone is text, every other kind is raw
+  names  only a link's name is text, every other kind is raw
   plain  texts, bytes, numbers of 4 bytes and of 1, and link info
   all    all rows
   peers  all rows, and peers are judged as link messages
-`peers_judged` overrides what the stage says of peers.
+`peers_judged` overrides the stage's rule for peers.
 """
 
 import os
@@ -32,8 +32,8 @@ import sys
 sys.path.insert(0, os.path.dirname(os.path.abspath(__file__)))
 from tables import (    # noqa: E402
     Choice, FirstRow, LAYER_TYPES, LINK_INFO, LINK_NESTED, LINK_TABLES, ListRow, NESTED, PEER, RAW,
-    REFUSED, Shape, TABLES, VF_PORTS_ROW, VOID, ZERO4, drop_nul, layer_written, number, p16, p32,
-    proper, u16, u32, up,
+    REFUSED, Shape, TABLES, VF_PORTS_ROW, VOID, ZERO4, drop_nul, number, p16, p32, proper, round_up,
+    u16, u32, written_layer,
 )
 
 DEFAULT_LIMIT = 1048576
@@ -59,23 +59,25 @@ FAULT_KINDS = {
 }
 
 
-def fault(number, offset):
+def fault_at(number, offset):
     return (number, FAULT_KINDS[number][1], offset)
 
 
-def fault_name(f):
-    return FAULT_KINDS[f[0]][0]
+def fault_name(fault):
+    return FAULT_KINDS[fault[0]][0]
 
 
-def display(f):
-    """Display of CaptureFault: the words, ` at `, the offset in decimal."""
-    return "%s at %d" % (f[1], f[2])
+def display(fault):
+    """The text of a fault, as CaptureFault displays it."""
+    return "%s at %d" % (fault[1], fault[2])
 
 
 # --------------------------------------------------------------------------
 # The rules in force: stage and judging of peers
 
 class Rules:
+    """The rows of all tables at a stage, and whether peers are judged."""
+
     def __init__(self, stage, peers_judged):
         self.stage = stage
         self.peers_judged = peers_judged
@@ -84,7 +86,8 @@ class Rules:
         self.inside_peer = Rules(stage, False) if peers_judged else None
 
     def row(self, table, context, kind):
-        """The row of a kind proper: a shape or a nested table, RAW for none."""
+        """The row of a kind proper under a context: a shape or a nested
+        table; RAW if the table has no row for it."""
         row = table.rows.get(kind, RAW)
         if isinstance(row, Choice):
             row = row.pick(self, context)
@@ -114,8 +117,8 @@ def rules_for(stage="peers", peers_judged=None):
 # Cutting and judging lists
 
 def attributes(b):
-    """The attributes as far as they go, and whether bytes are left that can't
-    be cut: what NlasIterator gives."""
+    """The attributes at the start of b, as pairs of kind and payload, and
+    whether bytes follow that are no attribute: what NlasIterator yields."""
     out = []
     at, size = 0, len(b)
     while at < size:
@@ -126,18 +129,18 @@ def attributes(b):
         if length < 4 or length > left:
             return out, True
         out.append((u16(b, at + 2), b[at + 4:at + length]))
-        at += min(up(length), left)
+        at += min(round_up(length), left)
     return out, False
 
 
 def cut(b):
-    """The list of (kind, payload), or None where b is no list of attributes."""
+    """The attributes of b, or None if b is no list of attributes."""
     out, error = attributes(b)
     return None if error else out
 
 
 def cut_first(b):
-    """The one attribute that b begins with, for F."""
+    """The attribute that b begins with, as (kind, payload), or None."""
     if len(b) < 4:
         return None
     length = u16(b, 0)
@@ -149,14 +152,16 @@ def cut_first(b):
 class Entry:
     """An accepted attribute with its row.
 
-    inside: for L all its entries, for F its first one, for a peer its Body.
-    written: the kind as it is written.
+    content: the entries of a ListRow, the first entry of a FirstRow, the Body
+    of a judged peer, else None.
+    written_kind: the kind in the normal text.
     """
-    __slots__ = ("table", "kind", "row", "payload", "inside", "written")
+    __slots__ = ("table", "kind", "row", "payload", "content", "written_kind")
 
-    def __init__(self, table, kind, row, payload, inside, written):
+    def __init__(self, table, kind, row, payload, content, written_kind):
         self.table, self.kind, self.row = table, kind, row
-        self.payload, self.inside, self.written = payload, inside, written
+        self.payload, self.content = payload, content
+        self.written_kind = written_kind
 
 
 class Body:
@@ -166,7 +171,7 @@ class Body:
 
 
 def written_kind(rules, table, row, kind):
-    """The kind as it is written."""
+    """The kind of an attribute in the normal text."""
     if row.raw:
         return kind
     if table is rules.link and proper(kind) in LINK_NESTED:
@@ -175,17 +180,17 @@ def written_kind(rules, table, row, kind):
 
 
 def read_entry(rules, table, context, kind, payload):
-    """An Entry, or None where its row doesn't accept the payload."""
+    """An Entry, or None if its row doesn't accept the payload."""
     row = rules.row(table, context, proper(kind))
     if isinstance(row, Shape):
-        if not row.accepted(payload):
+        if not row.accepts(payload):
             return None
-        inside = None
+        content = None
     elif isinstance(row, ListRow):
         if row.refuse_empty and not payload:
             return None
-        inside = read_list(rules, row.table, row.context, payload)
-        if inside is None:
+        content = read_list(rules, row.table, row.context, payload)
+        if content is None:
             return None
     elif isinstance(row, FirstRow):
         first = cut_first(payload)
@@ -194,22 +199,24 @@ def read_entry(rules, table, context, kind, payload):
         entry = read_entry(rules, row.table, row.context, *first)
         if entry is None:
             return None
-        inside = [entry]
+        content = [entry]
     else:                                   # a judged peer
-        inside = read_link_body(rules.inside_peer, payload)
-        if inside is None or empty_ports(inside) or not fits(inside.entries):
+        content = read_link_body(rules.inside_peer, payload)
+        if (content is None or has_empty_ports(content)
+                or not fits(content.entries)):
             return None
-    return Entry(table, kind, row, payload, inside,
+    return Entry(table, kind, row, payload, content,
                  written_kind(rules, table, row, kind))
 
 
-def as_text(p):
-    """The text of a kind attribute, as what is in force."""
+def kind_name(p):
+    """The name of a kind of link, from the payload of IFLA_INFO_KIND or
+    IFLA_INFO_SLAVE_KIND."""
     return drop_nul(p).decode("utf-8")
 
 
 def read_list(rules, table, context, b):
-    """All entries of b, or None where b isn't accepted."""
+    """All entries of b, or None if b isn't accepted."""
     pairs = cut(b)
     if pairs is None:
         return None
@@ -223,16 +230,17 @@ def read_list(rules, table, context, b):
         out.append(entry)
         if table is LINK_INFO:
             if proper(kind) == 1:
-                kind_in_force = as_text(payload)
+                kind_in_force = kind_name(payload)
             elif proper(kind) == 4:
-                port_kind = as_text(payload)
+                port_kind = kind_name(payload)
             elif proper(kind) == 5:
                 port_kind = None
     return out
 
 
 def read_link_body(rules, b):
-    """A Body, or None: at least 16 bytes and an accepted list behind them."""
+    """The Body of b; None if b has fewer than 16 bytes, or no accepted list
+    after the first 16."""
     if len(b) < 16:
         return None
     body = Body()
@@ -243,42 +251,42 @@ def read_link_body(rules, b):
 
 
 # --------------------------------------------------------------------------
-# What is kept, sizes, texts, counts
+# Kept entries, sizes, texts, counts
 
-def kept(entry):
-    """The kept entries of a nested row."""
-    keeps = entry.row.table.keeps
-    if keeps is None:
-        return entry.inside
-    return [e for e in entry.inside if proper(e.kind) == keeps]
+def kept_entries(entry):
+    """The entries of a nested row that its normal text keeps."""
+    kept_kind = entry.row.table.kept_kind
+    if kept_kind is None:
+        return entry.content
+    return [e for e in entry.content if proper(e.kind) == kept_kind]
 
 
-def nested(entry):
+def is_nested(entry):
     return isinstance(entry.row, (ListRow, FirstRow))
 
 
 def payload_size(entry):
-    """The size of the canonical payload, unbounded."""
-    if nested(entry):
-        return list_size(kept(entry))
+    """The size of the canonical payload, which may be too large to write."""
+    if is_nested(entry):
+        return list_size(kept_entries(entry))
     if entry.row is PEER:
-        return 16 + list_size(entry.inside.entries)
+        return 16 + list_size(entry.content.entries)
     return len(entry.row.canonical(entry.payload))
 
 
 def list_size(entries):
     """The size of the text of kept entries."""
-    return sum(up(4 + payload_size(e)) for e in entries)
+    return sum(round_up(4 + payload_size(e)) for e in entries)
 
 
 def fits(entries):
-    """Whether each length fits its 2 bytes, of kept entries, at all depths."""
+    """Whether the length of each kept entry, at all depths, fits its 2 bytes."""
     for e in entries:
         if 4 + payload_size(e) > 65535:
             return False
-        if nested(e) and not fits(kept(e)):
+        if is_nested(e) and not fits(kept_entries(e)):
             return False
-        if e.row is PEER and not fits(e.inside.entries):
+        if e.row is PEER and not fits(e.content.entries):
             return False
     return True
 
@@ -287,47 +295,49 @@ def text_of(entries):
     """The text of kept entries that fit."""
     out = []
     for e in entries:
-        if nested(e):
-            payload = text_of(kept(e))
+        if is_nested(e):
+            payload = text_of(kept_entries(e))
         elif e.row is PEER:
-            payload = body_text(e.inside)
+            payload = body_text(e.content)
         else:
             payload = e.row.canonical(e.payload)
         length = 4 + len(payload)
-        out.append(p16(length) + p16(e.written) + payload
-                   + bytes(up(length) - length))
+        out.append(p16(length) + p16(e.written_kind) + payload
+                   + bytes(round_up(length) - length))
     return b"".join(out)
 
 
 def body_text(body):
     """The text of a link body that fits."""
-    return (bytes((body.family, 0)) + p16(layer_written(body.layer))
+    return (bytes((body.family, 0)) + p16(written_layer(body.layer))
             + p32(body.index) + p32(body.flags) + p32(body.mask)
             + text_of(body.entries))
 
 
-def empty_ports(body):
-    """Whether some accepted IFLA_VF_PORTS keeps nothing."""
-    return any(e.row is VF_PORTS_ROW and not kept(e) for e in body.entries)
+def has_empty_ports(body):
+    """Whether the normal text would keep no entry of some IFLA_VF_PORTS."""
+    return any(e.row is VF_PORTS_ROW and not kept_entries(e)
+               for e in body.entries)
 
 
 def count(entries):
-    """The attributes, of all entries that are looked at."""
+    """The number of attributes at all depths, those included that the normal
+    text drops."""
     n = 0
     for e in entries:
         n += 1
-        if nested(e):
-            n += count(e.inside)
+        if is_nested(e):
+            n += count(e.content)
         elif e.row is PEER:
-            n += count(e.inside.entries)
+            n += count(e.content.entries)
     return n
 
 
 # --------------------------------------------------------------------------
-# Meaning the same
+# Equivalence
 
 def same_entries(a, b):
-    """Of two kept lists.  Builds no text."""
+    """Whether two lists of kept entries mean the same.  Builds no text."""
     if len(a) != len(b):
         return False
     for x, y in zip(a, b):
@@ -339,11 +349,11 @@ def same_entries(a, b):
         # Equal entries before this one give equal contexts, so equal rows.
         if x.row is not y.row:
             return False
-        if nested(x):
-            if not same_entries(kept(x), kept(y)):
+        if is_nested(x):
+            if not same_entries(kept_entries(x), kept_entries(y)):
                 return False
         elif x.row is PEER:
-            if not same_link_bodies(x.inside, y.inside):
+            if not same_link_bodies(x.content, y.content):
                 return False
         elif not x.row.same(x.payload, y.payload):
             return False
@@ -351,13 +361,13 @@ def same_entries(a, b):
 
 
 def same_layers(m, n):
-    """Equal, or both outside the list of known types or 65535."""
+    """Whether two types of links are equal, or both are written as 65535."""
     return m == n or ((m not in LAYER_TYPES or m == VOID)
                       and (n not in LAYER_TYPES or n == VOID))
 
 
 def same_link_bodies(a, b):
-    """Of two link bodies, of types 16 to 19."""
+    """Whether two link bodies, of types 16 to 19, mean the same."""
     return (a.family == b.family and a.index == b.index
             and a.flags == b.flags and a.mask == b.mask
             and same_layers(a.layer, b.layer)
@@ -369,7 +379,7 @@ LINK_TYPES = (16, 17, 18, 19)
 
 
 def same_bodies(kind, a, b):
-    """Of two accepted frames of one type."""
+    """Whether the bodies of two accepted frames of one type mean the same."""
     if kind == NOOP:
         return True
     if kind == DONE:
@@ -383,12 +393,12 @@ def same_bodies(kind, a, b):
 # Frames
 
 class Frame:
-    """An accepted frame.  link: its Body for types 16 to 19, else None."""
+    """An accepted frame.  `link` is its Body for types 16 to 19, else None."""
     __slots__ = ("offset", "length", "type", "flags", "sequence", "port",
                  "body", "link")
 
     def body_size(self):
-        """The size of the body as it is written."""
+        """The size of the body in the normal text."""
         if self.link is not None:
             return 16 + list_size(self.link.entries)
         return len(self.plain_text())
@@ -405,12 +415,12 @@ class Frame:
         length = 16 + len(body)
         return (p32(length) + p16(self.type) + p16(self.flags)
                 + p32(self.sequence) + p32(self.port)
-                + body + bytes(up(length) - length))
+                + body + bytes(round_up(length) - length))
 
 
-def front(rules, limit, c, at):
-    """The front of what c has from `at` on: a Frame, or the number of
-    its fault.  At least one byte is there."""
+def read_frame(rules, limit, c, at):
+    """The Frame that starts at offset `at` of c, or the number of its fault.
+    At least one byte is there."""
     left = len(c) - at
     if left < 16:
         return 1
@@ -437,7 +447,7 @@ def front(rules, limit, c, at):
         f.link = read_link_body(rules, f.body)
         if f.link is None:
             return 4
-        if empty_ports(f.link):
+        if has_empty_ports(f.link):
             return 5
         if not fits(f.link.entries):
             return 6
@@ -447,15 +457,15 @@ def front(rules, limit, c, at):
 
 
 def walk(rules, limit, c):
-    """Gives each accepted Frame, then the first fault, if any."""
+    """Yields each accepted Frame, then the first fault, if there is one."""
     at = 0
     while at < len(c):
-        f = front(rules, limit, c, at)
+        f = read_frame(rules, limit, c, at)
         if not isinstance(f, Frame):
-            yield fault(f, at)
+            yield fault_at(f, at)
             return
         yield f
-        at += min(up(f.length), len(c) - at)
+        at += min(round_up(f.length), len(c) - at)
 
 
 def read_capture(rules, limit, c):
@@ -479,9 +489,9 @@ def check_limit(limit):
 def normal_text(capture, limit=DEFAULT_LIMIT, stage="peers", peers_judged=None):
     """(the texts of the frames before the first fault, that fault or None)."""
     check_limit(limit)
-    frames, bad = read_capture(rules_for(stage, peers_judged), limit,
-                               bytes(capture))
-    return b"".join(f.text() for f in frames), bad
+    frames, fault = read_capture(rules_for(stage, peers_judged), limit,
+                                 bytes(capture))
+    return b"".join(f.text() for f in frames), fault
 
 
 def first_fault(capture, limit=DEFAULT_LIMIT, stage="peers", peers_judged=None):
@@ -492,32 +502,33 @@ def first_fault(capture, limit=DEFAULT_LIMIT, stage="peers", peers_judged=None):
 
 
 def measure(capture, limit=DEFAULT_LIMIT, stage="peers", peers_judged=None):
-    """(frames, attributes, text_len), or the fault."""
+    """(frames, attributes, text_len), or the first fault."""
     check_limit(limit)
-    frames, bad = read_capture(rules_for(stage, peers_judged), limit,
-                               bytes(capture))
-    if bad is not None:
-        return bad
+    frames, fault = read_capture(rules_for(stage, peers_judged), limit,
+                                 bytes(capture))
+    if fault is not None:
+        return fault
     return (len(frames),
             sum(count(f.link.entries) for f in frames if f.link is not None),
-            sum(up(16 + f.body_size()) for f in frames))
+            sum(round_up(16 + f.body_size()) for f in frames))
 
 
-def is_fault(answer):
-    """Tells a fault from a measure."""
-    return isinstance(answer[1], str)
+def is_fault(result):
+    """Whether a result of `measure` is a fault."""
+    return isinstance(result[1], str)
 
 
 def same(a, b, limit=DEFAULT_LIMIT, stage="peers", peers_judged=None):
-    """A bool, or (second, fault); a is judged whole before b."""
+    """Whether two legal captures mean the same; else (whether b has the fault,
+    the first fault).  All of a is judged before b."""
     check_limit(limit)
     rules = rules_for(stage, peers_judged)
-    left, bad = read_capture(rules, limit, bytes(a))
-    if bad is not None:
-        return (False, bad)
-    right, bad = read_capture(rules, limit, bytes(b))
-    if bad is not None:
-        return (True, bad)
+    left, fault = read_capture(rules, limit, bytes(a))
+    if fault is not None:
+        return (False, fault)
+    right, fault = read_capture(rules, limit, bytes(b))
+    if fault is not None:
+        return (True, fault)
     return (len(left) == len(right)
             and all(f.type == g.type and f.flags == g.flags
                     and f.sequence == g.sequence and f.port == g.port
@@ -526,7 +537,7 @@ def same(a, b, limit=DEFAULT_LIMIT, stage="peers", peers_judged=None):
 
 
 def check_list(b, stage="peers", peers_judged=None):
-    """(text_len, attributes, fits) of a link info list, None if refused."""
+    """(text_len, attributes, fits) of a link info list; None if refused."""
     entries = read_list(rules_for(stage, peers_judged), LINK_INFO, None,
                         bytes(b))
     if entries is None:
@@ -545,7 +556,7 @@ def same_list(a, b, stage="peers", peers_judged=None):
 
 
 def list_text(b, stage="peers", peers_judged=None):
-    """Canonical text of a link info list that is accepted and fits."""
+    """The canonical text of a link info list; None if refused or unfit."""
     entries = read_list(rules_for(stage, peers_judged), LINK_INFO, None,
                         bytes(b))
     if entries is None or not fits(entries):
@@ -554,12 +565,13 @@ def list_text(b, stage="peers", peers_judged=None):
 
 
 def body_check(b, stage="peers", peers_judged=None):
-    """(text_len, attributes, fits, empty_ports) of a link body, or None."""
+    """(text_len, attributes, fits, empty_ports) of a link body; None if
+    refused."""
     body = read_link_body(rules_for(stage, peers_judged), bytes(b))
     if body is None:
         return None
     return (16 + list_size(body.entries), count(body.entries),
-            fits(body.entries), empty_ports(body))
+            fits(body.entries), has_empty_ports(body))
 
 
 def same_body(a, b, stage="peers", peers_judged=None):
@@ -573,8 +585,8 @@ def same_body(a, b, stage="peers", peers_judged=None):
 
 
 def attr_text(table, context, b, stage="peers", peers_judged=None):
-    """The canonical text of the one attribute that b begins with, under a
-    table of TABLES (or "link") and a context; None where refused or unfit."""
+    """The canonical text of the attribute that b begins with, under a table
+    of TABLES (or "link") and a context; None if refused or unfit."""
     rules = rules_for(stage, peers_judged)
     t = rules.link if table == "link" else TABLES[table]
     first = cut_first(bytes(b))
@@ -587,38 +599,39 @@ def attr_text(table, context, b, stage="peers", peers_judged=None):
 
 
 class Reader:
-    """A reader fed in pieces, over whole strings (quadratic)."""
+    """A model of a reader that is fed in pieces.  It normalises all bytes anew
+    at each piece, so its time is quadratic."""
 
     def __init__(self, limit, stage="peers", peers_judged=None):
         check_limit(limit)
         self.args = (limit, stage, peers_judged)
-        self.s = b""
-        self.failed = None
+        self.capture = b""
+        self.fault_offset = None
 
     def feed(self, piece):
-        """(what is added to `out`, fault or None)."""
-        if self.failed is not None:
-            return b"", fault(12, self.failed)
-        old = normal_text(self.s, *self.args)[0]
-        self.s += bytes(piece)
-        new, bad = normal_text(self.s, *self.args)
-        if bad is not None and bad[0] != 1:
-            self.failed = bad[2]
+        """(the text that the piece adds, fault or None)."""
+        if self.fault_offset is not None:
+            return b"", fault_at(12, self.fault_offset)
+        old = normal_text(self.capture, *self.args)[0]
+        self.capture += bytes(piece)
+        new, fault = normal_text(self.capture, *self.args)
+        if fault is not None and fault[0] != 1:
+            self.fault_offset = fault[2]
         else:
-            bad = None
-        return new[len(old):], bad
+            fault = None
+        return new[len(old):], fault
 
     def finish(self):
-        if self.failed is not None:
-            return fault(12, self.failed)
-        return first_fault(self.s, *self.args)
+        if self.fault_offset is not None:
+            return fault_at(12, self.fault_offset)
+        return first_fault(self.capture, *self.args)
 
     def kept(self):
-        """Bytes of the cut frame that the reader stands for."""
-        if self.failed is not None:
+        """The number of bytes of a cut frame, which `CaptureReader` keeps."""
+        if self.fault_offset is not None:
             return 0
-        bad = first_fault(self.s, *self.args)
-        return 0 if bad is None else len(self.s) - bad[2]
+        fault = first_fault(self.capture, *self.args)
+        return 0 if fault is None else len(self.capture) - fault[2]
 
 
 # --------------------------------------------------------------------------
@@ -628,7 +641,7 @@ USAGE = "usage: linkcap norm [LIMIT] or linkcap same FILE FILE [LIMIT]"
 
 
 def read_limit(word):
-    """A number, or None where the word is no LIMIT."""
+    """The number of a LIMIT, or None if the argument is none."""
     if not word or any(ch not in "0123456789" for ch in word):
         return None
     digits = word.lstrip("0") or "0"
@@ -638,14 +651,15 @@ def read_limit(word):
     return value if LEAST_LIMIT <= value <= GREATEST_LIMIT else None
 
 
-def read_words(words):
-    """("norm", limit), ("same", first, second, limit), or None: status 3."""
-    if words[:1] == ["norm"] and len(words) in (1, 2):
-        limit = DEFAULT_LIMIT if len(words) == 1 else read_limit(words[1])
+def read_arguments(args):
+    """("norm", limit) or ("same", first, second, limit); None for a usage
+    error, of status 3."""
+    if args[:1] == ["norm"] and len(args) in (1, 2):
+        limit = DEFAULT_LIMIT if len(args) == 1 else read_limit(args[1])
         return None if limit is None else ("norm", limit)
-    if words[:1] == ["same"] and len(words) in (3, 4):
-        limit = DEFAULT_LIMIT if len(words) == 3 else read_limit(words[3])
-        return None if limit is None else ("same", words[1], words[2], limit)
+    if args[:1] == ["same"] and len(args) in (3, 4):
+        limit = DEFAULT_LIMIT if len(args) == 3 else read_limit(args[3])
+        return None if limit is None else ("same", args[1], args[2], limit)
     return None
 
 
@@ -663,7 +677,7 @@ def read_fd(fd):
 
 
 def write_fd(fd, b):
-    """(bytes taken, whether writing failed)."""
+    """(number of bytes written, whether writing failed)."""
     at = 0
     while at < len(b):
         try:
@@ -676,20 +690,20 @@ def write_fd(fd, b):
     return at, False
 
 
-def complain(line):
+def report(line):
     write_fd(2, (line + "\n").encode("utf-8", "surrogateescape"))
 
 
 def run_norm(limit, stage, peers_judged):
-    s, broken = read_fd(0)
-    text, bad = normal_text(s, limit, stage, peers_judged)
-    if broken and (bad is None or bad[0] == 1):
-        bad = fault(9, len(s))
-    taken, unwritten = write_fd(1, text)
-    if unwritten:
-        bad = fault(10, taken)
-    if bad is not None:
-        complain(display(bad))
+    s, read_failed = read_fd(0)
+    text, fault = normal_text(s, limit, stage, peers_judged)
+    if read_failed and (fault is None or fault[0] == 1):
+        fault = fault_at(9, len(s))
+    size, write_failed = write_fd(1, text)
+    if write_failed:
+        fault = fault_at(10, size)
+    if fault is not None:
+        report(display(fault))
         return 2
     return 0
 
@@ -700,58 +714,60 @@ def run_same(first, second, limit, stage, peers_judged):
         try:
             fd = os.open(name, os.O_RDONLY)
         except (OSError, ValueError):
-            complain(prefix + display(fault(9, 0)))
+            report(prefix + display(fault_at(9, 0)))
             return 2
-        s, broken = read_fd(fd)
+        s, read_failed = read_fd(fd)
         os.close(fd)
-        if broken:
-            complain(prefix + display(fault(9, len(s))))
+        if read_failed:
+            report(prefix + display(fault_at(9, len(s))))
             return 2
         sides.append(s)
-    answer = same(sides[0], sides[1], limit, stage, peers_judged)
-    if not isinstance(answer, bool):
-        complain(("second: " if answer[0] else "first: ")
-                 + display(answer[1]))
+    result = same(sides[0], sides[1], limit, stage, peers_judged)
+    if not isinstance(result, bool):
+        report(("second: " if result[0] else "first: ") + display(result[1]))
         return 2
-    if write_fd(1, b"same\n" if answer else b"different\n")[1]:
-        complain(display(fault(10, 0)))
+    if write_fd(1, b"same\n" if result else b"different\n")[1]:
+        report(display(fault_at(10, 0)))
         return 2
-    return 0 if answer else 1
+    return 0 if result else 1
 
 
 def run_measure(limit, stage, peers_judged):
-    s, broken = read_fd(0)
-    if broken:
-        complain(display(fault(9, len(s))))
+    s, read_failed = read_fd(0)
+    if read_failed:
+        report(display(fault_at(9, len(s))))
         return 2
-    answer = measure(s, limit, stage, peers_judged)
-    if is_fault(answer):
-        complain(display(answer))
+    result = measure(s, limit, stage, peers_judged)
+    if is_fault(result):
+        report(display(result))
         return 2
-    write_fd(1, b"%d %d %d\n" % answer)
+    write_fd(1, b"%d %d %d\n" % result)
     return 0
 
 
-def main(words):
-    """The oracle's own options come first: --stage NAME, --peers, --no-peers.
-    `measure [LIMIT]` is the oracle's own word."""
+def main(args):
+    """Runs the program, and returns its exit status.
+
+    The options --stage NAME, --peers and --no-peers may precede the arguments
+    of linkcap.  There is one more command, `measure [LIMIT]`.
+    """
     stage, peers_judged = "peers", None
-    while words and words[0].startswith("--"):
-        if words[0] == "--stage" and len(words) > 1:
-            stage, words = stage_name(words[1]), words[2:]
-        elif words[0] == "--peers":
-            peers_judged, words = True, words[1:]
-        elif words[0] == "--no-peers":
-            peers_judged, words = False, words[1:]
+    while args and args[0].startswith("--"):
+        if args[0] == "--stage" and len(args) > 1:
+            stage, args = stage_name(args[1]), args[2:]
+        elif args[0] == "--peers":
+            peers_judged, args = True, args[1:]
+        elif args[0] == "--no-peers":
+            peers_judged, args = False, args[1:]
         else:
             break
-    if words[:1] == ["measure"] and len(words) in (1, 2):
-        limit = DEFAULT_LIMIT if len(words) == 1 else read_limit(words[1])
+    if args[:1] == ["measure"] and len(args) in (1, 2):
+        limit = DEFAULT_LIMIT if len(args) == 1 else read_limit(args[1])
         if limit is not None:
             return run_measure(limit, stage, peers_judged)
-    command = read_words(words)
+    command = read_arguments(args)
     if command is None:
-        complain(USAGE)
+        report(USAGE)
         return 3
     if command[0] == "norm":
         return run_norm(command[1], stage, peers_judged)

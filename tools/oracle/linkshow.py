@@ -1,11 +1,14 @@
 #!/usr/bin/env python3
-"""Lines of a capture, in the format of lines.md.  Rests on linkoracle.py, and on
-rows.tsv for names, formats of values, records and texts of numbers.
+"""Lines of a capture, in the format of lines.md.  Names, formats of values,
+records and texts of numbers are those of rows.tsv; linkoracle.py does the rest.
 
     python3 linkshow.py [--limit N] [--without-numbers] [--only TYPE,..] < CAPTURE
 
-Library: lines(capture, limit, stage, numbers, only) -> (text, first fault or
-None), why(capture, limit, stage) -> what is refused, where, and what it is.
+Library:
+
+    lines(capture, limit, stage, numbers, only)  -> (text, first fault or None)
+    why(capture, limit, stage)                   -> the reason of a refused body
+                                                    and its offset, or None
 """
 import argparse
 import ipaddress
@@ -19,24 +22,24 @@ import linkoracle as o      # noqa: E402
 from tables import DATA, FLAGS, NUMBERS, TYPES      # noqa: E402
 
 
-def named_size(held):
-    """The size that the kernel's attribute has, of the shape `exact n`; None for any."""
-    return None if held == "raw" else int(held.split(" ")[1])
+def kernel_size(shape):
+    """The size of a kernel's attribute, by its shape `exact n`; None if it may have any."""
+    return None if shape == "raw" else int(shape.split(" ")[1])
 
 
-def fields(words):
-    """name:bytes or name:bytes:how of each field, as (name, bytes, how)."""
-    return [(name, int(size), *(how or ["number"])) for name, size, *how in (f.split(":") for f in words.split(" "))]
+def fields(column):
+    """The fields of a record as (name, size, format), from `name:size` and `name:size:format`."""
+    return [(name, int(size), *(style or ["number"])) for name, size, *style in (f.split(":") for f in column.split(" "))]
 
 
-# (table, kind) -> (name, how it is shown)
-ROWS = {(table, int(kind)): (name, show) for table, kind, name, _, show in DATA["row"]}
-# (list of bytes, kind) -> (name, how it is shown, its size)
-NAMED = {(table, int(kind)): (name, show, named_size(held)) for table, kind, name, held, show in DATA["named"]}
-RECORDS = {name: fields(words) for name, words in DATA["record"]}
+# (table, kind) -> (name, format of the value)
+ROWS = {(table, int(kind)): (name, style) for table, kind, name, _, style in DATA["row"]}
+# (list of raw attributes, kind) -> (name, format of the value, size)
+NAMED = {(table, int(kind)): (name, style, kernel_size(shape)) for table, kind, name, shape, style in DATA["named"]}
+RECORDS = {name: fields(column) for name, column in DATA["record"]}
 
 
-def quoted(p):
+def quote(p):
     out = ['"']
     for c in o.drop_nul(p):
         if c in b'"\\':
@@ -56,7 +59,7 @@ def address(p):
     return str(ipaddress.IPv6Address(p))
 
 
-def colons(p):
+def hex_with_colons(p):
     return ":".join("%02x" % c for c in p)
 
 
@@ -69,45 +72,45 @@ def flag_names(name, n):
     return " (%s)" % " | ".join(names) if names else ""
 
 
-def number(show, p):
-    """A number or a set of flags, perhaps with the name of its type."""
-    how, _, kind = show.partition(" ")
-    n = int.from_bytes(p, "big" if how.startswith("big_endian") else "little", signed=how == "signed")
-    if how.endswith("flags"):
-        return "0x%x%s" % (n, flag_names(kind, n) if kind else "")
-    assert how in ("number", "big_endian", "signed"), show
-    text = NUMBERS[kind].get(n) if kind else None
+def number(style, p):
+    """A number or a set of flags, with the text or names that its type gives it."""
+    name, _, type_name = style.partition(" ")
+    n = int.from_bytes(p, "big" if name.startswith("big_endian") else "little", signed=name == "signed")
+    if name.endswith("flags"):
+        return "0x%x%s" % (n, flag_names(type_name, n) if type_name else "")
+    assert name in ("number", "big_endian", "signed"), style
+    text = NUMBERS[type_name].get(n) if type_name else None
     return "%d%s" % (n, " (%s)" % text if text else "")
 
 
 def padded_address(p):
-    """An address in a field of 32 bytes: the last zeros left out, from the 7th byte on."""
+    """The address in a field of 32 bytes, without the zeros at its end from the 7th byte on."""
     n = len(p)
     while n > 6 and p[n - 1] == 0:
         n -= 1
-    return colons(p[:n])
+    return hex_with_colons(p[:n])
 
 
-def truth(p):
+def on_or_off(p):
     return "on" if any(p) else "off"
 
 
-def field(show, p):
-    if show == "padded_address":
+def field(style, p):
+    if style == "padded_address":
         return padded_address(p)
-    if show == "truth":
-        return truth(p)
-    return number(show, p)
+    if style == "boolean":
+        return on_or_off(p)
+    return number(style, p)
 
 
-def record(name, p, sparse):
+def record(name, p, is_sparse):
     out, at = [], 0
-    for title, size, show in RECORDS[name]:
+    for field_name, size, style in RECORDS[name]:
         part = p[at:at + size]
         at += size
-        if sparse and not any(part):
+        if is_sparse and not any(part):
             continue
-        out.append("%s=%s" % (title, field(show, part)))
+        out.append("%s=%s" % (field_name, field(style, part)))
     assert not any(p[at:]), (name, at, len(p))
     return " ".join(out)
 
@@ -117,17 +120,17 @@ def port_range(p):
 
 
 def flags_by_size(p):
-    """IFLA_IPTUN_FLAGS: 2 bytes of ipip and sit, 4 of ip6tnl."""
+    """The value of IFLA_IPTUN_FLAGS, which has 2 bytes under ipip and sit, and 4 under ip6tnl."""
     return number("flags" if len(p) == 4 else "big_endian_flags", p)
 
 
 VALUES = {
     "presence": lambda p: "",
     "bytes": bytes.hex,
-    "hardware_address": colons,
-    "text": quoted,
+    "hardware_address": hex_with_colons,
+    "text": quote,
     "address": address,
-    "truth": truth,
+    "boolean": on_or_off,
     "optional_byte": lambda p: str(p[0]) if p else "",
     "port_range": port_range,
     "flags_by_size": flags_by_size,
@@ -135,14 +138,14 @@ VALUES = {
 }
 
 
-def value(show, p):
-    """What follows the name, of a canonical payload."""
-    how, _, kind = show.partition(" ")
-    if how in VALUES:
-        return VALUES[how](p)
-    if how in ("fields", "sparse_record"):
-        return record(kind, p, how == "sparse_record")
-    return number(show, p)
+def value(style, p):
+    """The text of a canonical payload, which follows the attribute's name."""
+    name, _, type_name = style.partition(" ")
+    if name in VALUES:
+        return VALUES[name](p)
+    if name in ("fields", "sparse_record"):
+        return record(type_name, p, name == "sparse_record")
+    return number(style, p)
 
 
 def line(depth, name, text=""):
@@ -150,21 +153,24 @@ def line(depth, name, text=""):
 
 
 def named_bytes(table, e):
-    """An attribute that the normal text keeps as bytes with its whole kind,
-    under the kernel's name where it has one: its value where it has the
-    kernel's size, else `bytes` and the bytes."""
+    """The name and the value of an attribute that the normal text keeps as
+    bytes, with all 16 bits of its kind.
+
+    The name is the kernel's for these 16 bits, or else the kind.  The value is
+    formatted if it has the kernel's size, and else `bytes` and the bytes.
+    """
     if (table, e.kind) not in NAMED:
         return "kind 0x%04x" % e.kind, e.payload.hex()
-    name, show, size = NAMED[table, e.kind]
+    name, style, size = NAMED[table, e.kind]
     if size is None:
         return name, e.payload.hex()
     if len(e.payload) != size:
         return name, ("bytes " + e.payload.hex()).rstrip()
-    return name, value(show, e.payload)
+    return name, value(style, e.payload)
 
 
-def bytes_table(table, context, e):
-    """Whose names the attributes of a list of bytes have."""
+def raw_list_name(table, context, e):
+    """The name in rows.tsv of the list of raw attributes inside an attribute, or None."""
     kind, port_kind, family = context
     if table == "link_info":
         return "data " + kind if o.proper(e.kind) == 2 else "port " + port_kind
@@ -177,33 +183,33 @@ def entry_lines(depth, table, e, context):
     if e.row.raw:
         return [line(depth, *named_bytes(table, e))]
     kind = o.proper(e.kind)
-    name, show = ROWS[table, kind]
-    if o.nested(e):
-        inside = e.row.table.name
-        if inside == "raw":
-            inside = bytes_table(table, context, e)
-        return [line(depth, name)] + list_lines(depth + 1, inside, o.kept(e), context[2])
+    name, style = ROWS[table, kind]
+    if o.is_nested(e):
+        inner = e.row.table.name
+        if inner == "raw":
+            inner = raw_list_name(table, context, e)
+        return [line(depth, name)] + list_lines(depth + 1, inner, o.kept_entries(e), context[2])
     if e.row is o.PEER:
-        return [line(depth, name)] + body_lines(depth + 1, e.inside)
-    if e.row.words == "raw" and show != "hardware_address":     # held as bytes here
-        show = "bytes"
-    return [line(depth, name, value(show, e.row.canonical(e.payload)))]
+        return [line(depth, name)] + body_lines(depth + 1, e.content)
+    if e.row.name == "raw" and style != "hardware_address":     # bytes in this context
+        style = "bytes"
+    return [line(depth, name, value(style, e.row.canonical(e.payload)))]
 
 
 def list_lines(depth, table, entries, family):
     out, kind, port_kind = [], None, None
     for e in entries:
         out += entry_lines(depth, table, e, (kind, port_kind, family))
-        if table == "link_info" and e.row.words == "text":
+        if table == "link_info" and e.row.name == "text":
             if o.proper(e.kind) == 1:
-                kind = o.as_text(e.payload)
+                kind = o.kind_name(e.payload)
             else:
-                port_kind = o.as_text(e.payload)
+                port_kind = o.kind_name(e.payload)
     return out
 
 
 def body_lines(depth, body):
-    layer = o.layer_written(body.layer)
+    layer = o.written_layer(body.layer)
     head = "family %s type %s index %d flags %s change %s" % (
         number("number AddressFamily", bytes([body.family])),
         number("number LinkLayerType", o.p16(layer)), body.index,
@@ -213,7 +219,7 @@ def body_lines(depth, body):
 
 
 def flag_set(kind):
-    """The names that fit a message's type."""
+    """The set of flags that a message's type determines, as the end of its name in rows.tsv."""
     if kind == 2:
         return "Ack"
     return ("Create", "Delete", "Get", "Create")[kind % 4] if kind >= 16 and kind in TYPES else ""
@@ -221,9 +227,8 @@ def flag_set(kind):
 
 def frame_lines(f, numbers=True):
     flags = number("named_flags NlmFlags" + flag_set(f.type), o.p16(f.flags))
-    told = "flags %s seq %d port %d" % (flags, f.sequence, f.port)
-    out = [line(0, TYPES.get(f.type, "type %d" % f.type),
-                told if numbers else "flags " + flags)]
+    header = "flags " + flags + (" seq %d port %d" % (f.sequence, f.port) if numbers else "")
+    out = [line(0, TYPES.get(f.type, "type %d" % f.type), header)]
     if f.link is not None:
         return out + body_lines(1, f.link)
     body = f.plain_text()
@@ -232,10 +237,10 @@ def frame_lines(f, numbers=True):
         rest = body[4:]
         if f.type == o.ERROR and len(rest) >= 16:   # the request's header
             kind, size = o.u16(rest, 4), o.u32(rest, 0)
-            asked = "length %d %s flags %s" % (size, TYPES.get(kind, "type %d" % kind),
-                                               number("named_flags NlmFlags" + flag_set(kind), rest[6:8]))
-            told = " seq %d port %d" % (o.u32(rest, 8), o.u32(rest, 12))
-            out.append(line(1, "request", asked + (told if numbers else "")))
+            request = "length %d %s flags %s" % (size, TYPES.get(kind, "type %d" % kind),
+                                                 number("named_flags NlmFlags" + flag_set(kind), rest[6:8]))
+            request += " seq %d port %d" % (o.u32(rest, 8), o.u32(rest, 12)) if numbers else ""
+            out.append(line(1, "request", request))
             rest = rest[16:]
         if rest:
             out.append(line(1, "rest", rest.hex()))
@@ -245,59 +250,62 @@ def frame_lines(f, numbers=True):
 
 
 def lines(capture, limit=o.DEFAULT_LIMIT, stage="peers", numbers=True, only=None):
-    """only: the types of messages to show; None: all."""
-    frames, bad = o.read_capture(o.rules_for(stage), limit, bytes(capture))
+    """(the lines of the frames before the first fault, that fault or None).
+
+    `only` is a set of types, and leaves out messages of other types.
+    """
+    frames, fault = o.read_capture(o.rules_for(stage), limit, bytes(capture))
     return "".join("".join(frame_lines(f, numbers)) for f in frames
-                   if only is None or f.type in only), bad
+                   if only is None or f.type in only), fault
 
 
-def read_only(words):
-    """`newlink,setlink,77` as types; ValueError for another word."""
+def read_only(argument):
+    """The types of `newlink,setlink,77`; ValueError if one is neither a name nor a number of a type."""
     names = {name.split("_")[1].lower(): kind for kind, name in TYPES.items()}
-    return {names[w] if w in names else int(w) if w.isdigit() and int(w) < 65536 else int("") for w in words.split(",")}
+    return {names[w] if w in names else int(w) if w.isdigit() and int(w) < 65536 else int("") for w in argument.split(",")}
 
 
 # --------------------------------------------------------------------------
-# What of a refused body is refused
+# Reasons of refused bodies
 
 def why_list(rules, table, context, b, at, family):
-    """(names from outside in, place, reason) of the first attribute for which
-    a list is refused; None where the list is accepted."""
-    place, kind_in_force, port_kind = 0, None, None
-    while len(b) - place >= 4:
-        length, kind = o.u16(b, place), o.u16(b, place + 2)
-        if length < 4 or place + length > len(b):
-            return [], at + place, "no attribute: %d bytes are left, and its length is %d" % (len(b) - place, length)
-        payload = b[place + 4:place + length]
+    """(names from outside in, offset, reason) of the first attribute of a list
+    that isn't accepted; None if the list is accepted."""
+    start, kind_in_force, port_kind = 0, None, None
+    while len(b) - start >= 4:
+        length, kind = o.u16(b, start), o.u16(b, start + 2)
+        if length < 4 or start + length > len(b):
+            return [], at + start, "no attribute: %d bytes are left, and its length is %d" % (len(b) - start, length)
+        payload = b[start + 4:start + length]
         here = (kind_in_force, port_kind) if table is o.LINK_INFO else context
         proper = o.proper(kind)
         row = rules.row(table, here, proper)
         if o.read_entry(rules, table, here, kind, payload) is None:
             name = ROWS[table.name, proper][0]
-            path, where, reason = why_payload(rules, row, payload, at + place + 4, family)
+            path, offset, reason = why_payload(rules, row, payload, at + start + 4, family)
             if row is o.REFUSED and table is o.LINK_INFO:
                 reason = "no IFLA_INFO_%sKIND is in force" % ("SLAVE_" if proper == 5 else "")
-            return [name] + path, at + place if where is None else where, reason
+            return [name] + path, at + start if offset is None else offset, reason
         if table is o.LINK_INFO:
             if proper == 1:
-                kind_in_force = o.as_text(payload)
+                kind_in_force = o.kind_name(payload)
             elif proper == 4:
-                port_kind = o.as_text(payload)
+                port_kind = o.kind_name(payload)
             elif proper == 5:
                 port_kind = None
-        place += o.up(length)
-    if len(b) > place:
-        return [], at + place, "no attribute: %d bytes are left" % (len(b) - place)
+        start += o.round_up(length)
+    if len(b) > start:
+        return [], at + start, "no attribute: %d bytes are left" % (len(b) - start)
     return None
 
 
 def why_payload(rules, row, payload, at, family):
-    """The same of a payload that is refused; the place None where it is the
-    attribute's own."""
+    """The same of a payload that isn't accepted.  The offset is None if it is
+    that of the attribute whose payload this is."""
     if isinstance(row, o.Shape):
         if row is o.REFUSED:
             return [], None, "no payload is accepted under this kind of link"
-        if row.words == "text":
+        if row.name == "text":
             return [], None, "a text that isn't UTF-8"
         return [], None, "a payload of %d bytes" % len(payload)
     if isinstance(row, o.ListRow):
@@ -310,11 +318,11 @@ def why_payload(rules, row, payload, at, family):
             return [], at, "no attribute: %d bytes are left" % len(payload) if len(payload) < 4 else \
                 "no attribute: %d bytes are left, and its length is %d" % (len(payload), o.u16(payload, 0))
         return why_list(rules, row.table, row.context, payload[:4 + len(first[1])], at, family)
-    found = why_body(rules.inside_peer, payload, at)
-    if found is not None:
-        return found
-    inside = o.read_link_body(rules.inside_peer, payload)
-    return [], None, "ports of which nothing is kept" if o.empty_ports(inside) else "an attribute of the text is over 65535 bytes"
+    refusal = why_body(rules.inside_peer, payload, at)
+    if refusal is not None:
+        return refusal
+    body = o.read_link_body(rules.inside_peer, payload)
+    return [], None, "ports of which nothing is kept" if o.has_empty_ports(body) else "an attribute of the text is over 65535 bytes"
 
 
 def why_body(rules, b, at):
@@ -324,34 +332,35 @@ def why_body(rules, b, at):
 
 
 def why(capture, limit=o.DEFAULT_LIMIT, stage="peers"):
-    """What follows the words of the fault `refused body`; None of any other."""
+    """The names, the reason and the offset of a refused body, as a text; None
+    if the first fault is no refused body."""
     rules = o.rules_for(stage)
-    bad = o.read_capture(rules, limit, bytes(capture))[1]
-    if bad is None or bad[0] != 4:
+    fault = o.read_capture(rules, limit, bytes(capture))[1]
+    if fault is None or fault[0] != 4:
         return None
-    at = bad[2]
+    at = fault[2]
     body = capture[at + 16:at + o.u32(capture, at)]
     if o.u16(capture, at + 4) not in o.LINK_TYPES:
         return "a body of %d bytes" % len(body)
-    path, place, reason = why_body(rules, body, at + 16)
-    if place is None:
-        place = at + 16
-    return "%s%s at %d" % (" > ".join(path) + ": " if path else "", reason, place)
+    path, offset, reason = why_body(rules, body, at + 16)
+    if offset is None:
+        offset = at + 16
+    return "%s%s at %d" % (" > ".join(path) + ": " if path else "", reason, offset)
 
 
 def main():
-    ap = argparse.ArgumentParser()
-    ap.add_argument("--limit", type=int, default=o.DEFAULT_LIMIT)
-    ap.add_argument("--stage", default="peers")
-    ap.add_argument("--without-numbers", action="store_true")
-    ap.add_argument("--only", type=read_only)
-    a = ap.parse_args()
+    parser = argparse.ArgumentParser()
+    parser.add_argument("--limit", type=int, default=o.DEFAULT_LIMIT)
+    parser.add_argument("--stage", default="peers")
+    parser.add_argument("--without-numbers", action="store_true")
+    parser.add_argument("--only", type=read_only)
+    args = parser.parse_args()
     capture = sys.stdin.buffer.read()
-    text, bad = lines(capture, a.limit, a.stage, not a.without_numbers, a.only)
+    text, fault = lines(capture, args.limit, args.stage, not args.without_numbers, args.only)
     sys.stdout.write(text)
-    if bad is not None:
-        more = why(capture, a.limit, a.stage)
-        sys.stderr.write(o.display(bad) + (": " + more if more else "") + "\n")
+    if fault is not None:
+        reason = why(capture, args.limit, args.stage)
+        sys.stderr.write(o.display(fault) + (": " + reason if reason else "") + "\n")
         return 2
     return 0
 

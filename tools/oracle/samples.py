@@ -1,8 +1,8 @@
 #!/usr/bin/env python3
 """Compares the samples' bytes, normal texts and lines.
 
-    tools/oracle/samples.py LINKCAP LINKSHOW    the independent implementation, both programs, and the stored lines
-    tools/oracle/samples.py --write             writes each sample's lines anew, by the independent implementation
+    tools/oracle/samples.py LINKCAP LINKSHOW    of the independent implementation, both programs, and the stored lines
+    tools/oracle/samples.py --write             writes the lines of each sample, by the independent implementation
 
 The status is 0 if all agree.
 """
@@ -18,50 +18,50 @@ SAMPLES = sorted((TOP / "samples").rglob("*.bin"))
 INDEX = TOP / "samples" / "kinds" / "index.tsv"
 
 
-def text_of(capture):
+def normal_text(capture):
     """The normal text of a legal capture, by the independent implementation."""
     text, fault = linkoracle.normal_text(capture)
     assert fault is None, fault
     return text
 
 
-def printed(*words):
-    return subprocess.run(words, stdin=subprocess.DEVNULL, capture_output=True, check=True).stdout
+def output_of(*command):
+    return subprocess.run(command, stdin=subprocess.DEVNULL, capture_output=True, check=True).stdout
 
 
-def faults(sample, linkcap, linkshow_program):
-    """What disagrees about a sample."""
+def differences(sample, linkcap, linkshow_program):
+    """The texts and lines of a sample that differ from those of the independent implementation."""
     capture = sample.read_bytes()
-    text, (lines, _) = text_of(capture), linkshow.lines(capture)
-    normalised = subprocess.run([linkcap, "norm"], input=capture, capture_output=True, check=True).stdout
-    found = {
-        "the normal text by linkcap": normalised == text,
-        "the normal text of the normal text": text_of(text) == text,
+    text, (lines, _) = normal_text(capture), linkshow.lines(capture)
+    linkcap_text = subprocess.run([linkcap, "norm"], input=capture, capture_output=True, check=True).stdout
+    is_equal = {
+        "the normal text by linkcap": linkcap_text == text,
+        "the normal text of the normal text": normal_text(text) == text,
         "the lines of the normal text": linkshow.lines(text)[0] == lines,
-        "the lines by linkshow": printed(linkshow_program, sample).decode() == lines,
+        "the lines by linkshow": output_of(linkshow_program, sample).decode() == lines,
         "the stored lines": sample.with_suffix(".lines").read_text() == lines,
     }
-    return [what for what, is_so in found.items() if not is_so]
+    return [name for name, equal in is_equal.items() if not equal]
 
 
 def index_faults():
-    """What is wrong with the index of the kinds: a row for each message, in order, which names the link that it is about."""
+    """What is wrong with index.tsv, which has a row for each message with a command that names the message's link."""
     rows = [line.split("\t") for line in INDEX.read_text().splitlines()[1:]]
     starts = [(sample.name, offset) for sample in sorted(INDEX.parent.glob("*.bin")) for offset in offsets(sample.read_bytes())]
     if sorted((row[0], int(row[1])) for row in rows) != starts:
-        yield "a row for each message"
+        yield "index.tsv hasn't one row for each message"
     for name, offset, _, command in rows:
         lines, _ = linkshow.lines((INDEX.parent / name).read_bytes()[int(offset):])
         link = lines.split('\n  IFLA_IFNAME "')[1].split('"')[0]
         if link not in command.split() and command != "no command of iproute2":
-            yield f"{name} at {offset} is of {link}, and not of: {command}"
+            yield f"index.tsv: {name} at {offset} is about {link}, which its command doesn't name: {command}"
 
 
 def offsets(capture):
     offset = 0
     while offset < len(capture):
         yield offset
-        offset += linkoracle.up(linkoracle.u32(capture, offset))
+        offset += linkoracle.round_up(linkoracle.u32(capture, offset))
 
 
 def main():
@@ -71,8 +71,8 @@ def main():
         return 0
     wrong = list(index_faults())
     for sample in SAMPLES:
-        wrong += [f"{sample.relative_to(TOP)}: {what}" for what in faults(sample, *sys.argv[1:])]
-    print("".join(f"samples: {what} differs\n" for what in wrong), end="")
+        wrong += [f"{sample.relative_to(TOP)}: {name} differs" for name in differences(sample, *sys.argv[1:])]
+    print("".join(f"samples: {line}\n" for line in wrong), end="")
     print(f"samples: {len(SAMPLES)} captures, {len(wrong)} faults")
     return 1 if wrong else 0
 

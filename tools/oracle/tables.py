@@ -1,7 +1,7 @@
-"""Shapes and the tables of rows, for linkoracle.py, as rows.tsv has them.
+"""Shapes, and the tables of rows.tsv, for linkoracle.py.
 
-A row is a shape (docs/shapes.md), a list, a peer, or a choice by what it stands
-under; a table is rows by kinds (docs/rows.md).
+A row is a shape (docs/shapes.md), a list, a peer, or a choice that depends on
+its context.  A table has a row for each of its kinds (docs/rows.md).
 """
 import os
 import re
@@ -9,8 +9,8 @@ import re
 # --------------------------------------------------------------------------
 # Alignment, kinds, numbers
 
-def up(n):
-    """The least multiple of 4 not below n."""
+def round_up(n):
+    """The least multiple of 4 that isn't less than n."""
     return (n + 3) // 4 * 4
 
 
@@ -39,21 +39,22 @@ def p32(n):
 
 
 # --------------------------------------------------------------------------
-# Shapes (docs/shapes.md).  Columns: accepted, mean the same, canonical.
+# Shapes (docs/shapes.md)
 
 class Shape:
-    """A row that holds bytes: what is accepted, what means the same, and what
-    is written, as three functions."""
+    """The row of a payload that holds no attributes, as three functions:
+    whether it accepts a payload, whether two payloads mean the same, and the
+    canonical payload."""
     raw = False
 
-    def __init__(self, words, accepted, same, canonical):
-        self.words = words
-        self.accepted = accepted
+    def __init__(self, name, accepts, same, canonical):
+        self.name = name
+        self.accepts = accepts
         self.same = same
         self.canonical = canonical
 
     def __repr__(self):
-        return self.words
+        return self.name
 
 
 def number(p):
@@ -64,16 +65,16 @@ def equal(p, q):
     return p == q
 
 
-def itself(p):
+def identity(p):
     return p
 
 
-def anything(*_):
+def always(*_):
     return True
 
 
 def drop_nul(p):
-    """Drops one last NUL, if there."""
+    """A payload without its last byte, if that is a NUL."""
     return p[:-1] if p[-1:] == b"\0" else p
 
 
@@ -93,9 +94,9 @@ ZERO4 = bytes(4)
 
 # The three functions of a shape, from its numbers
 SHAPES = {
-    "exact": lambda n: (lambda p: len(p) == n, equal, itself),
-    "either": lambda m, n: (lambda p: len(p) in (m, n), equal, itself),
-    "at_most": lambda n: (lambda p: len(p) <= n, equal, itself),
+    "exact": lambda n: (lambda p: len(p) == n, equal, identity),
+    "either": lambda m, n: (lambda p: len(p) in (m, n), equal, identity),
+    "at_most": lambda n: (lambda p: len(p) <= n, equal, identity),
     "nonzero_byte": lambda: (
         lambda p: len(p) == 1,
         lambda p, q: (p[0] == 0) == (q[0] == 0),
@@ -108,13 +109,13 @@ SHAPES = {
         lambda p: len(p) == 4,
         lambda p, q: (number(p) == 0) == (number(q) == 0),
         lambda p: p32(0 if number(p) == 0 else 1)),
-    "presence": lambda: (anything, anything, lambda p: b""),
+    "presence": lambda: (always, always, lambda p: b""),
     "text": lambda: (
         lambda p: is_utf8(drop_nul(p)),
         lambda p, q: drop_nul(p) == drop_nul(q),
         lambda p: drop_nul(p) + b"\0"),
-    "raw": lambda: (anything, equal, itself),
-    "never": lambda: (lambda p: False, equal, itself),
+    "raw": lambda: (always, equal, identity),
+    "never": lambda: (lambda p: False, equal, identity),
     "fixed_record": lambda m, n: (
         lambda p: len(p) >= m,
         lambda p, q: p[:m] == q[:m],
@@ -124,23 +125,23 @@ SHAPES = {
         lambda p, q: p[:4] == q[:4] and (p[4:8] == ZERO4) == (q[4:8] == ZERO4),
         lambda p: p[:4] + p32(0 if p[4:8] == ZERO4 else 1)),
     "resized": lambda n: (
-        anything,
+        always,
         lambda p, q: cut_or_extend(p, n) == cut_or_extend(q, n),
         lambda p: cut_or_extend(p, n)),
 }
 
 
-def shape(words):
-    """The shape of its words, as `exact 4`."""
-    name, *numbers = words.split(" ")
-    return Shape(words, *SHAPES[name](*map(int, numbers)))
+def shape(column):
+    """The shape that a column of rows.tsv names, as `exact 4`."""
+    name, *numbers = column.split(" ")
+    return Shape(column, *SHAPES[name](*map(int, numbers)))
 
 
-# A raw attribute: kept with all 16 bits of its kind.
+# The row of a raw attribute, which keeps all 16 bits of its kind.
 RAW = shape("raw")
 RAW.raw = True
 
-# A kind that its context refuses whatever it holds.
+# The row of a kind that its context refuses with any payload.
 REFUSED = shape("never")
 
 
@@ -148,38 +149,38 @@ REFUSED = shape("never")
 # Rows that are nested tables
 
 class ListRow:
-    """A list: context is what its entries are read under."""
+    """A list of attributes, which are read under `context`."""
     raw = False
 
     def __init__(self, table, context=None, refuse_empty=False):
         self.table, self.context = table, context
         self.refuse_empty = refuse_empty
-        self.words = "list %s" % table.name
+        self.name = "list %s" % table.name
 
     def __repr__(self):
-        return self.words
+        return self.name
 
 
 class FirstRow:
-    """One whole attribute; whatever follows is dropped."""
+    """One attribute.  The bytes after it are dropped."""
     raw = False
 
     def __init__(self, table, context=None):
         self.table, self.context = table, context
-        self.words = "list first_only %s" % table.name
+        self.name = "list first_only %s" % table.name
 
     def __repr__(self):
-        return self.words
+        return self.name
 
 
 class PeerRow:
-    """A judged peer: a link body whose own peers are bytes, that fits and has
-    no emptied ports."""
+    """A judged peer: a link body that fits and has no empty ports.  Peers
+    inside it are bytes."""
     raw = False
-    words = "peer"
+    name = "peer"
 
     def __repr__(self):
-        return self.words
+        return self.name
 
 
 PEER = PeerRow()
@@ -188,20 +189,21 @@ PEER = PeerRow()
 class Choice:
     """A row that depends on its context or on the rules in force."""
 
-    def __init__(self, words, pick):
-        self.words, self.pick = words, pick
+    def __init__(self, name, pick):
+        self.name, self.pick = name, pick
 
     def __repr__(self):
-        return self.words
+        return self.name
 
 
 class Table:
-    """Kind proper -> row.  keeps: the only kind proper that is kept."""
+    """Rows by kind proper.  kept_kind: the only kind proper that normal texts
+    keep; None if they keep all."""
 
-    def __init__(self, name, rows=None, keeps=None):
+    def __init__(self, name, rows=None, kept_kind=None):
         self.name = name
         self.rows = rows if rows is not None else {}
-        self.keeps = keeps
+        self.kept_kind = kept_kind
 
     def __repr__(self):
         return self.name
@@ -214,13 +216,13 @@ PATH = os.path.join(os.path.dirname(os.path.abspath(__file__)), "rows.tsv")
 
 
 def read_data():
-    """The lines of rows.tsv by their first word, each as its other columns."""
-    found = {}
+    """The lines of rows.tsv by their first column, each as its other columns."""
+    lines = {}
     for line in open(PATH, encoding="utf-8"):
         if not line.startswith("#"):
-            what, *columns = line.rstrip("\n").split("\t")
-            found.setdefault(what, []).append(columns)
-    return found
+            key, *columns = line.rstrip("\n").split("\t")
+            lines.setdefault(key, []).append(columns)
+    return lines
 
 
 DATA = read_data()
@@ -229,55 +231,58 @@ for _name, *_ in DATA["row"]:
     TABLES.setdefault(_name, Table(_name))
 
 
-def list_row(form, name, context):
-    """A list of a table, whose entries are read under a context."""
+def list_row(list_kind, name, context):
+    """The row of a list, whose entries are read under a context by a table."""
     table = TABLES[name]
-    if form in ("of_kind_one", "ports"):
-        table.keeps = 1
-    if form == "first_only":
+    if list_kind in ("of_kind_one", "ports"):
+        table.kept_kind = 1
+    if list_kind == "first_only":
         return FirstRow(table, context)
-    return ListRow(table, context, refuse_empty=form in ("non_empty", "ports"))
+    return ListRow(table, context, refuse_empty=list_kind in ("non_empty", "ports"))
 
 
-def choices(words):
-    """`a=x, other=y` as a dictionary, `none` as the row of a raw attribute."""
-    pairs = [pair.split("=") for pair in words.split(", ")]
-    return {key: RAW if held == "none" else REFUSED if held == "never" else row(held) for key, held in pairs}
+def choices(column):
+    """`a=x, other=y` as a dictionary of rows; `none` is the row of a raw attribute."""
+    pairs = [pair.split("=") for pair in column.split(", ")]
+    return {key: RAW if value == "none" else REFUSED if value == "never" else row(value) for key, value in pairs}
 
 
-def by_context(words):
-    """A row that goes by the kind of link in force, or by the address family."""
-    rows = choices(words.partition(" ")[2])
-    return Choice(words, lambda rules, context: rows.get(str(context), rows["other"]))
+def by_context(column):
+    """A row that depends on the kind of link in force, or on the address family."""
+    rows = choices(column.partition(" ")[2])
+    return Choice(column, lambda rules, context: rows.get(str(context), rows["other"]))
 
 
-def in_force(words, at, rows):
-    """A row of link info, whose context is (kind in force, port kind), texts or None."""
+def by_kind_in_force(column, index, rows):
+    """A row of link info: one of `rows` by the name at an index of its context.
+
+    The context is (kind in force, port kind in force), each a name or None.
+    """
     raw = row("raw")
-    return Choice(words, lambda rules, context: REFUSED if context[at] is None else rows.get(context[at], raw))
+    return Choice(column, lambda rules, context: REFUSED if context[index] is None else rows.get(context[index], raw))
 
 
-def row(words, context=None):
-    """The row of a column of rows.tsv."""
-    name, *more = words.split(" ")
+def row(column, context=None):
+    """The row that a column of rows.tsv describes."""
+    name, *more = column.split(" ")
     if name == "raw_list":
         return ListRow(TABLES["raw"], context)
     if name == "list":
         return list_row(*more, context)
     if name in ("by_kind", "by_family"):
-        return by_context(words)
+        return by_context(column)
     if name == "peer":      # bytes, or judged as a link message
         raw = row("raw")
-        return Choice(words, lambda rules, kind: PEER if rules.peers_judged else raw)
-    return shape(words)
+        return Choice(column, lambda rules, kind: PEER if rules.peers_judged else raw)
+    return shape(column)
 
 
 # Kinds of a link message that are written with the nested bit
-LINK_NESTED = tuple(int(kind) for table, kind, _, held, _ in DATA["row"] if table == "link" and held.startswith("nested "))
+LINK_NESTED = tuple(int(kind) for table, kind, _, column, _ in DATA["row"] if table == "link" and column.startswith("nested "))
 
 # The data of a kind of link is read under its name
-DATA_ROWS = {name: row(held, name) for name, held in DATA["kind"]}
-PORT_DATA_ROWS = {name: row(held, name) for name, held in DATA["port_kind"]}
+DATA_ROWS = {name: row(column, name) for name, column in DATA["kind"]}
+PORT_DATA_ROWS = {name: row(column, name) for name, column in DATA["port_kind"]}
 INFO_ROWS = {
     "data_of_kind": (0, DATA_ROWS),
     "raw_of_kind": (0, {}),
@@ -286,9 +291,9 @@ INFO_ROWS = {
 
 
 def fill_tables():
-    for table, kind, _, held, _ in DATA["row"]:
-        held = re.sub("^nested ", "", held)
-        TABLES[table].rows[int(kind)] = in_force(held, *INFO_ROWS[held]) if held in INFO_ROWS else row(held)
+    for table, kind, _, column, _ in DATA["row"]:
+        column = re.sub("^nested ", "", column)
+        TABLES[table].rows[int(kind)] = by_kind_in_force(column, *INFO_ROWS[column]) if column in INFO_ROWS else row(column)
 
 
 fill_tables()
@@ -296,11 +301,11 @@ LINK_INFO = TABLES["link_info"]
 
 
 def link_tables():
-    """The link message at each stage.  Its context is the family."""
-    every = TABLES.pop("link")
-    plain = {kind: held for kind, held in every.rows.items()
-             if kind == 18 or isinstance(held, Shape) and held.words.split(" ")[0] in ("text", "raw", "exact")}
-    return {"names": Table("link", {3: every.rows[3]}), "plain": Table("link", plain), "all": every, "peers": every}
+    """The table of link messages at each stage.  Its context is the family."""
+    table = TABLES.pop("link")
+    plain = {kind: row_ for kind, row_ in table.rows.items()
+             if kind == 18 or isinstance(row_, Shape) and row_.name.split(" ")[0] in ("text", "raw", "exact")}
+    return {"names": Table("link", {3: table.rows[3]}), "plain": Table("link", plain), "all": table, "peers": table}
 
 
 LINK_TABLES = link_tables()
@@ -310,19 +315,19 @@ VF_PORTS_ROW = LINK_TABLES["all"].rows[24]
 # --------------------------------------------------------------------------
 # Texts of numbers
 
-def texts(words):
+def texts(column):
     """`1=a 0x2=b` as pairs of a number and its text."""
-    return [(int(n, 0), text) for n, text in (pair.split("=", 1) for pair in words.split(" "))]
+    return [(int(n, 0), text) for n, text in (pair.split("=", 1) for pair in column.split(" "))]
 
 
-NUMBERS = {name: dict(texts(words)) for name, words in DATA["number"]}
-FLAGS = {name: texts(words) for name, words in DATA["flags"]}
+NUMBERS = {name: dict(texts(column)) for name, column in DATA["number"]}
+FLAGS = {name: texts(column) for name, column in DATA["flags"]}
 TYPES = dict(texts(DATA["types"][0][0]))
 
-# Types of links that are known; every other number is Void, written 65535
+# The known types of links; every other number is Void, and is written as 65535
 LAYER_TYPES = NUMBERS["LinkLayerType"]
 VOID = 65535
 
 
-def layer_written(n):
+def written_layer(n):
     return n if n in LAYER_TYPES else VOID

@@ -4,16 +4,16 @@ A capture is a byte string of netlink messages, each at a multiple of 4: any byt
 as bytes, bytearray, memoryview, mmap, array or a numpy array. It isn't copied; nobody may write to it while a call runs.
 `limit` is the greatest length in bytes that a message, read or written, may have, from 16 to 4294967295.
 
-What may be called from where:
+Calls are allowed
 
-- Threads: everything, at once. The calls of one Reader come one after the other.
-- Finalisers (`__del__`, weakref callbacks), signal handlers of the module signal, and trace functions: everything, also
-  while another call of linkcap is interrupted, whose result stays its own. A Reader that is interrupted raises
-  RuntimeError.
-- The child of a process with threads that was forked, as `multiprocessing` makes it by its method "fork": nothing. Use
+- in threads: all calls, at the same time; one Reader runs one call at a time;
+- in finalisers (`__del__`, weakref callbacks), signal handlers of the module signal, and trace functions: all calls, also
+  while another call of linkcap is interrupted, whose result they don't change. A call of the Reader that is interrupted
+  raises RuntimeError;
+- in the child of a process with threads that was forked, as `multiprocessing` makes it by its method "fork": no call. Use
   its method "spawn".
 
-The work is done by the library liblinkcap.so: the one in this package if there is one, else that of the folder that
+The package calls the library liblinkcap.so: the one in this package if there is one, else that of the folder that
 LINKCAP_LIB_DIR names, else the one that the loader finds. LIBRARY_PATH has its name. docs/other-languages.md of linkcap
 is the page for callers; `python -m linkcap` normalises, compares and shows files.
 """

@@ -29,9 +29,9 @@ def _version() -> str:
             f" {linkcap.LIBRARY_PATH}")
 
 
-def _add(commands: Any, name: str, told: str, *files: str) -> argparse.ArgumentParser:
-    """A command over files, or else over one file or standard input."""
-    command: argparse.ArgumentParser = commands.add_parser(name, help=told)
+def _add(commands: Any, name: str, description: str, *files: str) -> argparse.ArgumentParser:
+    """Adds a command that takes some files, or, without their names here, one file or standard input."""
+    command: argparse.ArgumentParser = commands.add_parser(name, help=description)
     command.add_argument("--limit", type=int, default=linkcap.DEFAULT_LIMIT, help="of a message's length, in bytes")
     for file in files:
         command.add_argument(file)
@@ -48,8 +48,8 @@ def _parser() -> argparse.ArgumentParser:
     _add(commands, "norm", "write the normal text")
     same = _add(commands, "same", "compare two captures", "file", "other")
     same.add_argument("--ignore-numbers", action="store_true", help="after zeroing sequence and port numbers")
-    for name, told in (("lines", "write lines for people"), ("json", "write each message as JSON, in a line")):
-        lines = _add(commands, name, told)
+    for name, description in (("lines", "write lines for people"), ("json", "write each message as JSON, in a line")):
+        lines = _add(commands, name, description)
         lines.add_argument("--without-numbers", action="store_true")
         lines.add_argument("--only", type=_types, metavar="TYPE,..", help="message types, as newlink or 16")
     _add(commands, "messages", "write each message's offset, length and type")
@@ -61,42 +61,42 @@ def _open(name: str) -> BinaryIO:
     return sys.stdin.buffer if name == "-" else open(name, "rb")
 
 
-def _results(given: Any, file: BinaryIO) -> Iterator[bytes]:
-    """What a command writes, piece by piece."""
-    if given.command == "norm":
-        yield from linkcap.Reader(given.limit).read_file(file)
-    elif given.command == "lines":
-        reader = linkcap.LineReader(given.limit, numbers=not given.without_numbers, only=given.only)
-        yield from (shown.encode() for shown in reader.read_file(file))
-    elif given.command == "json":
-        for message in linkcap.to_json(file.read(), given.limit, numbers=not given.without_numbers, only=given.only):
-            yield json.dumps(message).encode() + b"\n"
-    elif given.command == "messages":
-        for found in linkcap.messages(file.read(), given.limit):
-            yield f"{found.offset} {found.length} {found.type}\n".encode()
+def _output(args: Any, file: BinaryIO) -> Iterator[bytes]:
+    """The output of a command over one file, piece by piece."""
+    if args.command == "norm":
+        yield from linkcap.Reader(args.limit).read_file(file)
+    elif args.command == "lines":
+        reader = linkcap.LineReader(args.limit, numbers=not args.without_numbers, only=args.only)
+        yield from (lines.encode() for lines in reader.read_file(file))
+    elif args.command == "json":
+        for data in linkcap.to_json(file.read(), args.limit, numbers=not args.without_numbers, only=args.only):
+            yield json.dumps(data).encode() + b"\n"
+    elif args.command == "messages":
+        for message in linkcap.messages(file.read(), args.limit):
+            yield f"{message.offset} {message.length} {message.type}\n".encode()
     else:
-        for quirk in linkcap.quirks(file.read(), given.limit):
+        for quirk in linkcap.quirks(file.read(), args.limit):
             yield f"{quirk.words}\n".encode()
 
 
-def _run(given: Any) -> int:
-    with _open(given.file) as file:
-        if given.command == "same":
-            with _open(given.other) as other:
-                is_same = linkcap.same(file.read(), other.read(), given.limit, ignore_numbers=given.ignore_numbers)
+def _run(args: Any) -> int:
+    with _open(args.file) as file:
+        if args.command == "same":
+            with _open(args.other) as other:
+                is_same = linkcap.same(file.read(), other.read(), args.limit, ignore_numbers=args.ignore_numbers)
             sys.stdout.buffer.write(b"same\n" if is_same else b"different\n")
             return LEGAL if is_same else DIFFERENT
-        for written in _results(given, file):
-            sys.stdout.buffer.write(written)
+        for piece in _output(args, file):
+            sys.stdout.buffer.write(piece)
     return LEGAL
 
 
 def main(arguments: Optional[List[str]] = None) -> int:
-    given = _parser().parse_args(arguments)
+    args = _parser().parse_args(arguments)
     try:
-        return _run(given)
+        return _run(args)
     except linkcap.Fault as fault:
-        if given.command in ("norm", "lines"):
+        if args.command in ("norm", "lines"):
             sys.stdout.buffer.write(fault.written)
         print(fault, file=sys.stderr)
         return FAULT

@@ -8,7 +8,7 @@ from typing import Any, Callable, Dict, Iterable, List, NamedTuple, Optional, Su
 
 from . import _fault, _native, lines_json
 from ._fault import Refusal, failure
-from ._native import Borrowed, Capture, address_of
+from ._native import BorrowedBytes, Capture, address_of
 from ._types import MessageType, type_numbers
 
 DEFAULT_LIMIT = 1048576
@@ -40,12 +40,12 @@ class Message(NamedTuple):
 
 
 def type_array(only: Optional[Iterable[MessageType]]) -> "array.array[int]":
-    """The numbers of message types; none stands for all."""
+    """The numbers of message types; an empty array for None, which means all types."""
     return array.array("H", () if only is None else type_numbers(only))
 
 
 def checked_limit(limit: SupportsIndex) -> int:
-    """The number of a limit; else a ValueError, or a TypeError."""
+    """A limit as an int. Raises TypeError if it is no integer, and ValueError if it is out of range."""
     number = operator.index(limit)
     if not 16 <= number < 1 << 32:
         raise ValueError("a limit is a number from 16 to 4294967295")
@@ -55,36 +55,37 @@ def checked_limit(limit: SupportsIndex) -> int:
 def check(capture: Capture, limit: SupportsIndex = DEFAULT_LIMIT) -> None:
     """Returns if a capture is legal; else raises its first `Fault`."""
     most, fault = checked_limit(limit), _native.FaultStruct()
-    with Borrowed(capture) as given:
-        status = _native.call("linkcap_check")(given.at, given.length, most, address_of(fault))
+    with BorrowedBytes(capture) as borrowed:
+        status = _native.call("linkcap_check")(borrowed.at, borrowed.length, most, address_of(fault))
         if status != _native.OK:
-            raise failure(status, fault, given.at, given.length, most)
+            raise failure(status, fault, borrowed.at, borrowed.length, most)
 
 
 def measure(capture: Capture, limit: SupportsIndex = DEFAULT_LIMIT) -> Measure:
     """The sizes of a legal capture; else raises its first `Fault`."""
     most, fault, numbers = checked_limit(limit), _native.FaultStruct(), _native.SizesStruct()
     call = _native.call("linkcap_measure")
-    with Borrowed(capture) as given:
-        status = call(given.at, given.length, most, address_of(numbers), address_of(fault))
+    with BorrowedBytes(capture) as borrowed:
+        status = call(borrowed.at, borrowed.length, most, address_of(numbers), address_of(fault))
         if status != _native.OK:
-            raise failure(status, fault, given.at, given.length, most)
+            raise failure(status, fault, borrowed.at, borrowed.length, most)
     return Measure(numbers.frames, numbers.attributes, numbers.text_low + (numbers.text_high << 64))
 
 
-def _write(call: Callable[..., int], capture: Capture, limit: int, room: Callable[[int], int], *options: Any) -> bytes:
-    """What a call writes for a capture, with `room(length)` bytes of room at first."""
+def _write(call: Callable[..., int], capture: Capture, limit: int, first_size: Callable[[int], int], *options: Any) -> bytes:
+    """The output of a call for a capture, of n bytes. The call gets a buffer of `first_size(n)` bytes, and a larger one if
+    that is too small."""
     fault, size = _native.FaultStruct(), ctypes.c_uint64()
-    with Borrowed(capture) as given:
-        wanted, status = room(given.length), _native.NO_ROOM
+    with BorrowedBytes(capture) as borrowed:
+        capacity, status = first_size(borrowed.length), _native.NO_ROOM
         while status == _native.NO_ROOM:
-            out = _native.Output(wanted)
-            status = call(given.at, given.length, limit, *options, out.at, out.room, address_of(size), address_of(fault))
-            wanted = size.value
+            out = _native.Output(capacity)
+            status = call(borrowed.at, borrowed.length, limit, *options, out.at, out.capacity, address_of(size), address_of(fault))
+            capacity = size.value
         if status == _native.OK:
-            return out.take(wanted)
-        written = out.take(wanted) if status == _native.FAULT else b""
-        raise failure(status, fault, given.at, given.length, limit, 0, written)
+            return out.take(size.value)
+        written = out.take(size.value) if status == _native.FAULT else b""
+        raise failure(status, fault, borrowed.at, borrowed.length, limit, 0, written)
 
 
 def normalize(capture: Capture, limit: SupportsIndex = DEFAULT_LIMIT) -> bytes:
@@ -93,16 +94,17 @@ def normalize(capture: Capture, limit: SupportsIndex = DEFAULT_LIMIT) -> bytes:
 
 
 def same(first: Capture, second: Capture, limit: SupportsIndex = DEFAULT_LIMIT, *, ignore_numbers: bool = False) -> bool:
-    """Whether two legal captures mean the same, which is if and only if their normal texts are equal.
+    """Whether two legal captures mean the same: whether their normal texts are equal.
 
-    With `ignore_numbers`, whether they do after zeroing sequence and port numbers, those too of the request's header that an
-    NLMSG_ERROR repeats: what changes from run to run.
+    With `ignore_numbers`, sequence and port numbers, which change from run to run, are zeroed first, also those of the
+    request's header that an NLMSG_ERROR repeats.
 
-    Else raises the first `Fault` of the first one, or of the second if the first is legal; its `side` is 1 or 2.
+    If a capture isn't legal, raises the first `Fault` of the first one, or of the second one if the first is legal; its
+    `side` is 1 or 2.
     """
     most, fault = checked_limit(limit), _native.FaultStruct()
     call = _native.call("linkcap_same_ignoring_numbers" if ignore_numbers else "linkcap_same")
-    with Borrowed(first) as one, Borrowed(second) as other:
+    with BorrowedBytes(first) as one, BorrowedBytes(second) as other:
         status = call(one.at, one.length, other.at, other.length, most, address_of(fault))
         if status > _native.DIFFERENT:
             faulty = other if fault.side == 2 else one
@@ -114,8 +116,8 @@ def lines(capture: Capture, limit: SupportsIndex = DEFAULT_LIMIT, *, numbers: bo
           only: Optional[Iterable[MessageType]] = None) -> str:
     """The lines of a legal capture, as `linkshow` writes them; else raises its first `Fault`.
 
-    Without `numbers` they lack sequence and port numbers, which change from run to run. With `only` they are those of
-    messages of these types alone, by name or number: `only=["newlink", 17]`.
+    Without `numbers` they lack sequence and port numbers, which change from run to run. With `only` they are only those of
+    messages of these types, by name or number: `only=["newlink", 17]`.
     """
     most = checked_limit(limit)
     types = type_array(only)
@@ -123,9 +125,9 @@ def lines(capture: Capture, limit: SupportsIndex = DEFAULT_LIMIT, *, numbers: bo
         check(capture, most)
         return ""
     at, length = types.buffer_info()
-    shown = _write(_native.call("linkcap_show_with"), capture, most, lambda size: 4 * size + 256, not numbers,
-                   at or _native.SOMEWHERE, length)
-    return shown.decode("ascii")
+    text = _write(_native.call("linkcap_show_with"), capture, most, lambda size: 4 * size + 256, not numbers,
+                  at or _native.NOT_NULL, length)
+    return text.decode("ascii")
 
 
 class QuirkKind(enum.IntEnum):
@@ -149,17 +151,17 @@ class Quirk(NamedTuple):
     """An encoding that some kernels treat differently from its normal text."""
 
     kind: QuirkKind
-    #: where the attribute that has it starts, or the header's byte, in bytes from the capture's start
+    #: the start of its attribute, or the header's byte, in bytes from the capture's start
     offset: int
     #: as "flag with a payload at 76"
     words: str
 
 
-def _quirk(found: _native.QuirkStruct) -> Quirk:
+def _quirk(struct_: _native.QuirkStruct) -> Quirk:
     out, size = _native.Output(128), ctypes.c_uint64()
-    if _native.call("linkcap_quirk_text")(address_of(found), out.at, out.room, address_of(size)) != _native.OK:
+    if _native.call("linkcap_quirk_text")(address_of(struct_), out.at, out.capacity, address_of(size)) != _native.OK:
         raise ValueError("no quirk of a capture")
-    return Quirk(QuirkKind(found.kind), found.offset, out.take(size.value).decode("ascii"))
+    return Quirk(QuirkKind(struct_.kind), struct_.offset, out.take(size.value).decode("ascii"))
 
 
 def quirks(capture: Capture, limit: SupportsIndex = DEFAULT_LIMIT) -> List[Quirk]:
@@ -171,15 +173,15 @@ def quirks(capture: Capture, limit: SupportsIndex = DEFAULT_LIMIT) -> List[Quirk
     """
     most, fault, count = checked_limit(limit), _native.FaultStruct(), ctypes.c_uint64()
     call = _native.call("linkcap_quirks")
-    with Borrowed(capture) as given:
-        room, status = 16, _native.NO_ROOM
+    with BorrowedBytes(capture) as borrowed:
+        capacity, status = 16, _native.NO_ROOM
         while status == _native.NO_ROOM:
-            found = (_native.QuirkStruct * room)()
-            status = call(given.at, given.length, most, address_of(found), room, address_of(count), address_of(fault))
-            room = count.value
+            structs = (_native.QuirkStruct * capacity)()
+            status = call(borrowed.at, borrowed.length, most, address_of(structs), capacity, address_of(count), address_of(fault))
+            capacity = count.value
         if status != _native.OK:
-            raise failure(status, fault, given.at, given.length, most)
-    return [_quirk(found[at]) for at in range(count.value)]
+            raise failure(status, fault, borrowed.at, borrowed.length, most)
+    return [_quirk(structs[index]) for index in range(count.value)]
 
 
 def to_json(capture: Capture, limit: SupportsIndex = DEFAULT_LIMIT, *, numbers: bool = True,
@@ -195,14 +197,14 @@ def to_json(capture: Capture, limit: SupportsIndex = DEFAULT_LIMIT, *, numbers: 
 
 
 def why(capture: Capture, limit: SupportsIndex = DEFAULT_LIMIT) -> Optional[Refusal]:
-    """What of a refused body isn't accepted, if a capture's first fault is `Kind.REFUSED`; else None.
+    """Why a body is refused, if a capture's first fault is `Kind.REFUSED`; else None.
 
     >>> why(bytes.fromhex("28000000100000000000000000000000") + bytes(16) + bytes.fromhex("0700040001020300"))
     Refusal(words='IFLA_MTU: a payload of 3 bytes at 32', offset=32)
     """
     most = checked_limit(limit)
-    with Borrowed(capture) as given:
-        return _fault.refusal(given.at, given.length, most)
+    with BorrowedBytes(capture) as borrowed:
+        return _fault.refusal(borrowed.at, borrowed.length, most)
 
 
 _HEADER = struct.Struct("<IHHII")
@@ -211,16 +213,16 @@ _HEADER = struct.Struct("<IHHII")
 def messages(capture: Capture, limit: SupportsIndex = DEFAULT_LIMIT) -> List[Message]:
     """The messages of a legal capture; else raises its first `Fault`.
 
-    A message's bytes are `capture[message.offset:message.offset + message.length]`, and are a capture themselves.
+    A message's bytes are `capture[message.offset:message.offset + message.length]`, which is a capture.
 
     >>> messages(bytes.fromhex("10000000030002000100000000000000"))
     [Message(offset=0, length=16, type=3, flags=2, sequence_number=1, port_number=0)]
     """
-    found, offset = [], 0
-    with Borrowed(capture) as given:
+    result, offset = [], 0
+    with BorrowedBytes(capture) as borrowed:
         check(capture, limit)
-        while offset + _HEADER.size <= given.length:
-            message = Message(offset, *_HEADER.unpack(ctypes.string_at(given.at + offset, _HEADER.size)))
-            found.append(message)
+        while offset + _HEADER.size <= borrowed.length:
+            message = Message(offset, *_HEADER.unpack(ctypes.string_at(borrowed.at + offset, _HEADER.size)))
+            result.append(message)
             offset += (message.length + 3) // 4 * 4
-    return found
+    return result

@@ -8,7 +8,7 @@ from . import _native
 
 
 class Kind(enum.IntEnum):
-    """What is wrong with a capture. Captures in memory have the first seven."""
+    """The kinds of faults. Captures in memory have the first seven."""
 
     CUT = 1
     SHORT_LENGTH = 2
@@ -25,16 +25,16 @@ class Kind(enum.IntEnum):
 
 
 class Refusal(NamedTuple):
-    """What of a refused body isn't accepted."""
+    """Why a body is refused."""
 
-    #: the attribute's names from outside in, the reason, and the offset
+    #: the names of the attribute that isn't accepted, from outside in, the reason, and the offset
     words: str
-    #: where the attribute begins, in bytes from the capture's start; None for NLMSG_ERROR and NLMSG_DONE
+    #: the start of the attribute, in bytes from the capture's start; None for NLMSG_ERROR and NLMSG_DONE
     offset: Optional[int]
 
 
 class Fault(Exception):
-    """A capture's first fault. `str` gives its words, followed by the reason where a body is refused."""
+    """A capture's first fault. `str` gives its words, and after them the reason if a body is refused."""
 
     kind: Kind
     #: the start of the message that has it, in bytes from the capture's start
@@ -43,7 +43,7 @@ class Fault(Exception):
     side: Optional[int]
     #: as "cut frame at 48"
     words: str
-    #: what the call wrote before it: normal text, or lines in ASCII
+    #: the output before it: normal text, or lines in ASCII
     written: bytes
     #: the attribute that isn't accepted and the reason, if the kind is `Kind.REFUSED` and there is memory for the words
     why: Optional[Refusal]
@@ -62,29 +62,29 @@ def _words(kind: int, offset: int, side: int) -> str:
     out, size = _native.Output(128), ctypes.c_uint64()
     fault = _native.FaultStruct(kind, side, offset)
     call = _native.call("linkcap_fault_text")
-    if call(_native.address_of(fault), out.at, out.room, _native.address_of(size)) != _native.OK:
+    if call(_native.address_of(fault), out.at, out.capacity, _native.address_of(size)) != _native.OK:
         raise ValueError("no fault of a capture")
     return out.take(size.value).decode("ascii")
 
 
 def refusal(at: int, length: int, limit: int, start: int = 0) -> Optional[Refusal]:
-    """Why the first fault of the bytes at an address is a refused body, if it is. They begin `start` bytes after the
-    capture's start."""
-    call, size, place = _native.call("linkcap_why"), ctypes.c_uint64(), ctypes.c_uint64()
-    room, status = 512, _native.NO_ROOM
+    """Why a body is refused, if that is the first fault of the bytes at an address; else None. The bytes begin `start` bytes
+    after the capture's start."""
+    call, size, piece_offset = _native.call("linkcap_why"), ctypes.c_uint64(), ctypes.c_uint64()
+    capacity, status = 512, _native.NO_ROOM
     while status == _native.NO_ROOM:
-        out = _native.Output(room)
-        status = call(at, length, limit, out.at, out.room, _native.address_of(size), _native.address_of(place))
-        room = size.value
+        out = _native.Output(capacity)
+        status = call(at, length, limit, out.at, out.capacity, _native.address_of(size), _native.address_of(piece_offset))
+        capacity = size.value
     if status == _native.NO_MEMORY:
         raise MemoryError("no memory for the words of a refusal")
     if status != _native.OK:
         return None
     words = out.take(size.value).decode("ascii")
-    if place.value == (1 << 64) - 1:
+    if piece_offset.value == (1 << 64) - 1:
         return Refusal(words, None)
-    here, offset = f" at {place.value}", place.value + start
-    return Refusal(f"{words[:-len(here)]} at {offset}", offset)
+    end, offset = f" at {piece_offset.value}", piece_offset.value + start
+    return Refusal(f"{words[:-len(end)]} at {offset}", offset)
 
 
 def failure(status: int, fault: _native.FaultStruct, at: int, length: int, limit: int, start: int = 0,

@@ -22,19 +22,19 @@ def golden(capture: Capture, path: Union[str, "os.PathLike[str]"], *, update: bo
     are those of some message types with `only`, as for `lines`. A capture that isn't legal raises its `Fault`, and one
     without lines AssertionError: the test has captured nothing.
 
-    The file's first line has the format version of the lines; a file without it, as linkshow writes it, will do.
+    The file's first line has the format version of the lines. It may be missing, as in the output of linkshow.
     """
     __tracebackhide__ = True
-    shown = lines(capture, limit, numbers=numbers, only=only)
-    if not shown:
+    text = lines(capture, limit, numbers=numbers, only=only)
+    if not text:
         raise AssertionError("the capture is empty, or has no message of these types")
     name = os.fspath(path)
     if update:
-        _write(name, f"# linkcap lines, format {FORMAT}\n{shown}")
+        _write(name, f"# linkcap lines, format {FORMAT}\n{text}")
         return
     version, expected = _read(name)
-    if shown != expected:
-        raise AssertionError(_difference(name, version, expected, shown))
+    if text != expected:
+        raise AssertionError(_difference(name, version, expected, text))
 
 
 def _write(name: str, text: str) -> None:
@@ -57,14 +57,14 @@ def _read(name: str) -> Tuple[Optional[int], str]:
     return int(first.group(1)), text[text.index("\n") + 1:]
 
 
-def _difference(name: str, version: Optional[int], expected: str, shown: str) -> str:
-    """Why a file isn't that of a capture."""
-    if expected.replace("\r\n", "\n") == shown:
+def _difference(name: str, version: Optional[int], expected: str, text: str) -> str:
+    """The message about a golden file whose lines aren't those of a capture."""
+    if expected.replace("\r\n", "\n") == text:
         return (f"{name} has the capture's lines, but ends them by CRLF: keep it as it was written, in git by a line"
                 f" `*.lines -text` of .gitattributes")
-    told = "the capture isn't that of the golden file\n"
+    reason = "the capture isn't that of the golden file\n"
     if version not in (None, FORMAT):
-        told = (f"{name} has lines of format {version}, and this linkcap writes format {FORMAT}: update the file with the"
-                f" capture that it was made of (CHANGELOG.md)\n")
-    diff = difflib.unified_diff(expected.splitlines(True), shown.splitlines(True), name, "this capture")
-    return told + "".join(line if line.endswith("\n") else line + "\n\\ No newline at end of file\n" for line in diff)
+        reason = (f"{name} has lines of format {version}, and this linkcap writes format {FORMAT}: update the file with the"
+                  f" capture that it was made of (CHANGELOG.md)\n")
+    diff = difflib.unified_diff(expected.splitlines(True), text.splitlines(True), name, "this capture")
+    return reason + "".join(line if line.endswith("\n") else line + "\n\\ No newline at end of file\n" for line in diff)

@@ -1,7 +1,7 @@
 """liblinkcap by ctypes: the library that is loaded, its structs, and the memory that its calls read and write.
 
-Nothing is kept from one call to the next. Python may run a finaliser or a signal handler between a native call and the
-line that reads its result, and these may call linkcap in turn; so each call owns what it hands to the library.
+Calls share no state. Python may run a finaliser or a signal handler between a native call and the line that reads its
+result, and these may call linkcap in turn; so each call has separate structs and buffers.
 """
 import ctypes
 import importlib
@@ -14,7 +14,7 @@ if TYPE_CHECKING:
     from _typeshed import ReadableBuffer
 
     class _SupportsArrayInterface(Protocol):
-        """numpy's arrays, whose older stubs don't say that they are bytes-like."""
+        """numpy's arrays, which older stubs don't declare as bytes-like."""
 
         @property
         def __array_interface__(self) -> Dict[str, Any]: ...
@@ -45,28 +45,28 @@ class QuirkStruct(ctypes.Structure):
     _fields_ = [("offset", ctypes.c_uint64), ("kind", ctypes.c_uint32)]
 
 
-# The address and the length of a bytes-like object, in one call that nothing interrupts: of CPython's stable interface.
+# This call of CPython's stable interface yields the address and the length of a bytes-like object, and isn't interrupted.
 _as_read_buffer = ctypes.pythonapi.PyObject_AsReadBuffer
 _as_read_buffer.argtypes, _as_read_buffer.restype = [ctypes.py_object, ctypes.c_void_p, ctypes.c_void_p], ctypes.c_int
 _ONE_BYTE = ctypes.create_string_buffer(1)
 #: an address that is never null, for empty buffers
-SOMEWHERE = ctypes.addressof(_ONE_BYTE)
+NOT_NULL = ctypes.addressof(_ONE_BYTE)
 
 
-class Borrowed:
-    """The address and the length of a bytes-like object, which isn't copied, and keeps its size while this exists."""
+class BorrowedBytes:
+    """The address and the length of a bytes-like object. It isn't copied, and can't be resized while this exists."""
 
     __slots__ = ("at", "length", "_view")
 
     def __init__(self, capture: Capture) -> None:
-        # A memoryview gives the object back when it goes, even if an exception of a signal handler comes before `with`.
+        # A memoryview that is deleted releases the object, also if a signal handler raises an exception before `with`.
         self._view = memoryview(cast(bytes, capture))
         at, length = ctypes.c_void_p(), ctypes.c_ssize_t()
         _as_read_buffer(self._view, ctypes.addressof(at), ctypes.addressof(length))
-        self.at: int = at.value or SOMEWHERE
+        self.at: int = at.value or NOT_NULL
         self.length: int = length.value
 
-    def __enter__(self) -> "Borrowed":
+    def __enter__(self) -> "BorrowedBytes":
         return self
 
     def __exit__(self, kind: Optional[Type[BaseException]], error: Optional[BaseException],
@@ -77,13 +77,13 @@ class Borrowed:
 class Output:
     """A buffer that one call writes to."""
 
-    __slots__ = ("at", "room", "_bytes")
+    __slots__ = ("at", "capacity", "_bytes")
 
-    def __init__(self, room: int) -> None:
-        if room > sys.maxsize:
+    def __init__(self, capacity: int) -> None:
+        if capacity > sys.maxsize:
             raise MemoryError("the result is longer than memory")
-        self.room = max(room, 1)
-        self._bytes = bytearray(self.room)
+        self.capacity = max(capacity, 1)
+        self._bytes = bytearray(self.capacity)
         self.at = ctypes.addressof(ctypes.c_char.from_buffer(self._bytes))
 
     def take(self, length: int) -> bytes:
@@ -96,11 +96,11 @@ def address_of(value: Union[ctypes.Structure, ctypes.c_uint64, "ctypes.Array[Any
 
 
 def _candidates() -> List[str]:
-    """Where the library may be, first the one that belongs to this package."""
+    """The paths of the library that are tried in turn. If this package contains the library, no other is tried."""
     here = os.path.dirname(os.path.abspath(__file__))
-    bundled = os.path.join(here, "liblinkcap.so")
-    if os.path.exists(bundled):
-        return [bundled]
+    bundled_path = os.path.join(here, "liblinkcap.so")
+    if os.path.exists(bundled_path):
+        return [bundled_path]
     folders: List[str] = []
     try:
         folders.append(importlib.import_module("_linkcap_editable").FOLDER)
@@ -108,18 +108,18 @@ def _candidates() -> List[str]:
         pass
     if os.environ.get("LINKCAP_LIB_DIR"):
         folders.append(os.environ["LINKCAP_LIB_DIR"])
-    found = [os.path.join(folder, "liblinkcap.so") for folder in folders]
-    return found or [f"liblinkcap.so.{VERSION}"]
+    paths = [os.path.join(folder, "liblinkcap.so") for folder in folders]
+    return paths or [f"liblinkcap.so.{VERSION}"]
 
 
 def _open() -> ctypes.CDLL:
-    refused = []
+    errors = []
     for name in _candidates():
         try:
             return ctypes.CDLL(name)
         except OSError as error:
-            refused.append(str(error))
-    raise ImportError(f"{'; '.join(refused)}: name the library's folder in LINKCAP_LIB_DIR, here or at pip install")
+            errors.append(str(error))
+    raise ImportError(f"{'; '.join(errors)}: name the library's folder in LINKCAP_LIB_DIR, here or at pip install")
 
 
 def _load() -> ctypes.CDLL:
@@ -143,9 +143,9 @@ def _load() -> ctypes.CDLL:
         "linkcap_why": [*capture, number, *capture, address, address],
         "linkcap_fault_text": [address, *capture, address],
     }
-    found = library.linkcap_version()
-    if found != VERSION:
-        raise ImportError(f"{library._name} has version {found} of the interface, and {VERSION} is needed")
+    version = library.linkcap_version()
+    if version != VERSION:
+        raise ImportError(f"{library._name} has version {version} of the interface, and {VERSION} is needed")
     for name, arguments in signatures.items():
         call = getattr(library, name)
         call.argtypes, call.restype = arguments, number
@@ -153,7 +153,7 @@ def _load() -> ctypes.CDLL:
 
 
 library = _load()
-#: the file that was loaded, as the loader was given it
+#: the path of the library, as it was given to the loader
 LIBRARY_PATH: str = library._name
 #: the format version of normal texts and lines, as CHANGELOG.md has it
 FORMAT: int = library.linkcap_format()

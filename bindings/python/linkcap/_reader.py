@@ -6,7 +6,7 @@ from typing import Any, Generic, Iterable, Iterator, List, Optional, Protocol, S
 from . import _native
 from ._calls import DEFAULT_LIMIT, checked_limit, type_array
 from ._fault import Fault, failure
-from ._native import Borrowed, Capture, address_of
+from ._native import BorrowedBytes, Capture, address_of
 from ._types import MessageType
 
 _HEADER = 16
@@ -16,62 +16,63 @@ class _Readable(Protocol):
     def read(self, size: int) -> Optional[bytes]: ...
 
 
-Written = TypeVar("Written", bytes, str)
+ResultT = TypeVar("ResultT", bytes, str)
 
 
-class _Pieces(Generic[Written]):
-    """What readers share: between pieces they keep the bytes of the message that is cut. The work is linear in the capture's
-    length, whatever the pieces' sizes.
+class _Pieces(Generic[ResultT]):
+    """The common part of readers. Between pieces it keeps the bytes of a cut message. The time is linear in the capture's
+    length, for pieces of any sizes.
 
-    The calls of one reader come one after the other: one that is made while another runs, from a thread, a finaliser or
-    a signal handler, raises RuntimeError and changes nothing. After a call that raised a fault or another exception, and
-    after `finish`, each raises ValueError; a piece of a wrong type changes nothing.
+    A reader runs one call at a time: a call that is made while another one runs, by a thread, a finaliser or a signal
+    handler, raises RuntimeError and changes nothing. After a call that raised a fault or another exception, and after
+    `finish`, each call raises ValueError. A piece of a wrong type changes nothing.
     """
 
     _call: str
-    #: what lies between the limit and the buffer of the call
+    #: the arguments of the call between the limit and the buffer
     _options: Tuple[Any, ...] = ()
 
     def __init__(self, limit: SupportsIndex = DEFAULT_LIMIT) -> None:
         self._limit = checked_limit(limit)
         self._rest = bytearray()
         self._start = 0  # of the rest, in bytes from the capture's start
-        self._wanted = _HEADER  # with fewer bytes than these no call writes anything
+        self._least_length = _HEADER  # with a shorter rest no call writes anything
         self._has_ended = False
-        self._running = threading.Lock()
+        self._lock = threading.Lock()
 
-    def _result(self, written: bytes) -> Written:
-        """What a caller gets of what was written."""
+    def _result(self, output: bytes) -> ResultT:
+        """The result of `feed` and `finish`, from the bytes that were written."""
         raise NotImplementedError
 
-    def feed(self, piece: Capture) -> Written:
-        """Takes the next piece, and returns what the messages that are whole now, with their padding, are written as.
+    def feed(self, piece: Capture) -> ResultT:
+        """Takes the next piece, and returns the output for the messages that it completes, with their padding.
 
-        Raises the capture's first `Fault`, whose `written` is what comes before it in this piece.
+        Raises the capture's first `Fault`, whose `written` is the output for the messages that this piece completes before it.
         """
-        with Borrowed(piece) as given:
+        with BorrowedBytes(piece) as borrowed:
             self._begin()
             try:
-                # If an exception of a signal handler comes in between, nobody knows what was taken: the reader has ended.
+                # A reader in which a signal handler raises an exception has ended: which bytes were used isn't known.
                 self._has_ended = True
-                text = self._feed(given)
+                text = self._feed(borrowed)
                 self._has_ended = False
                 return self._result(text)
             finally:
-                self._running.release()
+                self._lock.release()
 
-    def finish(self) -> Written:
-        """The capture ends here: returns what a last message that lacks padding is written as, or raises a `Fault`."""
+    def finish(self) -> ResultT:
+        """Ends the capture. Returns the output for a last message that lacks padding, or raises a `Fault`."""
         self._begin()
         try:
             self._has_ended = True
-            with Borrowed(self._rest) as given:
-                return self._result(self._write(given.at, given.length, True)[1])
+            with BorrowedBytes(self._rest) as rest:
+                return self._result(self._write(rest.at, rest.length, True)[1])
         finally:
-            self._running.release()
+            self._lock.release()
 
-    def read_file(self, file: _Readable, size: int = 1 << 16) -> Iterator[Written]:
-        """Feeds a binary file, from where it is to its end, and finishes. Yields what `feed` returns of each `size` bytes.
+    def read_file(self, file: _Readable, size: int = 1 << 16) -> Iterator[ResultT]:
+        """Feeds a binary file from its position to its end, in pieces of `size` bytes, and finishes. Yields each output that
+        isn't empty.
 
         >>> import io
         >>> done = bytes.fromhex("10000000030002000000000000000000")
@@ -89,71 +90,71 @@ class _Pieces(Generic[Written]):
                 return
 
     def _begin(self) -> None:
-        if not self._running.acquire(blocking=False):
+        if not self._lock.acquire(blocking=False):
             raise RuntimeError("another call of this reader is running")
         if self._has_ended:
-            self._running.release()
+            self._lock.release()
             raise ValueError("the reader has ended, or has raised a fault")
 
-    def _feed(self, given: Borrowed) -> bytes:
+    def _feed(self, piece: BorrowedBytes) -> bytes:
         if not self._rest:
-            used, text = self._write(given.at, given.length, False)
-            self._rest += ctypes.string_at(given.at + used, given.length - used)
-            self._go_on(used)
+            used, text = self._write(piece.at, piece.length, False)
+            self._rest += ctypes.string_at(piece.at + used, piece.length - used)
+            self._advance(used)
             return text
-        self._rest += ctypes.string_at(given.at, given.length)
-        if len(self._rest) < self._wanted:
+        self._rest += ctypes.string_at(piece.at, piece.length)
+        if len(self._rest) < self._least_length:
             return b""
-        with Borrowed(self._rest) as rest:
+        with BorrowedBytes(self._rest) as rest:
             used, text = self._write(rest.at, rest.length, False)
         del self._rest[:used]
-        self._go_on(used)
+        self._advance(used)
         return text
 
-    def _go_on(self, used: int) -> None:
-        """What was used is gone. The message that is left waits for its header, then for the length that this gives."""
+    def _advance(self, used: int) -> None:
+        """Counts the bytes that were used, and sets the least length of the rest: a header's, or the length in the header."""
         self._start += used
         has_header = len(self._rest) >= _HEADER
-        self._wanted = int.from_bytes(self._rest[:4], "little") if has_header else _HEADER
+        self._least_length = int.from_bytes(self._rest[:4], "little") if has_header else _HEADER
 
     def _write(self, at: int, length: int, is_last: bool) -> Tuple[int, bytes]:
-        """Writes the messages that are whole; returns how many bytes they were, and what was written."""
+        """Writes the complete messages of the bytes at an address. Returns the number of their bytes, and the output."""
         call, progress, fault = _native.call(self._call), _native.ProgressStruct(), _native.FaultStruct()
         texts: List[bytes] = []
-        used, room, status = 0, length + 256, _native.NO_ROOM
+        used, capacity, status = 0, length + 256, _native.NO_ROOM
         while status == _native.NO_ROOM:
-            out = _native.Output(room)
-            status = call(at + used, length - used, is_last, self._limit, *self._options, out.at, out.room,
+            out = _native.Output(capacity)
+            status = call(at + used, length - used, is_last, self._limit, *self._options, out.at, out.capacity,
                           address_of(progress), address_of(fault))
             texts.append(out.take(progress.written))
             used += progress.used
-            room = max(progress.wanted, length - used + 256)
+            capacity = max(progress.wanted, length - used + 256)
         text = b"".join(texts)
         if status != _native.OK:
-            fault.offset = 0  # the fault is that of the message after those that were used
+            fault.offset = 0  # the fault is in the message after the used bytes
             raise failure(status, fault, at + used, length - used, self._limit, self._start + used, text)
         return used, text
 
 
 class Reader(_Pieces[bytes]):
-    """Normalises a capture that comes in pieces of any sizes: `feed`, `finish` and `read_file` give its normal text.
+    """Normalises a capture that comes in pieces of any sizes: `feed`, `finish` and `read_file` return its normal text.
 
-    The calls of one reader come one after the other: one that is made while another runs, from a thread, a finaliser or
-    a signal handler, raises RuntimeError and changes nothing. After a call that raised a fault or another exception, and
-    after `finish`, each raises ValueError; a piece of a wrong type changes nothing.
+    A reader runs one call at a time: a call that is made while another one runs, by a thread, a finaliser or a signal
+    handler, raises RuntimeError and changes nothing. After a call that raised a fault or another exception, and after
+    `finish`, each call raises ValueError. A piece of a wrong type changes nothing.
     """
 
     _call = "linkcap_normalize_some"
 
-    def _result(self, written: bytes) -> bytes:
-        return written
+    def _result(self, output: bytes) -> bytes:
+        return output
 
 
 class LineReader(_Pieces[str]):
-    """Shows a capture that comes in pieces, as `Reader` normalises one: `feed`, `finish` and `read_file` give its lines.
+    """Shows a capture that comes in pieces, as `Reader` normalises one: `feed`, `finish` and `read_file` return its lines.
 
-    `numbers` and `only` are those of `lines`. Memory is that of a piece, its lines and the message that is cut, however long
-    the capture is.
+    `numbers` and `only` are those of `lines`. A reader takes memory for one piece, its lines and a cut message, for a capture
+    of any length.
 
     >>> import io
     >>> "".join(LineReader(numbers=False).read_file(io.BytesIO(bytes.fromhex("10000000030002000000000000000000"))))
@@ -166,17 +167,17 @@ class LineReader(_Pieces[str]):
                  only: Optional[Iterable[MessageType]] = None) -> None:
         super().__init__(limit)
         self._types = type_array(only)
-        self._shows_none = only is not None and not self._types
+        self._shows_nothing = only is not None and not self._types
         at, length = self._types.buffer_info()
-        self._options = (not numbers, at or _native.SOMEWHERE, length)
+        self._options = (not numbers, at or _native.NOT_NULL, length)
 
-    def _result(self, written: bytes) -> str:
-        return written.decode("ascii")
+    def _result(self, output: bytes) -> str:
+        return output.decode("ascii")
 
     def _write(self, at: int, length: int, is_last: bool) -> Tuple[int, bytes]:
         try:
-            used, written = super()._write(at, length, is_last)
+            used, output = super()._write(at, length, is_last)
         except Fault as fault:
-            fault.written = b"" if self._shows_none else fault.written
+            fault.written = b"" if self._shows_nothing else fault.written
             raise
-        return used, b"" if self._shows_none else written
+        return used, b"" if self._shows_nothing else output

@@ -1,4 +1,4 @@
-"""Recording what a command sends, by the program linkrec."""
+"""Recording of the messages that a command sends, with the program linkrec."""
 import os
 import shutil
 import subprocess
@@ -9,14 +9,14 @@ _Word = Union[str, "os.PathLike[str]"]
 
 
 class RecordError(RuntimeError):
-    """A command that couldn't be recorded, or that failed; its text is what the programs reported."""
+    """A command that couldn't be recorded, or that failed. The text is what the programs reported."""
 
 
 def record(command: Sequence[_Word], *, setup: Sequence[str] = (), here: bool = False) -> bytes:
     """The capture of the route messages that a command sends, its threads and child processes included.
 
-    The command runs in a network namespace of its own, in which the shell commands of `setup` have run, or, with `here`, in
-    the caller's. The program linkrec has to be on the PATH, or named by LINKREC; it wants strace, and without root a kernel
+    The command runs in a new network namespace, in which the shell commands of `setup` have run, or, with `here`, in the
+    caller's. The program linkrec has to be on the PATH, or named by LINKREC; it needs strace, and without root a kernel
     that allows user namespaces.
 
     # Errors
@@ -30,11 +30,11 @@ def record(command: Sequence[_Word], *, setup: Sequence[str] = (), here: bool = 
         raise RecordError("no program linkrec: put it on the PATH, or name it by LINKREC (linkcap's ./install installs it)")
     with tempfile.TemporaryDirectory() as folder:
         capture = os.path.join(folder, "capture")
-        ran = subprocess.run([program, *_options(setup, here), "-o", capture, "--", *command], stdout=subprocess.DEVNULL,
-                             stderr=subprocess.PIPE, check=False)
-        if ran.returncode:
-            reported = ran.stderr.decode(errors="replace").strip()
-            raise RecordError(f"{os.fspath(command[0])} ended with status {ran.returncode}: {reported}")
+        process = subprocess.run([program, *_options(setup, here), "-o", capture, "--", *command], stdout=subprocess.DEVNULL,
+                                 stderr=subprocess.PIPE, check=False)
+        if process.returncode:
+            report = process.stderr.decode(errors="replace").strip()
+            raise RecordError(f"{os.fspath(command[0])} ended with status {process.returncode}: {report}")
         with open(capture, "rb") as file:
             return file.read()
 

@@ -16,24 +16,24 @@ NAMES: Dict[str, int] = {
 MessageType = Union[SupportsIndex, str]
 
 
-def type_number(given: MessageType) -> int:
+def type_number(message_type: MessageType) -> int:
     """The number of a type."""
-    if not isinstance(given, str):
-        number = operator.index(given)
+    if not isinstance(message_type, str):
+        number = operator.index(message_type)
         if not 0 <= number < 1 << 16:
             raise ValueError(f"a message type is a number from 0 to 65535, not {number}")
         return number
-    name = given.lower()
+    name = message_type.lower()
     for prefix in ("rtm_", "nlmsg_"):
         if name.startswith(prefix):
             name = name[len(prefix):]
     if name not in NAMES:
-        raise ValueError(f"no message type {given!r}: known are {', '.join(NAMES)}, and numbers")
+        raise ValueError(f"no message type {message_type!r}: known are {', '.join(NAMES)}, and numbers")
     return NAMES[name]
 
 
-def type_numbers(given: Iterable[MessageType]) -> List[int]:
-    """The numbers of types. A single name isn't taken for the list of its letters."""
-    if isinstance(given, str):
-        raise TypeError(f"only is a list of message types, as [{given!r}]")
-    return [type_number(one) for one in given]
+def type_numbers(message_types: Iterable[MessageType]) -> List[int]:
+    """The numbers of types. Raises TypeError for a single name, which would be read as the list of its letters."""
+    if isinstance(message_types, str):
+        raise TypeError(f"only is a list of message types, as [{message_types!r}]")
+    return [type_number(message_type) for message_type in message_types]

@@ -1,7 +1,7 @@
-"""Lines of linkshow without what doesn't matter: some attributes, numbers that change from run to run, other links.
+"""Filters for lines of linkshow: without some attributes or the numbers that change from run to run, or about one link.
 
-Each function takes and returns lists of lines without line ends. This file needs no other of the package: the scripts
-linkjson, linkdiff and linkgold are installed with a copy.
+Each function takes and returns lists of lines without line ends. This file imports no other file of the package, since the
+scripts linkjson, linkdiff and linkgold are installed with a copy of it.
 """
 import re
 from typing import Iterable, Iterator, List, Set
@@ -99,8 +99,8 @@ NAMES = frozenset("""
     VETH_INFO_PEER VXCAN_INFO_PEER
 """.split())
 
-# What counts or runs by itself, and what holds the index of a link or the number of a namespace; further names are those of
-# coming format versions.
+# The attributes with counters and timers, and those with indexes of links and numbers of namespaces. Names that aren't in
+# NAMES are those of later format versions.
 COUNTERS = frozenset("""
     BRIDGE_QUERIER_IPV6_OTHER_TIMER BRIDGE_QUERIER_IP_OTHER_TIMER BRIDGE_VLANDB_ENTRY_MCAST_N_GROUPS
     BRIDGE_VLANDB_ENTRY_STATS IFA_CACHEINFO IFLA_BOND_SLAVE_LINK_FAILURE_COUNT IFLA_BRPORT_FORWARD_DELAY_TIMER
@@ -136,15 +136,15 @@ def names_of(words: str) -> Set[str]:
 
     # Errors
 
-    ValueError for a word that no attribute or group is called.
+    ValueError if a word is no name of an attribute or a group.
     """
-    found: Set[str] = set()
+    names: Set[str] = set()
     for word in words.split(","):
         known = _GROUPS.get(word.lower()) or {word.upper()} & (NAMES | COUNTERS | INDEXES)
         if not known:
             raise ValueError(f"no attribute or group is called {word}")
-        found |= known
-    return found
+        names |= known
+    return names
 
 
 def messages(lines: Iterable[str]) -> Iterator[List[str]]:
@@ -160,7 +160,7 @@ def messages(lines: Iterable[str]) -> Iterator[List[str]]:
 
 
 def depth(line: str) -> int:
-    """By how many levels a line is indented."""
+    """The number of levels by which a line is indented."""
     return (len(line) - len(line.lstrip(" "))) // 2
 
 
@@ -174,17 +174,18 @@ def _is_struct(line: str) -> bool:
 
 
 def without(lines: Iterable[str], names: Set[str]) -> List[str]:
-    """The lines without some attributes, which go with all that is below them, and without numbers or indexes."""
-    kept: List[str] = []
-    left_out = None
+    """The lines without some attributes and what is nested in them. The names `numbers` and `indexes` also take these out of
+    headers."""
+    result: List[str] = []
+    dropped_level = None
     for line in lines:
         level = depth(line)
-        if left_out is not None and level > left_out:
+        if dropped_level is not None and level > dropped_level:
             continue
-        left_out = level if level and _word(line) in names else None
-        if left_out is None:
-            kept.append(_without_numbers(line, level, names))
-    return kept
+        dropped_level = level if level and _word(line) in names else None
+        if dropped_level is None:
+            result.append(_without_numbers(line, level, names))
+    return result
 
 
 def _without_numbers(line: str, level: int, names: Set[str]) -> str:
@@ -195,26 +196,26 @@ def _without_numbers(line: str, level: int, names: Set[str]) -> str:
     return line
 
 
-def _quoted(name: str) -> str:
-    return '"' + "".join(_escaped(byte) for byte in name.encode(errors="surrogateescape")) + '"'
+def _quote(name: str) -> str:
+    return '"' + "".join(_escape(byte) for byte in name.encode(errors="surrogateescape")) + '"'
 
 
-def _escaped(byte: int) -> str:
+def _escape(byte: int) -> str:
     if byte in b'"\\':
         return "\\" + chr(byte)
     return chr(byte) if 32 <= byte < 127 else f"\\x{byte:02x}"
 
 
 def is_about(message: List[str], link: str) -> bool:
-    """Whether a message is about a link of this name or index."""
+    """Whether a message is about the link with a name or index."""
     header = message[1] if len(message) > 1 and depth(message[1]) == 1 and _is_struct(message[1]) else ""
     if re.search(rf" (?:if)?index {re.escape(link)}(?: |$)", header):
         return True
-    name = _quoted(link)
-    named = {f"  IFLA_IFNAME {name}", f"  IFLA_ALT_IFNAME {name}", f"    IFLA_ALT_IFNAME {name}"}
-    return any(line in named for line in message)
+    name = _quote(link)
+    name_lines = {f"  IFLA_IFNAME {name}", f"  IFLA_ALT_IFNAME {name}", f"    IFLA_ALT_IFNAME {name}"}
+    return any(line in name_lines for line in message)
 
 
 def about(lines: Iterable[str], link: str) -> List[str]:
-    """The lines of the messages that are about a link, by its name or index."""
+    """The lines of the messages about the link with a name or index."""
     return [line for message in messages(lines) if is_about(message, link) for line in message]

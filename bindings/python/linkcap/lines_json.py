@@ -4,15 +4,15 @@
      "header": {"struct": "ifaddrmsg", "family": {"value": 2, "text": "AF_INET"}, "prefixlen": 24, ..},
      "attributes": [{"name": "IFA_ADDRESS", "value": "192.0.2.1"}, ..]}
 
-Nothing of the lines is lost, and numbers are numbers. linkjson(1) describes the keys. This file needs no other of the
-package: the scripts linkjson, linkdiff and linkgold are installed with a copy.
+Nothing of the lines is lost, and numbers are numbers. linkjson(1) describes the keys. This file imports no other file of the
+package, since the scripts linkjson, linkdiff and linkgold are installed with a copy of it.
 """
 import re
 from typing import Any, Dict, Iterable, Iterator, List, Optional
 
 Json = Dict[str, Any]
 
-# The attributes whose values are bytes in hex, which may look like a number: those of format version 2 of the lines.
+# The attributes whose values are bytes in hex, which may look like numbers, in format version 2 of the lines.
 BYTES = frozenset("""
     IFLA_ADDRESS IFLA_AF_SPEC IFLA_BOND_AD_ACTOR_SYSTEM IFLA_BOND_AD_INFO IFLA_BOND_ARP_IP_TARGET IFLA_BOND_NS_IP6_TARGET
     IFLA_BOND_SLAVE_PERM_HWADDR IFLA_BRIDGE_CFM IFLA_BRIDGE_MRP IFLA_BRIDGE_MST IFLA_BRIDGE_VLAN_INFO
@@ -28,8 +28,8 @@ BYTES = frozenset("""
 
 _TOKEN = re.compile(r'[^\s"(]*"(?:[^"\\]|\\.)*"|\([^)]*\)|[^\s"]+')
 _NUMBER = re.compile(r"-?[0-9]+")
-_ESCAPED = re.compile(r"\\(?:x([0-9a-f]{2})|(.))")
-_ASSIGNED = re.compile(r'[^\s="(]+=')
+_ESCAPE = re.compile(r"\\(?:x([0-9a-f]{2})|(.))")
+_ASSIGNMENT = re.compile(r'[^\s="(]+=')
 _INDENT = 2
 
 
@@ -41,7 +41,7 @@ class LineError(ValueError):
 
 
 class _Tokens:
-    """The words of a line, taken one by one; what is in quotes or in brackets is one word."""
+    """The words of a line, which are taken one by one. Text in quotes or in brackets is one word."""
 
     def __init__(self, words: List[str]) -> None:
         self._words, self._at = words, 0
@@ -56,12 +56,12 @@ class _Tokens:
         return word
 
     def rest(self) -> List[str]:
-        left, self._at = self._words[self._at:], len(self._words)
-        return left
+        rest, self._at = self._words[self._at:], len(self._words)
+        return rest
 
 
-def _unescape(found: "re.Match[str]") -> str:
-    return chr(int(found[1], 16)) if found[1] else found[2]
+def _unescape(escape: "re.Match[str]") -> str:
+    return chr(int(escape[1], 16)) if escape[1] else escape[2]
 
 
 def _value(tokens: _Tokens, is_bytes: bool = False) -> Json:
@@ -71,13 +71,13 @@ def _value(tokens: _Tokens, is_bytes: bool = False) -> Json:
     if word.startswith("0x"):
         return {"value": int(word, 16), "flags": names.split(" | ") if names else []}
     if word.startswith('"'):
-        return {"value": _ESCAPED.sub(_unescape, word[1:-1]), "quoted": True}
+        return {"value": _ESCAPE.sub(_unescape, word[1:-1]), "quoted": True}
     value = {"value": int(word) if _NUMBER.fullmatch(word) and not is_bytes else word}
     return {**value, "text": names} if names else value
 
 
 def _short(value: Json) -> Any:
-    """The value alone if nothing is beside it."""
+    """The value itself, if it is the only entry of its dictionary."""
     return value["value"] if len(value) == 1 else value
 
 
@@ -126,7 +126,7 @@ def _attribute_value(name: str, tokens: _Tokens) -> Json:
     if first == "fields":
         tokens.take()
         return {"fields": int(tokens.take()), "value": _assignments(tokens)}
-    if _ASSIGNED.match(first):
+    if _ASSIGNMENT.match(first):
         return {"value": _assignments(tokens)}
     value = _value(tokens, name in BYTES)
     if tokens.peek() == "mask":
@@ -137,18 +137,18 @@ def _attribute_value(name: str, tokens: _Tokens) -> Json:
 
 
 def _several(first: str, others: List[str]) -> Any:
-    """Several numbers as a list; other words, as of a label stack, as they are."""
+    """Several numbers as a list, and any other text, such as a label stack, as a string."""
     words = [first, *others]
     return [int(word) for word in words] if all(map(_NUMBER.fullmatch, words)) else " ".join(words)
 
 
 def _is_struct(word: str) -> bool:
-    """Whether a word is the name of a struct: names of attributes are in upper case, or `[3]`."""
+    """Whether a word is the name of a struct. Names of attributes are in upper case, or `[3]`."""
     return word[0].islower() and word != "kind"
 
 
 class _Message:
-    """A message that is read line by line."""
+    """The JSON of a message, to which its lines are added one by one."""
 
     def __init__(self, tokens: _Tokens) -> None:
         self.json: Json = {"type": _type(tokens), **_fields(tokens), "attributes": []}
@@ -180,7 +180,7 @@ class _Message:
         return {"length": length, "type": _type(tokens), **_fields(tokens)}
 
     def _list(self, depth: int) -> List[Json]:
-        """The list of the attributes at a depth, which is that of the last attribute one level above."""
+        """The list of attributes at a depth, which is nested in the last attribute one level above."""
         del self._lists[depth:]
         if len(self._lists) < depth:
             self._lists.append(self._lists[-1][-1].setdefault("nested", []))
@@ -190,7 +190,7 @@ class _Message:
 
 
 def _read(message: Optional[_Message], depth: int, line: str, tokens: _Tokens) -> _Message:
-    """The message that a line begins or continues."""
+    """The message to which a line belongs, with the line added."""
     if depth == 0 or message is None:
         return _Message(tokens)
     message.add(depth, line, tokens)

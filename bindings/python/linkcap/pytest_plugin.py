@@ -13,7 +13,7 @@ def pytest_addoption(parser: pytest.Parser) -> None:
 
 @pytest.fixture
 def linkcap_golden(request: pytest.FixtureRequest) -> Callable[..., None]:
-    """`linkcap.golden`, with names beside the test's file, and written anew under --linkcap-update."""
+    """`linkcap.golden` for files in the folder of the test's file. Under --linkcap-update it writes them."""
 
     def compare(capture: Capture, name: str, **options: Any) -> None:
         __tracebackhide__ = True

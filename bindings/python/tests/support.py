@@ -1,4 +1,4 @@
-"""What the tests share: the repository's files, and the stored vectors."""
+"""Helpers of the tests: the repository's files, and the stored vectors."""
 import os
 import re
 import sys
@@ -24,23 +24,23 @@ def cases(kind: str) -> List[str]:
     return [str(case) for case in vectors.cases(kind)]
 
 
-def answers(kind: str) -> List[str]:
-    """What is to be answered to the cases of a kind."""
-    return [str(answer) for answer in vectors.answers(kind)]
+def results(kind: str) -> List[str]:
+    """The stored results of the cases of a kind."""
+    return [str(result) for result in vectors.results(kind)]
 
 
 def captures(kind: str) -> List[Tuple[int, List[bytes]]]:
     """The limit and the captures of each case of a kind."""
-    found = []
+    result = []
     for case in cases(kind):
         limit, *words = case.split(" ")
-        found.append((int(limit), [bytes.fromhex(word) for word in words]))
-    return found
+        result.append((int(limit), [bytes.fromhex(word) for word in words]))
+    return result
 
 
-def cleared(capture: bytes) -> bytes:
-    """A legal capture with zeros over the sequence and port number of each message (netlink.h, struct nlmsghdr), and of the
-    header that an NLMSG_ERROR of 36 bytes or more repeats behind its code (struct nlmsgerr)."""
+def clear_numbers(capture: bytes) -> bytes:
+    """A legal capture in which the sequence and port numbers are zero: those of each message (netlink.h, struct nlmsghdr), and
+    of the header that an NLMSG_ERROR of 36 bytes or more repeats after its code (struct nlmsgerr)."""
     out, at = bytearray(capture), 0
     while at < len(out):
         length, kind = int.from_bytes(out[at:at + 4], "little"), int.from_bytes(out[at + 4:at + 6], "little")
@@ -51,18 +51,18 @@ def cleared(capture: bytes) -> bytes:
 
 
 def is_legal(capture: bytes, limit: int) -> bool:
-    """As the independent implementation has it."""
+    """Whether a capture is legal, by the independent implementation."""
     return linkoracle.normal_text(capture, limit)[1] is None
 
 
 def means_the_same(first: bytes, second: bytes, limit: int) -> bool:
-    """As the independent implementation has it, of two legal captures."""
+    """Whether two legal captures mean the same, by the independent implementation."""
     return bool(linkoracle.same(first, second, limit))
 
 
 def header_constants(prefix: str, *headers: str) -> List[Tuple[str, int]]:
-    """Names that begin so, with their numbers, of kernel headers; nothing if these aren't installed."""
-    found = []
+    """The constants with a prefix in kernel headers, with their numbers; none if the headers aren't installed."""
+    constants = []
     for header in headers:
         try:
             with open(os.path.join("/usr/include/linux", header), encoding="ascii") as file:
@@ -70,5 +70,5 @@ def header_constants(prefix: str, *headers: str) -> List[Tuple[str, int]]:
         except FileNotFoundError:
             return []
         pattern = r"^\s*(?:#define\s+)?(%s\w+)\s*=?\s*(0x[0-9a-f]+|[0-9]+)\b" % prefix
-        found += [(name, int(number, 0)) for name, number in re.findall(pattern, text, re.M)]
-    return found
+        constants += [(name, int(number, 0)) for name, number in re.findall(pattern, text, re.M)]
+    return constants

@@ -1,4 +1,4 @@
-"""The pytest fixture, as tests use it."""
+"""Tests of the pytest fixture."""
 import os
 from typing import Any
 
@@ -32,9 +32,9 @@ def run(pytester: pytest.Pytester, *options: str, change: str = "") -> Any:
 def test_golden_files(pytester: pytest.Pytester) -> None:
     run(pytester).assert_outcomes(failed=1)
     run(pytester, "--linkcap-update").assert_outcomes(passed=1)
-    shown = (pytester.path / "request.lines").read_text()
+    golden = (pytester.path / "request.lines").read_text()
     with open(os.path.join(SAMPLES, "lo-request.lines")) as file:
-        assert shown.splitlines()[2:] == file.read().splitlines()[1:]
+        assert golden.splitlines()[2:] == file.read().splitlines()[1:]
     run(pytester).assert_outcomes(passed=1)
     result = run(pytester, change='.replace(b"lo", b"hi")')
     result.assert_outcomes(failed=1)
@@ -43,7 +43,7 @@ def test_golden_files(pytester: pytest.Pytester) -> None:
     assert "_golden.py" not in str(result.stdout) and "pytest_plugin.py" not in str(result.stdout)
 
 
-@pytest.mark.skipif(not test_record.can_record(), reason="no strace, ip, or leave to make a network namespace")
+@pytest.mark.skipif(not test_record.can_record(), reason="no strace, ip, or permission to make a network namespace")
 def test_a_recorded_command(pytester: pytest.Pytester, monkeypatch: pytest.MonkeyPatch) -> None:
     monkeypatch.setenv("LINKREC", test_record.LINKREC)
     pytester.makepyfile(RECORDED)

@@ -1,4 +1,4 @@
-"""Golden files, and `python -m linkcap`."""
+"""Tests of golden files and of `python -m linkcap`."""
 import json
 import os
 import subprocess
@@ -20,7 +20,7 @@ class Golden(unittest.TestCase):
         self.addCleanup(folder.cleanup)
         self.path = os.path.join(folder.name, "golden", "new", "lo.lines")
 
-    def written(self) -> str:
+    def read(self) -> str:
         with open(self.path, encoding="ascii", newline="") as file:
             return file.read()
 
@@ -34,13 +34,13 @@ class Golden(unittest.TestCase):
             capture = sample(name + ".bin")
             self.assertEqual(linkcap.lines(capture), sample(name + ".lines").decode())
             linkcap.golden(capture, os.path.join(TOP, "samples", name + ".lines"), numbers=True)
-        shown = linkcap.lines(self.capture, numbers=False)
-        self.assertEqual(shown.splitlines()[0], "RTM_GETLINK flags 0x301 (REQUEST | ROOT | MATCH)")
-        self.assertEqual(shown.splitlines()[1:], sample("lo-request.lines").decode().splitlines()[1:])
+        first, *rest = linkcap.lines(self.capture, numbers=False).splitlines()
+        self.assertEqual(first, "RTM_GETLINK flags 0x301 (REQUEST | ROOT | MATCH)")
+        self.assertEqual(rest, sample("lo-request.lines").decode().splitlines()[1:])
 
-    def test_without_numbers_unless_asked(self) -> None:
+    def test_numbers_are_left_out_by_default(self) -> None:
         linkcap.golden(self.capture, self.path, update=True)
-        first, *rest = self.written().splitlines()
+        first, *rest = self.read().splitlines()
         self.assertEqual(first, "# linkcap lines, format 2")
         self.assertEqual(rest[0], "RTM_GETLINK flags 0x301 (REQUEST | ROOT | MATCH)")
         self.assertEqual(rest[1:], sample("lo-request.lines").decode().splitlines()[1:])
@@ -50,7 +50,7 @@ class Golden(unittest.TestCase):
         with self.assertRaises(AssertionError):
             linkcap.golden(self.capture, self.path, numbers=True)
         linkcap.golden(self.capture, self.path, update=True, numbers=True)
-        self.assertEqual(self.written().splitlines()[1:], sample("lo-request.lines").decode().splitlines())
+        self.assertEqual(self.read().splitlines()[1:], sample("lo-request.lines").decode().splitlines())
 
     def test_difference(self) -> None:
         with self.assertRaisesRegex(AssertionError, "no golden file"):
@@ -75,10 +75,10 @@ class Golden(unittest.TestCase):
         self.assertFalse(os.path.exists(self.path))
 
     def test_formats(self) -> None:
-        shown = linkcap.lines(self.capture, numbers=False)
-        self.write(shown)
+        lines = linkcap.lines(self.capture, numbers=False)
+        self.write(lines)
         linkcap.golden(self.capture, self.path)
-        self.write("# linkcap lines, format 1\n" + shown.replace("lo", "hi"))
+        self.write("# linkcap lines, format 1\n" + lines.replace("lo", "hi"))
         with self.assertRaisesRegex(AssertionError, "has lines of format 1, and this linkcap writes format 2"):
             linkcap.golden(self.capture, self.path)
 
@@ -88,10 +88,10 @@ class Golden(unittest.TestCase):
 
     def test_line_ends(self) -> None:
         linkcap.golden(self.capture, self.path, update=True)
-        self.write(self.written().replace("\n", "\r\n"))
+        self.write(self.read().replace("\n", "\r\n"))
         with self.assertRaisesRegex(AssertionError, "CRLF"):
             linkcap.golden(self.capture, self.path)
-        self.write(self.written().replace("\r\n", "\n").rstrip("\n"))
+        self.write(self.read().replace("\r\n", "\n").rstrip("\n"))
         with self.assertRaisesRegex(AssertionError, "No newline at end of file"):
             linkcap.golden(self.capture, self.path)
         self.write("caf\u00e9\n")
@@ -105,17 +105,17 @@ class Golden(unittest.TestCase):
 
         result = unittest.TestResult()
         Inner().run(result)
-        (_, told), = result.failures
-        self.assertIn("no golden file", told)
-        self.assertNotIn(os.path.join("linkcap", "_golden.py"), told)
+        (_, message), = result.failures
+        self.assertIn("no golden file", message)
+        self.assertNotIn(os.path.join("linkcap", "_golden.py"), message)
 
 
 class Program(unittest.TestCase):
     """`python -m linkcap`."""
 
-    def run_it(self, *arguments: str, given: bytes = b"") -> "subprocess.CompletedProcess[bytes]":
+    def run_program(self, *arguments: str, stdin: bytes = b"") -> "subprocess.CompletedProcess[bytes]":
         command = [sys.executable, "-m", "linkcap", *arguments]
-        return subprocess.run(command, input=given, stdout=subprocess.PIPE, stderr=subprocess.PIPE, check=False)
+        return subprocess.run(command, input=stdin, stdout=subprocess.PIPE, stderr=subprocess.PIPE, check=False)
 
     def test_program(self) -> None:
         request, path = sample("req-veth.bin"), os.path.join(TOP, "samples", "req-veth.bin")
@@ -132,24 +132,24 @@ class Program(unittest.TestCase):
             (["lines", other], b"", 0, sample("lo-request.lines"), b""),
             (["lines", "--only", "getlink,3", other], b"", 0, sample("lo-request.lines"), b""),
             (["messages", other], b"", 0, b"0 48 18\n", b""),
-            (["same", "--ignore-numbers", other, "-"], self.renumbered(), 0, b"same\n", b""),
-            (["same", other, "-"], self.renumbered(), 1, b"different\n", b""),
+            (["same", "--ignore-numbers", other, "-"], self.with_other_numbers(), 0, b"same\n", b""),
+            (["same", other, "-"], self.with_other_numbers(), 1, b"different\n", b""),
             (["quirks"], sample("lo-request.bin")[:17] + b"\1" + sample("lo-request.bin")[18:], 0,
              b"second byte of the header of RTM_GETLINK at 17\n", b""),
             (["norm", "--limit", "15"], b"", 3, b"", b"linkcap: a limit is a number from 16 to 4294967295\n"),
         ]
-        for arguments, given, status, out, error in cases:
-            ran = self.run_it(*arguments, given=given)
-            self.assertEqual((ran.returncode, ran.stdout, ran.stderr), (status, out, error), arguments)
+        for arguments, stdin, status, out, error in cases:
+            process = self.run_program(*arguments, stdin=stdin)
+            self.assertEqual((process.returncode, process.stdout, process.stderr), (status, out, error), arguments)
 
-    def renumbered(self) -> bytes:
+    def with_other_numbers(self) -> bytes:
         """A request with another sequence number."""
         capture = sample("lo-request.bin")
         return capture[:8] + b"\1\2\3\4" + capture[12:]
 
     def test_json(self) -> None:
-        ran = self.run_it("json", "--without-numbers", os.path.join(TOP, "samples", "lo-request.bin"))
-        message = json.loads(ran.stdout)
+        process = self.run_program("json", "--without-numbers", os.path.join(TOP, "samples", "lo-request.bin"))
+        message = json.loads(process.stdout)
         self.assertEqual((message["type"], message["flags"]["value"]), ("RTM_GETLINK", 0x301))
         self.assertIn(("IFLA_IFNAME", "lo"), [(one["name"], one["value"]) for one in message["attributes"]])
         self.assertNotIn("seq", message)
@@ -157,11 +157,11 @@ class Program(unittest.TestCase):
     def test_usage(self) -> None:
         wrong: List[List[str]] = [[], ["norn"], ["same", "one"], ["lines", "--only", "newlnk"]]
         for arguments in wrong:
-            self.assertEqual(self.run_it(*arguments).returncode, 3, arguments)
-        self.assertEqual(self.run_it("norm", os.path.join(TOP, "missing")).returncode, 2)
-        told = self.run_it("--version").stdout.decode()
-        self.assertTrue(told.startswith(f"linkcap {linkcap.__version__} (interface 2, lines 2), library "), told)
-        self.assertIn(linkcap.LIBRARY_PATH, told)
+            self.assertEqual(self.run_program(*arguments).returncode, 3, arguments)
+        self.assertEqual(self.run_program("norm", os.path.join(TOP, "missing")).returncode, 2)
+        version = self.run_program("--version").stdout.decode()
+        self.assertTrue(version.startswith(f"linkcap {linkcap.__version__} (interface 2, lines 2), library "), version)
+        self.assertIn(linkcap.LIBRARY_PATH, version)
 
 
 if __name__ == "__main__":

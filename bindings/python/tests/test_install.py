@@ -1,4 +1,4 @@
-"""Which library is loaded, and how the package is built."""
+"""Tests of which library is loaded, and of how the package is built."""
 import glob
 import os
 import shutil
@@ -17,7 +17,7 @@ BUILD = "import sys; sys.path.insert(0, sys.argv[1]); import backend; print(geta
 
 
 def run(command: List[str], **changes: Optional[str]) -> "subprocess.CompletedProcess[str]":
-    """Runs a command with variables changed, or removed if they are None."""
+    """Runs a command with changed environment variables. It removes those that are None."""
     environment: Dict[str, str] = {**os.environ, "PYTHONDONTWRITEBYTECODE": "1"}
     for name, value in changes.items():
         environment.pop(name, None)
@@ -27,10 +27,11 @@ def run(command: List[str], **changes: Optional[str]) -> "subprocess.CompletedPr
                           stderr=subprocess.PIPE, universal_newlines=True, check=False)
 
 
-def loaded(python_path: str, folder: Optional[str]) -> str:
-    """The library that an import takes, or the last line of its error."""
-    ran = run([sys.executable, "-c", "import linkcap; print(linkcap.LIBRARY_PATH)"], PYTHONPATH=python_path, LINKCAP_LIB_DIR=folder)
-    return ran.stdout.strip() or ran.stderr.splitlines()[-1]
+def loaded_library(python_path: str, folder: Optional[str]) -> str:
+    """The path of the library that an import loads, or the last line of its error."""
+    command = [sys.executable, "-c", "import linkcap; print(linkcap.LIBRARY_PATH)"]
+    process = run(command, PYTHONPATH=python_path, LINKCAP_LIB_DIR=folder)
+    return process.stdout.strip() or process.stderr.splitlines()[-1]
 
 
 class Install(unittest.TestCase):
@@ -47,22 +48,22 @@ class Install(unittest.TestCase):
     def build(self, hook: str, folder: str, library: Optional[str] = None) -> str:
         target = os.path.join(self.folder, folder)
         os.makedirs(target, exist_ok=True)
-        ran = run([sys.executable, "-c", BUILD, self.source, hook, target], LINKCAP_LIB_DIR=library, SOURCE_DATE_EPOCH=None)
-        self.assertEqual(ran.returncode, 0, ran.stderr)
-        return os.path.join(target, ran.stdout.strip())
+        process = run([sys.executable, "-c", BUILD, self.source, hook, target], LINKCAP_LIB_DIR=library, SOURCE_DATE_EPOCH=None)
+        self.assertEqual(process.returncode, 0, process.stderr)
+        return os.path.join(target, process.stdout.strip())
 
     def test_no_library(self) -> None:
-        """An import without the library says what to do."""
-        told = loaded(self.source, self.folder)
-        self.assertRegex(told, "ImportError: .*liblinkcap.so.*: name the library's folder in LINKCAP_LIB_DIR")
+        """The error of an import without the library says what to do."""
+        error = loaded_library(self.source, self.folder)
+        self.assertRegex(error, "ImportError: .*liblinkcap.so.*: name the library's folder in LINKCAP_LIB_DIR")
 
-    def test_bundled_library_is_taken(self) -> None:
+    def test_bundled_library(self) -> None:
         shutil.copy(LIBRARY, os.path.join(self.source, "linkcap", "liblinkcap.so"))
-        for stale in (None, self.folder, self.library):
-            self.assertEqual(loaded(self.source, stale), os.path.join(self.source, "linkcap", "liblinkcap.so"))
+        for folder in (None, self.folder, self.library):
+            self.assertEqual(loaded_library(self.source, folder), os.path.join(self.source, "linkcap", "liblinkcap.so"))
 
     def test_named_library(self) -> None:
-        self.assertEqual(loaded(self.source, self.library), os.path.join(self.library, "liblinkcap.so"))
+        self.assertEqual(loaded_library(self.source, self.library), os.path.join(self.library, "liblinkcap.so"))
 
     def test_wheels_are_reproducible(self) -> None:
         for hook, library in (("build_wheel", self.library), ("build_wheel", None), ("build_sdist", None), ("build_editable", self.library)):
@@ -82,24 +83,24 @@ class Install(unittest.TestCase):
         pip = [python, "-m", "pip", "-q", "--disable-pip-version-check", "install", "--no-index", "--force-reinstall"]
         for is_editable in (False, True):
             flags = ["-e"] if is_editable else []
-            ran = run([*pip, *flags, self.source], LINKCAP_LIB_DIR=self.library, PYTHONPATH=None)
-            if is_editable and "build_editable" in ran.stderr + ran.stdout:
+            process = run([*pip, *flags, self.source], LINKCAP_LIB_DIR=self.library, PYTHONPATH=None)
+            if is_editable and "build_editable" in process.stderr + process.stdout:
                 self.skipTest("this pip is older than editable builds")
-            self.assertEqual(ran.returncode, 0, ran.stderr)
-            # later the variable leads nowhere
-            ran = run(show, LINKCAP_LIB_DIR=self.source, PYTHONPATH=None)
-            self.assertEqual(ran.returncode, 0, ran.stderr)
-            file, found = ran.stdout.split()
+            self.assertEqual(process.returncode, 0, process.stderr)
+            # after the installation the variable names a folder without the library
+            process = run(show, LINKCAP_LIB_DIR=self.source, PYTHONPATH=None)
+            self.assertEqual(process.returncode, 0, process.stderr)
+            file, library = process.stdout.split()
             if is_editable:
                 self.assertEqual(os.path.dirname(file), os.path.join(self.source, "linkcap"))
-                self.assertEqual(found, os.path.join(self.library, "liblinkcap.so"))
+                self.assertEqual(library, os.path.join(self.library, "liblinkcap.so"))
             else:
-                self.assertEqual(found, os.path.join(os.path.dirname(file), "liblinkcap.so"))
+                self.assertEqual(library, os.path.join(os.path.dirname(file), "liblinkcap.so"))
         # the editable package follows its sources
         with open(os.path.join(self.source, "linkcap", "__init__.py"), "a") as package:
             package.write('\nMARK = "changed"\n')
-        ran = run([python, "-c", "import linkcap; print(linkcap.MARK)"], LINKCAP_LIB_DIR=None, PYTHONPATH=None)
-        self.assertEqual(ran.stdout, "changed\n", ran.stderr)
+        process = run([python, "-c", "import linkcap; print(linkcap.MARK)"], LINKCAP_LIB_DIR=None, PYTHONPATH=None)
+        self.assertEqual(process.stdout, "changed\n", process.stderr)
 
 
 if __name__ == "__main__":

@@ -1,4 +1,4 @@
-"""The calls over the stored vectors, and at the edges: `python3 -m unittest` in this folder, or pytest."""
+"""Tests of the calls, over the stored vectors and at the edges: `python3 -m unittest` in this folder, or pytest."""
 import array
 import io
 import mmap
@@ -12,24 +12,24 @@ import unittest
 from typing import Callable, Optional, Tuple
 
 import linkcap
-from support import answers, captures, cases, cleared, header_constants, is_legal, means_the_same, sample
+from support import captures, cases, clear_numbers, header_constants, is_legal, means_the_same, results, sample
 
-Written = Tuple[bytes, Optional[linkcap.Fault]]
+Result = Tuple[bytes, Optional[linkcap.Fault]]
 Call = Callable[..., object]
 
-# an IFLA_MTU of 3 bytes, in a message of 40 bytes; a NLMSG_DONE that is written with 4 bytes more
+# an IFLA_MTU of 3 bytes, in a message of 40 bytes; an NLMSG_DONE whose normal text has 4 bytes more
 REFUSED = bytes.fromhex("28000000100000000000000000000000") + bytes(16) + bytes.fromhex("0700040001020300")
 DONE = bytes.fromhex("10000000030002000000000000000000")
 
 
-def normalize(capture: bytes, limit: int) -> Written:
+def normalize(capture: bytes, limit: int) -> Result:
     try:
         return linkcap.normalize(capture, limit), None
     except linkcap.Fault as fault:
         return fault.written, fault
 
 
-def normalize_pieces(capture: bytes, limit: int, size: int) -> Written:
+def normalize_pieces(capture: bytes, limit: int, size: int) -> Result:
     reader, texts = linkcap.Reader(limit), []
     try:
         for at in range(0, len(capture), size):
@@ -49,19 +49,19 @@ def norm_line(capture: bytes, limit: int, text: bytes, fault: Optional[linkcap.F
     for call in (linkcap.check, linkcap.measure, linkcap.messages):
         try:
             call(capture, limit)
-            raise AssertionError("a fault that wasn't raised again")
-        except linkcap.Fault as again:
-            assert (again.kind, again.offset, again.side, again.why) == (fault.kind, fault.offset, None, fault.why)
+            raise AssertionError("a call that doesn't raise the fault")
+        except linkcap.Fault as other:
+            assert (other.kind, other.offset, other.side, other.why) == (fault.kind, fault.offset, None, fault.why)
     return f"{text.hex()} {fault.words}"
 
 
 class Vectors(unittest.TestCase):
     maxDiff = 200
 
-    def check_norm(self, run: Callable[[bytes, int, int], Written]) -> None:
-        given, stored = captures("norm"), answers("norm")
-        self.assertEqual(len(given), len(stored))
-        for number, ((limit, (capture,)), line) in enumerate(zip(given, stored)):
+    def check_norm(self, run: Callable[[bytes, int, int], Result]) -> None:
+        inputs, expected = captures("norm"), results("norm")
+        self.assertEqual(len(inputs), len(expected))
+        for number, ((limit, (capture,)), line) in enumerate(zip(inputs, expected)):
             self.assertEqual(norm_line(capture, limit, *run(capture, limit, number)) + "\n", line)
 
     def test_norm(self) -> None:
@@ -71,9 +71,9 @@ class Vectors(unittest.TestCase):
         self.check_norm(lambda capture, limit, number: normalize_pieces(capture, limit, (1, 7, 100)[number % 3]))
 
     def test_same(self) -> None:
-        given, stored = captures("same"), answers("same")
-        self.assertEqual(len(given), len(stored))
-        for (limit, (first, second)), line in zip(given, stored):
+        inputs, expected = captures("same"), results("same")
+        self.assertEqual(len(inputs), len(expected))
+        for (limit, (first, second)), line in zip(inputs, expected):
             try:
                 self.assertEqual("same\n" if linkcap.same(first, second, limit) else "different\n", line)
             except linkcap.Fault as fault:
@@ -81,81 +81,81 @@ class Vectors(unittest.TestCase):
                 self.assertEqual(fault.words + "\n", line)
 
     def test_same_ignoring_numbers(self) -> None:
-        """Compared with what the independent implementation says of captures whose numbers are zero."""
-        compared = 0
+        """The result is that of the independent implementation for captures whose numbers are zero."""
+        comparisons = 0
         for number, (limit, (first, second)) in enumerate(captures("same")):
             if not is_legal(first, limit) or not is_legal(second, limit):
                 with self.assertRaises(linkcap.Fault):
                     linkcap.same(first, second, limit, ignore_numbers=True)
                 continue
-            # other numbers in every second case
+            # every second case gets other numbers
             renumbered = bytes(byte ^ (number & 1) if at in range(8, 16) else byte for at, byte in enumerate(second))
-            expected = means_the_same(cleared(first), cleared(renumbered), limit)
+            expected = means_the_same(clear_numbers(first), clear_numbers(renumbered), limit)
             self.assertEqual(linkcap.same(first, renumbered, limit, ignore_numbers=True), expected, (limit, first, renumbered))
-            compared += 1
-        self.assertGreater(compared, 1000)
+            comparisons += 1
+        self.assertGreater(comparisons, 1000)
 
     def test_show(self) -> None:
-        given, stored = cases("show"), answers("show")
-        self.assertEqual(len(given), len(stored))
-        for case, expected in zip(given, stored):
+        inputs, expected = cases("show"), results("show")
+        self.assertEqual(len(inputs), len(expected))
+        for case, result in zip(inputs, expected):
             limit, *choice, capture = case.split(" ")
             numbers = choice != ["without-numbers"]
             only = [int(kind) for kind in choice[0].split(",")] if choice and numbers else None
             try:
-                shown = linkcap.lines(bytes.fromhex(capture), int(limit), numbers=numbers, only=only) + "legal\n"
+                text = linkcap.lines(bytes.fromhex(capture), int(limit), numbers=numbers, only=only) + "legal\n"
             except linkcap.Fault as fault:
-                shown = f"{fault.written.decode()}{fault.words}\n"
-            self.assertTrue(shown == expected, case[:200])
+                text = f"{fault.written.decode()}{fault.words}\n"
+            self.assertTrue(text == result, case[:200])
 
     def test_lines_in_pieces(self) -> None:
-        for number, (case, expected) in enumerate(zip(cases("show"), answers("show"))):
-            limit, *choice, capture = case.split(" ")
+        for number, (case, result) in enumerate(zip(cases("show"), results("show"))):
+            limit, *choice, hex_capture = case.split(" ")
             numbers = choice != ["without-numbers"]
             only = [int(kind) for kind in choice[0].split(",")] if choice and numbers else None
-            given, size = bytes.fromhex(capture), (1, 7, 100)[number % 3]
-            reader, shown = linkcap.LineReader(int(limit), numbers=numbers, only=only), []
+            capture, size = bytes.fromhex(hex_capture), (1, 7, 100)[number % 3]
+            reader, texts = linkcap.LineReader(int(limit), numbers=numbers, only=only), []
             try:
-                for at in range(0, len(given), size):
-                    shown.append(reader.feed(given[at:at + size]))
-                shown += [reader.finish(), "legal\n"]
+                for at in range(0, len(capture), size):
+                    texts.append(reader.feed(capture[at:at + size]))
+                texts += [reader.finish(), "legal\n"]
             except linkcap.Fault as fault:
-                shown.append(f"{fault.written.decode()}{fault.words}\n")
-            self.assertTrue("".join(shown) == expected, case[:200])
+                texts.append(f"{fault.written.decode()}{fault.words}\n")
+            self.assertTrue("".join(texts) == result, case[:200])
 
     def test_quirks(self) -> None:
-        given, stored = captures("spelling"), answers("spelling")
-        self.assertEqual((len(given), len(stored)), (287, 287))
-        for (limit, (capture,)), line in zip(given, stored):
+        inputs, expected = captures("spelling"), results("spelling")
+        self.assertEqual((len(inputs), len(expected)), (287, 287))
+        for (limit, (capture,)), line in zip(inputs, expected):
             try:
-                found = linkcap.quirks(capture, limit)
+                quirks = linkcap.quirks(capture, limit)
             except linkcap.Fault as fault:
                 self.assertTrue(line.endswith(f"{fault.words}\n"), line)
-                found = linkcap.quirks(capture[:fault.offset], limit)
+                quirks = linkcap.quirks(capture[:fault.offset], limit)
                 line = line.replace(f"{fault.words}\n", "legal\n")
-            self.assertEqual("".join(f"{quirk.words}; " for quirk in found) + "legal\n", line)
-            for quirk in found:
+            self.assertEqual("".join(f"{quirk.words}; " for quirk in quirks) + "legal\n", line)
+            for quirk in quirks:
                 self.assertTrue(quirk.words.endswith(f" at {quirk.offset}"))
 
     def test_why(self) -> None:
-        given, stored = captures("refusal"), answers("refusal")
-        self.assertEqual(len(given), len(stored))
-        for (limit, (capture,)), line in zip(given, stored):
-            found = linkcap.why(capture, limit)
-            self.assertEqual((found.words if found else "nothing") + "\n", line)
-            if found:
-                self.check_reason(capture, limit, found)
+        inputs, expected = captures("refusal"), results("refusal")
+        self.assertEqual(len(inputs), len(expected))
+        for (limit, (capture,)), line in zip(inputs, expected):
+            refusal = linkcap.why(capture, limit)
+            self.assertEqual((refusal.words if refusal else "nothing") + "\n", line)
+            if refusal:
+                self.check_reason(capture, limit, refusal)
 
-    def check_reason(self, capture: bytes, limit: int, found: linkcap.Refusal) -> None:
-        """Each call that raises the fault gives this reason; a reader, too, which has the last bytes alone."""
-        self.assertEqual(found.words.endswith(f" at {found.offset}"), found.offset is not None)
+    def check_reason(self, capture: bytes, limit: int, refusal: linkcap.Refusal) -> None:
+        """Each call that raises the fault has this reason, also a reader, which keeps only the bytes of the last message."""
+        self.assertEqual(refusal.words.endswith(f" at {refusal.offset}"), refusal.offset is not None)
         with self.assertRaises(linkcap.Fault) as raised:
             linkcap.check(capture, limit)
-        self.assertEqual((raised.exception.kind, raised.exception.why), (linkcap.Kind.REFUSED, found))
-        self.assertEqual(str(raised.exception), f"{raised.exception.words}: {found.words}")
+        self.assertEqual((raised.exception.kind, raised.exception.why), (linkcap.Kind.REFUSED, refusal))
+        self.assertEqual(str(raised.exception), f"{raised.exception.words}: {refusal.words}")
         for fault in (normalize(capture, limit)[1], normalize_pieces(capture, limit, 61)[1]):
             assert fault is not None
-            self.assertEqual((fault.kind, fault.why), (linkcap.Kind.REFUSED, found))
+            self.assertEqual((fault.kind, fault.why), (linkcap.Kind.REFUSED, refusal))
 
 
 class Edges(unittest.TestCase):
@@ -227,9 +227,9 @@ class Edges(unittest.TestCase):
         with tempfile.TemporaryFile() as file:
             file.write(capture)
             file.flush()
-            with mmap.mmap(file.fileno(), 0, access=mmap.ACCESS_READ) as mapped:
-                self.assertEqual(linkcap.normalize(mapped), text)
-                self.assertEqual(linkcap.messages(mapped), linkcap.messages(capture))
+            with mmap.mmap(file.fileno(), 0, access=mmap.ACCESS_READ) as mapping:
+                self.assertEqual(linkcap.normalize(mapping), text)
+                self.assertEqual(linkcap.messages(mapping), linkcap.messages(capture))
         others: Tuple[linkcap.Capture, ...] = (
             bytearray(capture), memoryview(capture), array.array("I", capture), memoryview(capture).cast("I"))
         for other in others:
@@ -251,10 +251,10 @@ class Edges(unittest.TestCase):
         capture = sample("notify-vrf.bin")
         text = linkcap.normalize(capture)
         for kind in ("u1", "<u4", ">u2"):
-            given = numpy.frombuffer(capture, kind)
-            self.assertEqual(linkcap.normalize(given), text)
+            numbers = numpy.frombuffer(capture, kind)
+            self.assertEqual(linkcap.normalize(numbers), text)
             reader = linkcap.Reader()
-            self.assertEqual(reader.feed(given[:25]) + reader.feed(given[25:]) + reader.finish(), text)
+            self.assertEqual(reader.feed(numbers[:25]) + reader.feed(numbers[25:]) + reader.finish(), text)
 
     def test_faults(self) -> None:
         capture = sample("lo-request.bin")
@@ -263,8 +263,8 @@ class Edges(unittest.TestCase):
         fault = raised.exception
         self.assertEqual((str(fault), fault.words), ("cut frame at 48", "cut frame at 48"))
         self.assertEqual((fault.kind, fault.offset, fault.side, len(fault.written), fault.why), (linkcap.Kind.CUT, 48, None, 48, None))
-        again = pickle.loads(pickle.dumps(fault))
-        self.assertEqual((again.kind, again.offset, again.side, again.written), (fault.kind, 48, None, fault.written))
+        copy = pickle.loads(pickle.dumps(fault))
+        self.assertEqual((copy.kind, copy.offset, copy.side, copy.written), (fault.kind, 48, None, fault.written))
         with self.assertRaises(linkcap.Fault) as raised:
             linkcap.same(capture, capture[:-1])
         self.assertEqual(str(raised.exception), "second: cut frame at 0")
@@ -281,8 +281,8 @@ class Edges(unittest.TestCase):
         with self.assertRaises(linkcap.Fault) as raised:
             linkcap.lines(capture + REFUSED)
         self.assertEqual(str(raised.exception), "refused body at 48" + reason + "80")
-        again = pickle.loads(pickle.dumps(raised.exception))
-        self.assertEqual((str(again), again.why), (str(raised.exception), raised.exception.why))
+        copy = pickle.loads(pickle.dumps(raised.exception))
+        self.assertEqual((str(copy), copy.why), (str(raised.exception), raised.exception.why))
         for first, second, words in ((REFUSED, capture, "first: refused body at 0"), (capture, capture + REFUSED, "second: refused body at 48")):
             with self.assertRaises(linkcap.Fault) as raised:
                 linkcap.same(first, second)
@@ -333,24 +333,24 @@ class Edges(unittest.TestCase):
         self.assertEqual("".join(linkcap.LineReader().read_file(io.BytesIO(capture), 5)), sample("lo-request.lines").decode())
 
     def test_lines_of_a_long_capture_need_little_memory(self) -> None:
-        """A reader holds a piece and its lines, not the whole."""
-        capture, shown = sample("req-veth.bin"), 0
+        """A reader takes memory for a piece and its lines, and not for the whole capture."""
+        capture, length = sample("req-veth.bin"), 0
         reader = linkcap.LineReader()
         tracemalloc.start()
         for _ in range(2000):
-            shown += len(reader.feed(capture))
+            length += len(reader.feed(capture))
         most = tracemalloc.get_traced_memory()[1]
         tracemalloc.stop()
-        self.assertEqual(shown, 2000 * len(sample("req-veth.lines")))
+        self.assertEqual(length, 2000 * len(sample("req-veth.lines")))
         self.assertLess(most, 100 * len(sample("req-veth.lines")))
 
     def test_threads(self) -> None:
         capture = sample("get-veth.bin")
-        text, shown, wrong = linkcap.normalize(capture), linkcap.lines(capture), []
+        text, lines, wrong = linkcap.normalize(capture), linkcap.lines(capture), []
 
         def run() -> None:
             for _ in range(30):
-                if linkcap.normalize(capture) != text or linkcap.lines(capture) != shown or not linkcap.same(capture, text):
+                if linkcap.normalize(capture) != text or linkcap.lines(capture) != lines or not linkcap.same(capture, text):
                     wrong.append(1)
 
         threads = [threading.Thread(target=run) for _ in range(8)]
@@ -372,9 +372,9 @@ class Messages(unittest.TestCase):
 
     def test_parts_are_captures(self) -> None:
         capture = sample("get-veth.bin")
-        found = linkcap.messages(capture)
-        self.assertGreater(len(found), 1)
-        texts = [linkcap.normalize(memoryview(capture)[one.offset:one.offset + one.length]) for one in found]
+        messages = linkcap.messages(capture)
+        self.assertGreater(len(messages), 1)
+        texts = [linkcap.normalize(memoryview(capture)[one.offset:one.offset + one.length]) for one in messages]
         self.assertEqual(b"".join(texts), linkcap.normalize(capture))
 
     def test_only_by_name(self) -> None:
@@ -394,13 +394,13 @@ class Messages(unittest.TestCase):
 
     def test_names_are_the_headers(self) -> None:
         from linkcap._types import NAMES
-        found = dict(header_constants("NLMSG_", "netlink.h") + header_constants("RTM_", "rtnetlink.h"))
-        if not found:
+        constants = dict(header_constants("NLMSG_", "netlink.h") + header_constants("RTM_", "rtnetlink.h"))
+        if not constants:
             self.skipTest("no kernel headers")
         for name, number in NAMES.items():
             word = ("NLMSG_" if number < 16 else "RTM_") + name.upper()
-            if word in found:
-                self.assertEqual(found[word], number)
+            if word in constants:
+                self.assertEqual(constants[word], number)
             message = bytes([20, 0, 0, 0, number]) + bytes(15) if number < 16 else bytes([32, 0, 0, 0, number]) + bytes(27)
             if name not in ("error",):
                 self.assertTrue(linkcap.lines(message).startswith(word + " "), name)
@@ -432,7 +432,7 @@ class Readers(unittest.TestCase):
         self.assertEqual(texts + reader.feed(capture[60:]) + reader.finish(), capture)
 
     def test_linear(self) -> None:
-        """A long message that comes byte by byte takes eight times as long if it is eight times as long."""
+        """The time for a message that comes byte by byte is linear in its length."""
         def seconds(length: int) -> float:
             message = length.to_bytes(4, "little") + b"\x14" + bytes(length - 5)
             reader, start = linkcap.Reader(), time.process_time()

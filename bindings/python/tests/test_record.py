@@ -1,4 +1,4 @@
-"""What a command sends, recorded by the repository's linkrec: skipped without strace, ip or leave to make a namespace."""
+"""Tests of `record` with the repository's linkrec. They are skipped without strace, ip, or permission to make a namespace."""
 import os
 import shutil
 import subprocess
@@ -13,26 +13,26 @@ ADD = ["ip", "link", "add", "v0", "type", "veth", "peer", "name", "v1"]
 
 
 def can_record() -> bool:
-    """Whether strace works in a network namespace that is made here."""
+    """Whether strace works in a new network namespace."""
     if not all(map(shutil.which, ("strace", "unshare", "ip"))):
         return False
-    words = ["unshare", "--map-root-user", "--net", "strace", "-qq", "-o", os.devnull, "true"]
-    return subprocess.run(words, stderr=subprocess.DEVNULL, check=False).returncode == 0
+    command = ["unshare", "--map-root-user", "--net", "strace", "-qq", "-o", os.devnull, "true"]
+    return subprocess.run(command, stderr=subprocess.DEVNULL, check=False).returncode == 0
 
 
-@unittest.skipUnless(can_record(), "no strace, ip, or leave to make a network namespace")
-class Recorded(unittest.TestCase):
+@unittest.skipUnless(can_record(), "no strace, ip, or permission to make a network namespace")
+class Record(unittest.TestCase):
     def setUp(self) -> None:
-        named = mock.patch.dict(os.environ, LINKREC=LINKREC)
-        named.start()
-        self.addCleanup(named.stop)
+        patch = mock.patch.dict(os.environ, LINKREC=LINKREC)
+        patch.start()
+        self.addCleanup(patch.stop)
 
     def test_a_command(self) -> None:
         types = [message.type for message in linkcap.messages(linkcap.record(ADD))]
         self.assertIn(16, types)
-        shown = linkcap.lines(linkcap.record(ADD), numbers=False)
-        self.assertIn('  IFLA_IFNAME "v0"\n', shown)
-        self.assertEqual(shown, linkcap.lines(linkcap.record(ADD), numbers=False))
+        lines = linkcap.lines(linkcap.record(ADD), numbers=False)
+        self.assertIn('  IFLA_IFNAME "v0"\n', lines)
+        self.assertEqual(lines, linkcap.lines(linkcap.record(ADD), numbers=False))
 
     def test_a_setup(self) -> None:
         capture = linkcap.record(["ip", "link", "set", "v1", "up"], setup=[" ".join(ADD)])

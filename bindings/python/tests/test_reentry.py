@@ -1,4 +1,4 @@
-"""Calls that are interrupted, and entered again, keep their results: `python3 -m unittest` in this folder, or pytest."""
+"""Tests of calls that are interrupted by other calls: `python3 -m unittest` in this folder, or pytest."""
 import gc
 import os
 import signal
@@ -30,7 +30,7 @@ def lines_in_pieces(capture: bytes) -> str:
 
 
 def with_quirk(capture: bytes) -> bytes:
-    """A capture behind an RTM_GETLINK whose second byte of the header isn't 0."""
+    """A capture after an RTM_GETLINK in whose header the second byte isn't 0."""
     return bytes.fromhex("20000000120001030000000000000000") + b"\0\1" + bytes(14) + capture
 
 
@@ -43,7 +43,7 @@ def fault_of(capture: bytes) -> str:
 
 
 def calls(capture: bytes, other: bytes) -> List[Call]:
-    """Every call that may be interrupted, over a capture; `other` doesn't mean the same."""
+    """All calls that may be interrupted, over a capture and a different one."""
     return [
         lambda: linkcap.check(capture),
         lambda: linkcap.measure(capture),
@@ -64,8 +64,8 @@ def calls(capture: bytes, other: bytes) -> List[Call]:
     ]
 
 
-def use_all() -> None:
-    """What interrupts: each call with results that differ from those of the interrupted one."""
+def call_all() -> None:
+    """Interrupts with all calls, whose results differ from those of the interrupted call."""
     for call in calls(OTHER, REQUEST):
         call()
 
@@ -81,8 +81,8 @@ class Reentry(unittest.TestCase):
         self.assertEqual(self.expected[11], "refused body at 0: IFLA_MTU: a payload of 3 bytes at 32")
 
     def test_at_each_instruction(self) -> None:
-        """A trace function calls everything before each instruction of the package."""
-        interrupted = [0]
+        """A trace function makes all calls before each instruction of the package."""
+        interruptions = [0]
 
         def trace(frame: types.FrameType, event: str, argument: Any) -> Optional[Callable[..., Any]]:
             if os.path.dirname(frame.f_code.co_filename) != FOLDER:
@@ -90,31 +90,31 @@ class Reentry(unittest.TestCase):
             frame.f_trace_opcodes = True
             # Python 3.12.1 has no events of instructions in the first frame that is traced.
             if event in ("line", "opcode"):
-                interrupted[0] += 1
-                use_all()
+                interruptions[0] += 1
+                call_all()
             return trace
 
         for call, expected in zip(self.calls, self.expected):
-            before = interrupted[0]
+            before = interruptions[0]
             sys.settrace(trace)
             try:
-                found = call()
+                result = call()
             finally:
                 sys.settrace(None)
-            self.assertEqual(found, expected)
-            self.assertGreater(interrupted[0], before)
+            self.assertEqual(result, expected)
+            self.assertGreater(interruptions[0], before)
 
     def test_finaliser(self) -> None:
-        """The collector ends objects whose finalisers call everything."""
-        ended = [0]
+        """The garbage collector runs finalisers that make all calls."""
+        finalisers = [0]
 
         class Connection:
             def __init__(self) -> None:
-                self.itself = self
+                self.cycle = self
 
             def __del__(self) -> None:
-                ended[0] += 1
-                use_all()
+                finalisers[0] += 1
+                call_all()
 
         threshold = gc.get_threshold()
         gc.set_threshold(5)
@@ -126,19 +126,19 @@ class Reentry(unittest.TestCase):
         finally:
             gc.set_threshold(*threshold)
         gc.collect()
-        self.assertGreater(ended[0], 1000)
+        self.assertGreater(finalisers[0], 1000)
 
     def test_signal_handler(self) -> None:
-        """A signal handler, which comes at various times of each call, calls everything."""
-        handled = [0]
+        """A signal handler makes all calls, at various times of each call."""
+        signals = [0]
 
         def handle(number: int, frame: Optional[types.FrameType]) -> None:
-            handled[0] += 1
-            use_all()
+            signals[0] += 1
+            call_all()
 
         previous, turn, end = signal.signal(signal.SIGALRM, handle), 0, time.monotonic() + 60
         try:
-            while handled[0] < 1000 and time.monotonic() < end:
+            while signals[0] < 1000 and time.monotonic() < end:
                 turn += 1
                 for call, expected in zip(self.calls, self.expected):
                     signal.setitimer(signal.ITIMER_REAL, 0.00001 + 0.000002 * (turn % 40))
@@ -146,21 +146,21 @@ class Reentry(unittest.TestCase):
         finally:
             signal.setitimer(signal.ITIMER_REAL, 0)
             signal.signal(signal.SIGALRM, previous)
-        self.assertGreaterEqual(handled[0], 1000)
+        self.assertGreaterEqual(signals[0], 1000)
 
     def test_reader_in_use(self) -> None:
-        """A reader that is interrupted refuses calls, and goes on as if there had been none."""
-        reader, refused = linkcap.Reader(), [0]
+        """Calls of a reader that is interrupted raise RuntimeError and don't change it."""
+        reader, errors = linkcap.Reader(), [0]
 
         def trace(frame: types.FrameType, event: str, argument: Any) -> Optional[Callable[..., Any]]:
-            if frame.f_code.co_name not in ("_feed", "_write", "_go_on"):
+            if frame.f_code.co_name not in ("_feed", "_write", "_advance"):
                 return None if os.path.dirname(frame.f_code.co_filename) != FOLDER else trace
             frame.f_trace_opcodes = True
             if event == "opcode":
                 try:
                     reader.feed(OTHER)
                 except RuntimeError:
-                    refused[0] += 1
+                    errors[0] += 1
             return trace
 
         text = b""
@@ -171,16 +171,16 @@ class Reentry(unittest.TestCase):
             finally:
                 sys.settrace(None)
         self.assertEqual(text + reader.finish(), REQUEST)
-        self.assertGreater(refused[0], 100)
+        self.assertGreater(errors[0], 100)
 
     def test_reader_that_was_interrupted(self) -> None:
-        """A reader in which a handler raised an exception gives no texts that lack some."""
-        seen = set()
+        """After a handler raised an exception in a reader, the reader has ended, and returns no text without a part of it."""
+        outcomes = set()
         for number in range(1, 600):
             reader, at = linkcap.Reader(), [number]
 
             def trace(frame: types.FrameType, event: str, argument: Any) -> Optional[Callable[..., Any]]:
-                if frame.f_code.co_name in ("_feed", "_write", "_go_on", "take"):
+                if frame.f_code.co_name in ("_feed", "_write", "_advance", "take"):
                     frame.f_trace_opcodes = True
                     at[0] -= event == "opcode"
                     if at[0] == 0:
@@ -191,9 +191,9 @@ class Reentry(unittest.TestCase):
             sys.settrace(trace)
             try:
                 text += reader.feed(REQUEST[60:])
-                seen.add("whole")
+                outcomes.add("whole")
             except KeyboardInterrupt:
-                seen.add("interrupted")
+                outcomes.add("interrupted")
                 with self.assertRaises(ValueError):
                     reader.finish()
                 continue
@@ -201,10 +201,10 @@ class Reentry(unittest.TestCase):
                 sys.settrace(None)
             self.assertEqual(text + reader.finish(), REQUEST)
             break
-        self.assertEqual(seen, {"interrupted", "whole"})
+        self.assertEqual(outcomes, {"interrupted", "whole"})
 
     def test_interrupted_by_an_exception(self) -> None:
-        """An exception that a handler raises inside a call leaves nothing borrowed."""
+        """A call in which a handler raises an exception releases its capture."""
         capture, at = bytearray(REQUEST), [0]
 
         def trace(frame: types.FrameType, event: str, argument: Any) -> Optional[Callable[..., Any]]:

@@ -198,7 +198,7 @@ succeeds "JSON of each message as it comes" bash -c '{ cat a; sleep 2; cat a; } 
 succeeds "JSON of a long capture" bash -c 'for i in {1..3000}; do cat a v; done | "$0" --without-numbers | sort | uniq -c | awk "{ print \$1 }" | sort -n | paste -sd " " > counts
     [ "$(cat counts)" = "$({ cat a v | "$0" --without-numbers | sort | uniq -c; } | awk "{ print \$1 * 3000 }" | sort -n | paste -sd " ")" ]' "$linkjson"
 succeeds "JSON to a closed pipe" bash -c '"$0" a | { exec 0<&-; sleep 1; }; [ ${PIPESTATUS[0]} -eq 141 ]' "$linkjson"
-succeeds "JSON: Ctrl-C" bash -c 'sleep 2 | timeout --preserve-status -s INT 1 env --default-signal=INT "$0" 2> report; [ ${PIPESTATUS[1]} -eq 130 ] && [ ! -s report ]' "$linkjson"
+succeeds "JSON: Ctrl-C" bash -c 'sleep 7 | timeout --preserve-status -s INT 5 env --default-signal=INT "$0" 2> report; [ ${PIPESTATUS[1]} -eq 130 ] && [ ! -s report ]' "$linkjson"
 succeeds "JSON: no program" bash -c 'LINKSHOW=/nowhere/linkshow "$0" a 2>&1 | grep -q "no program"' "$linkjson"
 succeeds "JSON: an unknown attribute" bash -c '"$0" --without IFLA_NAM a 2> usage; [ $? -eq 2 ] && grep -q "no attribute or group is called IFLA_NAM" usage' "$linkjson"
 succeeds "JSON: help" bash -c '"$0" --help | grep -q "linkjson \[OPTION\]"' "$linkjson"
@@ -419,10 +419,10 @@ else
     succeeds "a watch" unshare --map-root-user --net bash -c '"$0" watch 2 --all --time > seen 2> times & sleep 1; ip link set lo up; wait
         "$LINKSHOW" seen | grep -q "^RTM_NEWLINK" && grep -q "T.* 0 RTM_NEWLINK$" times' "$linkrec"
     # A shell that runs this in the background has its children ignore Ctrl-C, unless env says otherwise.
-    succeeds "Ctrl-C ends a command" bash -c 'timeout --preserve-status -s INT 1 env --default-signal=INT "$0" run --netns -o made -- sh -c "ip link show dev lo; sleep 9" 2> report
+    succeeds "Ctrl-C ends a command" bash -c 'timeout --preserve-status -s INT 5 env --default-signal=INT "$0" run --netns -o made -- sh -c "ip link show dev lo; sleep 60" 2> report
         [ $? -eq 130 ] && "$LINKSHOW" made | grep -q "IFLA_IFNAME \"lo\""' "$linkrec"
-    succeeds "Ctrl-C ends a comparison" bash -c 'timeout --preserve-status -s INT 1 env --default-signal=INT "$0" golden/lo.lines -- sleep 9 2> report; [ $? -eq 130 ] && ! grep Traceback report' "$linkgold"
-    succeeds "Ctrl-C ends a watch" bash -c 'timeout --preserve-status -s INT 1 env --default-signal=INT "$0" watch > seen 2> report; [ $? -eq 0 ] && [ ! -s report ]' "$linkrec"
+    succeeds "Ctrl-C ends a comparison" bash -c 'timeout --preserve-status -s INT 5 env --default-signal=INT "$0" golden/lo.lines -- sleep 60 2> report; [ $? -eq 130 ] && ! grep Traceback report' "$linkgold"
+    succeeds "Ctrl-C ends a watch" bash -c 'timeout --preserve-status -s INT 5 env --default-signal=INT "$0" watch > seen 2> report; [ $? -eq 0 ] && [ ! -s report ]' "$linkrec"
 fi
 
 echo "$passed passed, $failed failed, $skipped skipped"

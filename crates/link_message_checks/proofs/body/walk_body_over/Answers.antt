@@ -35,4 +35,4 @@ returns-clause-prefix g c =
 pub returns-clause-already_canonical : goal.returns-clause-already_canonical
 returns-clause-already_canonical g c = λ h.
     let a = and_parts c.in-Some.found.is_canonical c.is_canonical_header-is_canonical_header.result h in
-    c.bodies_are_measured.ensures.already_canonical g.P.PeerSet.peer c.args.bytes.now (c.is_canonical_header-is_canonical_header.ensures a.1) (subst (λ x. (list_rule_of g.P.PeerSet.peer (family c.args.bytes.now)).canonical x ≡ x) (take_rest c.args.bytes.now 16) (c.in-Some.ensures.already_canonical a.0))
+    c.bodies_are_measured.ensures.own g.P.PeerSet.peer c.args.bytes.now (c.is_canonical_header-is_canonical_header.ensures a.1) (subst (λ x. (list_rule_of g.P.PeerSet.peer (family c.args.bytes.now)).canonical x ≡ x) (take_rest c.args.bytes.now 16) (c.in-Some.ensures.already_canonical a.0))

@@ -19,8 +19,8 @@ accepted n h = grind (arith, nat_tests)
 
 pub prefix_peer_lawful : LawfulPeer prefix_peer
 prefix_peer_lawful = record {
-  value_read_back = λ b a. accepted (length (take 4 b)) (written b a);
-  itself = λ b a. let l = written b a in take_all 4 (take 4 b) (omega (arith, l));
+  canonical_accepted = λ b a. accepted (length (take 4 b)) (written b a);
+  canonical_idempotent = λ b a. let l = written b a in take_all 4 (take 4 b) (omega (arith, l));
   same_implies_equal_text = λ a b x y s. (bytes_eq-Decides (take 4 a) (take 4 b)).0 s;
   equal_text_implies_same = λ a b x y e. (bytes_eq-Decides (take 4 a) (take 4 b)).1 e;
   bounded = λ b a. let l = written b a in let f = four b a in omega (arith, l, f);

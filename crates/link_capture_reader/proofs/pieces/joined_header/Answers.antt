@@ -6,4 +6,4 @@ use Rattle.link_capture_reader.proofs.pieces.joined_header.Goals as goal
 pub returns : goal.returns
 returns c =
     let position = 0 ∷ 0 ∷ 0 ∷ 0 ∷ 0 ∷ 0 ∷ 0 ∷ 0 ∷ 0 ∷ 0 ∷ 0 ∷ 0 ∷ 0 ∷ 0 ∷ 0 ∷ 0 ∷ [] in
-    filled c.args.kept.now c.args.piece.now position c.copy_from_slice.new.self c.copy_from_slice-2.new.self c.min-header_size.result c.min-header_size.ensures (omega (arith, c.requires)) c.copy_from_slice.ensures.after c.copy_from_slice-2.ensures.after
+    filled c.args.kept.now c.args.piece.now position c.copy_from_slice.new.self c.copy_from_slice-2.new.self c.min-kept_size.result c.min-kept_size.ensures (omega (arith, c.requires)) c.copy_from_slice.ensures.after c.copy_from_slice-2.ensures.after

@@ -71,7 +71,7 @@ some_bytes limit (b ∷ c) l = omega arith
 -- The first frame of such bytes is accepted.
 prefix_accepted : CapturesUnfoldByFrames link_body → (limit : ℕ) (c : List ℕ) (j : Judged) → first_frame limit c ≡ j → 0 < length (texts limit c) → (frame : ℕ × List ℕ) × (first_frame limit c ≡ Ok frame)
 prefix_accepted go limit c (Ok frame) e l = (frame, e)
-prefix_accepted go limit c (Err kind) e l = absurd (omega (arith, ap length (go.prefix_has_texts limit c kind e), l))
+prefix_accepted go limit c (Err kind) e l = absurd (omega (arith, ap length (go.first_frame_texts limit c kind e), l))
 
 -- The header of the first frame is valid.
 prefix_has_header : CapturesUnfoldByFrames link_body → FramesAreIndependent link_body → (limit : ℕ) (c : List ℕ) → 0 < length (texts limit c) → HeaderIsAllowed limit c

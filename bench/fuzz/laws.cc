@@ -1,6 +1,6 @@
 // A libFuzzer target over linkcap.h: the laws of one capture, of its pieces and of two captures are the oracle.
 //
-// liblinkcap isn't instrumented. Names in lines, refused attributes and kinds of faults stand for its coverage.
+// liblinkcap isn't instrumented. Names in lines, refused attributes and kinds of faults serve as its coverage.
 #include "library.h"
 
 #include <algorithm>
@@ -9,7 +9,7 @@
 #include <random>
 
 static const Bytes *input;
-// Nobody here reads them: without `used` the compiler drops them.
+// This program doesn't read them: without `used` the compiler drops them.
 __attribute__((used, section("__libfuzzer_extra_counters"))) static uint8_t counters[1 << 16];
 
 static struct {
@@ -51,7 +51,7 @@ static void touch(const uint8_t *from, const uint8_t *to)
     counters[(value ^ value >> 16) & 0xffff] = 1;
 }
 
-// A line's indentation and name, and the name of its value.
+// Touches a line's indentation and name, and the name of its value.
 static void touch_line(const uint8_t *from, const uint8_t *to)
 {
     const uint8_t *name = std::find_if(from, to, [](uint8_t byte) { return byte != ' '; });
@@ -60,9 +60,9 @@ static void touch_line(const uint8_t *from, const uint8_t *to)
     touch(value_name, to);
 }
 
-static void touch_lines(const Bytes &shown)
+static void touch_lines(const Bytes &listing)
 {
-    const uint8_t *at = shown.data(), *end = at + shown.size();
+    const uint8_t *at = listing.data(), *end = at + listing.size();
     while (at < end) {
         const uint8_t *newline = std::find(at, end, '\n');
         touch_line(at, newline);
@@ -84,32 +84,32 @@ static bool is_same_fault(const linkcap_fault &one, const linkcap_fault &other)
     return one.kind == other.kind && one.offset == other.offset && one.side == other.side;
 }
 
-static Bytes front(const Bytes &capture, size_t length)
+static Bytes take_prefix(const Bytes &capture, size_t length)
 {
     return Bytes(capture.begin(), capture.begin() + length);
 }
 
-static void check_legal(const Bytes &capture, uint32_t limit, const Bytes &text, const Bytes &shown)
+static void check_legal(const Bytes &capture, uint32_t limit, const Bytes &text, const Bytes &listing)
 {
     linkcap_sizes sizes, text_sizes;
     LAW(measure(capture, limit, sizes).status == LINKCAP_OK && sizes.text_high == 0 && sizes.text_low == text.size());
     LAW(measure(text, limit, text_sizes).status == LINKCAP_OK && text_sizes.frames == sizes.frames);
-    Result again = normalize(text, limit);
-    LAW(again.status == LINKCAP_OK && again.written == text);
+    Result renormalized = normalize(text, limit);
+    LAW(renormalized.status == LINKCAP_OK && renormalized.written == text);
     LAW(same(capture, text, limit).status == LINKCAP_OK && same(text, capture, limit).status == LINKCAP_OK);
     LAW(same(capture, capture, limit).status == LINKCAP_OK);
     Result text_lines = lines(text, limit, {});
-    LAW(text_lines.status == LINKCAP_OK && text_lines.written == shown);
-    Result fewer = lines(capture, limit, {true, {}});
-    LAW(fewer.status == LINKCAP_OK && fewer.written.size() <= shown.size());
-    Result some = lines(capture, limit, {false, {16, 3}});
-    LAW(some.status == LINKCAP_OK && some.written.size() <= shown.size());
+    LAW(text_lines.status == LINKCAP_OK && text_lines.written == listing);
+    Result unnumbered = lines(capture, limit, {true, {}});
+    LAW(unnumbered.status == LINKCAP_OK && unnumbered.written.size() <= listing.size());
+    Result selection = lines(capture, limit, {false, {16, 3}});
+    LAW(selection.status == LINKCAP_OK && selection.written.size() <= listing.size());
     LAW(why(capture, limit).status == LINKCAP_NONE);
-    LAW(quirks(text, limit).found.empty());
+    LAW(quirks(text, limit).list.empty());
     LAW(same_ignoring_numbers(capture, text, limit).status == LINKCAP_OK);
 }
 
-// The messages of a capture are those that are counted, and the fault after them is the first.
+// Iteration yields as many messages as `measure` counts, and ends at the capture's first fault.
 static void check_messages(const Bytes &capture, uint32_t limit, const Result &text)
 {
     uint64_t offset = 0;
@@ -119,10 +119,10 @@ static void check_messages(const Bytes &capture, uint32_t limit, const Result &t
         LAW(next.message.next > offset && next.message.next <= capture.size() && next.message.length >= 16);
         LAW(next.message.length <= capture.size() - offset);
         LAW(next.message.type == uint32_t(capture[offset + 4] | capture[offset + 5] << 8));
-        Result one = normalize(Bytes(capture.begin() + offset, capture.begin() + next.message.next), limit);
-        LAW(one.status == LINKCAP_OK && from + one.written.size() <= text.written.size());
-        LAW(std::equal(one.written.begin(), one.written.end(), text.written.begin() + from));
-        from += one.written.size();
+        Result part = normalize(Bytes(capture.begin() + offset, capture.begin() + next.message.next), limit);
+        LAW(part.status == LINKCAP_OK && from + part.written.size() <= text.written.size());
+        LAW(std::equal(part.written.begin(), part.written.end(), text.written.begin() + from));
+        from += part.written.size();
         offset = next.message.next;
     }
     LAW(from == text.written.size());
@@ -133,16 +133,16 @@ static void check_messages(const Bytes &capture, uint32_t limit, const Result &t
 
 static void check_quirks(const Bytes &capture, uint32_t limit, const Result &text)
 {
-    Quirks found = quirks(capture, limit);
-    LAW(found.status == text.status && (text.status == LINKCAP_OK || is_same_fault(found.fault, text.fault)));
+    Quirks result = quirks(capture, limit);
+    LAW(result.status == text.status && (text.status == LINKCAP_OK || is_same_fault(result.fault, text.fault)));
     uint64_t end = text.status == LINKCAP_OK ? capture.size() : text.fault.offset;
-    for (const linkcap_quirk &quirk : found.found) {
+    for (const linkcap_quirk &quirk : result.list) {
         LAW(quirk.kind >= LINKCAP_NESTED_PORT_SETTINGS && quirk.kind <= LINKCAP_SHORT_MAP && quirk.offset < end);
         Bytes words = quirk_text(quirk);
         LAW(is_text(words, false));
         touch(words.data(), words.data() + words.size());
     }
-    counts.quirks += found.found.size();
+    counts.quirks += result.list.size();
 }
 
 static void check_reason(const Bytes &capture, uint32_t limit, const linkcap_fault &fault)
@@ -150,19 +150,19 @@ static void check_reason(const Bytes &capture, uint32_t limit, const linkcap_fau
     Reason reason = why(capture, limit);
     LAW(reason.status == (fault.kind == LINKCAP_REFUSED ? LINKCAP_OK : LINKCAP_NONE));
     LAW(is_text(reason.words, false));
-    LAW(reason.words.empty() || reason.place == UINT64_MAX || (reason.place > fault.offset && reason.place <= capture.size()));
+    LAW(reason.words.empty() || reason.offset == UINT64_MAX || (reason.offset > fault.offset && reason.offset <= capture.size()));
     touch(reason.words.data(), reason.words.data() + reason.words.size());
 }
 
-static void check_fault(const Bytes &capture, uint32_t limit, const Result &text, const Bytes &shown)
+static void check_fault(const Bytes &capture, uint32_t limit, const Result &text, const Bytes &listing)
 {
     const linkcap_fault &fault = text.fault;
     LAW(fault.kind >= LINKCAP_CUT && fault.kind <= LINKCAP_TEXT_OVER_LIMIT && fault.side == 0);
     LAW(fault.offset < capture.size() && fault.offset % 4 == 0);
-    Bytes before = front(capture, fault.offset);
-    Result before_text = normalize(before, limit), before_lines = lines(before, limit, {});
-    LAW(before_text.status == LINKCAP_OK && before_text.written == text.written);
-    LAW(before_lines.status == LINKCAP_OK && before_lines.written == shown);
+    Bytes prefix = take_prefix(capture, fault.offset);
+    Result prefix_text = normalize(prefix, limit), prefix_lines = lines(prefix, limit, {});
+    LAW(prefix_text.status == LINKCAP_OK && prefix_text.written == text.written);
+    LAW(prefix_lines.status == LINKCAP_OK && prefix_lines.written == listing);
     Result first = same(capture, capture, limit), second = same({}, capture, limit);
     LAW(first.status == LINKCAP_FAULT && is_same_fault(first.fault, {fault.kind, 1, fault.offset}));
     LAW(second.status == LINKCAP_FAULT && is_same_fault(second.fault, {fault.kind, 2, fault.offset}));
@@ -171,12 +171,12 @@ static void check_fault(const Bytes &capture, uint32_t limit, const Result &text
     counts.faults[fault.kind]++;
 }
 
-static void check_room(const Bytes &capture, uint32_t limit, size_t length, std::minstd_rand &random)
+static void check_small_buffer(const Bytes &capture, uint32_t limit, size_t length, std::minstd_rand &random)
 {
     if (length == 0)
         return;
-    size_t room = random() % 2 ? length - 1 : random() % length;
-    LAW(wanted_room(capture, limit, room) == length);
+    size_t capacity = random() % 2 ? length - 1 : random() % length;
+    LAW(get_required_capacity(capture, limit, capacity) == length);
 }
 
 // ---- pieces
@@ -184,41 +184,41 @@ static void check_room(const Bytes &capture, uint32_t limit, size_t length, std:
 struct Stream {
     const Bytes &capture;
     uint32_t limit;
-    const LineChoice *choice; // of lines; none for texts
-    size_t used, there; // bytes of the capture
+    const LineChoice *choice; // null for normal text
+    size_t used, available; // bytes of the capture
     bool is_last;
     Bytes written;
 };
 
-// Calls with what is there until it wants no more room.
-static Piece go_on(Stream &stream, size_t room)
+// Calls with the available bytes, and with a larger buffer as long as it is too small.
+static Piece process_available(Stream &stream, size_t capacity)
 {
     for (;;) {
-        Bytes rest(stream.capture.begin() + stream.used, stream.capture.begin() + stream.there);
-        Piece piece = stream.choice ? show_some(rest, stream.is_last, stream.limit, *stream.choice, room)
-                                    : normalize_some(rest, stream.is_last, stream.limit, room);
+        Bytes rest(stream.capture.begin() + stream.used, stream.capture.begin() + stream.available);
+        Piece piece = stream.choice ? show_some(rest, stream.is_last, stream.limit, *stream.choice, capacity)
+                                    : normalize_some(rest, stream.is_last, stream.limit, capacity);
         counts.pieces++;
-        LAW(piece.status != LINKCAP_NO_ROOM || piece.progress.used > 0 || room < piece.progress.wanted);
+        LAW(piece.status != LINKCAP_NO_ROOM || piece.progress.used > 0 || capacity < piece.progress.wanted);
         stream.written.insert(stream.written.end(), piece.written.begin(), piece.written.end());
         stream.used += piece.progress.used;
         if (piece.status != LINKCAP_NO_ROOM)
             return piece;
-        room = piece.progress.wanted;
+        capacity = piece.progress.wanted;
     }
 }
 
-// In pieces of any sizes, with any room, a capture has the text, or lines, and the fault that it has as a whole.
+// Pieces and buffers of any sizes yield the text, or the lines, and the fault of the whole capture.
 static void check_pieces(const Bytes &capture, uint32_t limit, const LineChoice *choice, const Result &text,
                          std::minstd_rand &random)
 {
     Stream stream = {capture, limit, choice, 0, 0, false, {}};
     Piece piece = {};
     while (!stream.is_last && piece.status == LINKCAP_OK) {
-        size_t more = random() % 3 == 0 ? random() % 5 : random() % (capture.size() + 2);
-        stream.there = std::min(capture.size(), stream.there + more);
-        stream.is_last = stream.there == capture.size() && random() % 2;
-        size_t left = stream.there - stream.used;
-        piece = go_on(stream, random() % 4 ? left + 64 : random() % (left + 1));
+        size_t length = random() % 3 == 0 ? random() % 5 : random() % (capture.size() + 2);
+        stream.available = std::min(capture.size(), stream.available + length);
+        stream.is_last = stream.available == capture.size() && random() % 2;
+        size_t unused = stream.available - stream.used;
+        piece = process_available(stream, random() % 4 ? unused + 64 : random() % (unused + 1));
     }
     LAW(piece.status == text.status && stream.written == text.written);
     LAW(stream.used == (text.status == LINKCAP_OK ? capture.size() : text.fault.offset));
@@ -227,20 +227,20 @@ static void check_pieces(const Bytes &capture, uint32_t limit, const LineChoice 
 
 static void check_one(const Bytes &capture, uint32_t limit, std::minstd_rand &random)
 {
-    Result text = normalize(capture, limit), shown = lines(capture, limit, {}), checked = check(capture, limit);
+    Result text = normalize(capture, limit), listing = lines(capture, limit, {}), verdict = check(capture, limit);
     linkcap_sizes sizes;
-    Result measured = measure(capture, limit, sizes);
-    LAW(checked.status == text.status && measured.status == text.status && shown.status == text.status);
-    LAW(is_text(shown.written, true) && text.written.size() <= 77 * capture.size());
-    touch_lines(shown.written);
-    check_room(capture, limit, text.written.size(), random);
+    Result measurement = measure(capture, limit, sizes);
+    LAW(verdict.status == text.status && measurement.status == text.status && listing.status == text.status);
+    LAW(is_text(listing.written, true) && text.written.size() <= 77 * capture.size());
+    touch_lines(listing.written);
+    check_small_buffer(capture, limit, text.written.size(), random);
     if (text.status == LINKCAP_OK) {
         counts.legal++;
-        check_legal(capture, limit, text.written, shown.written);
+        check_legal(capture, limit, text.written, listing.written);
     } else {
-        LAW(is_same_fault(checked.fault, text.fault) && is_same_fault(measured.fault, text.fault));
-        LAW(is_same_fault(shown.fault, text.fault));
-        check_fault(capture, limit, text, shown.written);
+        LAW(is_same_fault(verdict.fault, text.fault) && is_same_fault(measurement.fault, text.fault));
+        LAW(is_same_fault(listing.fault, text.fault));
+        check_fault(capture, limit, text, listing.written);
     }
     check_messages(capture, limit, text);
     check_quirks(capture, limit, text);
@@ -253,27 +253,29 @@ static void check_one(const Bytes &capture, uint32_t limit, std::minstd_rand &ra
 
 static void check_pair(const Bytes &first, const Bytes &second, uint32_t limit)
 {
-    Result one = normalize(first, limit), other = normalize(second, limit), found = same(first, second, limit);
-    Result ignoring = same_ignoring_numbers(first, second, limit);
+    Result one = normalize(first, limit), other = normalize(second, limit), comparison = same(first, second, limit);
+    Result unnumbered = same_ignoring_numbers(first, second, limit);
     if (one.status == LINKCAP_FAULT || other.status == LINKCAP_FAULT) {
         bool is_first = one.status == LINKCAP_FAULT;
         const linkcap_fault &fault = is_first ? one.fault : other.fault;
-        LAW(found.status == LINKCAP_FAULT && is_same_fault(found.fault, {fault.kind, is_first ? 1u : 2u, fault.offset}));
-        LAW(ignoring.status == LINKCAP_FAULT && is_same_fault(ignoring.fault, found.fault));
+        LAW(comparison.status == LINKCAP_FAULT
+            && is_same_fault(comparison.fault, {fault.kind, is_first ? 1u : 2u, fault.offset}));
+        LAW(unnumbered.status == LINKCAP_FAULT && is_same_fault(unnumbered.fault, comparison.fault));
         return;
     }
     bool is_same = one.written == other.written;
-    LAW(found.status == (is_same ? LINKCAP_OK : LINKCAP_DIFFERENT) && same(second, first, limit).status == found.status);
+    LAW(comparison.status == (is_same ? LINKCAP_OK : LINKCAP_DIFFERENT)
+        && same(second, first, limit).status == comparison.status);
     LAW((lines(first, limit, {}).written == lines(second, limit, {}).written) == is_same);
-    LAW(ignoring.status == LINKCAP_OK || !is_same);
-    bool are_shown_alike = lines(first, limit, {true, {}}).written == lines(second, limit, {true, {}}).written;
-    LAW(are_shown_alike == (ignoring.status == LINKCAP_OK));
-    LAW(same_ignoring_numbers(second, first, limit).status == ignoring.status);
+    LAW(unnumbered.status == LINKCAP_OK || !is_same);
+    bool are_lines_equal = lines(first, limit, {true, {}}).written == lines(second, limit, {true, {}}).written;
+    LAW(are_lines_equal == (unnumbered.status == LINKCAP_OK));
+    LAW(same_ignoring_numbers(second, first, limit).status == unnumbered.status);
     (is_same ? counts.pairs_same : counts.pairs_different)++;
 }
 
-// A capture with one or two bytes changed.
-static Bytes neighbour(Bytes capture, std::minstd_rand &random)
+// Returns the capture with one or two bytes changed.
+static Bytes change_bytes(Bytes capture, std::minstd_rand &random)
 {
     if (capture.empty())
         return capture;
@@ -304,7 +306,7 @@ extern "C" int LLVMFuzzerTestOneInput(const uint8_t *bytes, size_t length)
     std::minstd_rand random(hash(bytes, bytes + length) | 1);
     uint32_t limit = random() % 8 ? LINKCAP_DEFAULT_LIMIT : limits[random() % 9];
     check_one(capture, limit, random);
-    check_pair(capture, neighbour(capture, random), limit);
+    check_pair(capture, change_bytes(capture, random), limit);
     input = nullptr;
     return 0;
 }

@@ -8,15 +8,15 @@
 
 static const uint8_t UNTOUCHED = 0x5a;
 
-static const size_t MOST_INPUT = 1 << 21;
+static const size_t MAX_INPUT = 1 << 21;
 // 77 times the longest input, and lines.
-static const size_t MOST_OUTPUT = 1 << 27;
-static const Guarded first_input(MOST_INPUT), second_input(MOST_INPUT), output(MOST_OUTPUT);
+static const size_t MAX_OUTPUT = 1 << 27;
+static const GuardedMemory first_input(MAX_INPUT), second_input(MAX_INPUT), output(MAX_OUTPUT);
 
-Guarded::Guarded(size_t wanted)
+GuardedMemory::GuardedMemory(size_t size)
 {
     size_t page = (size_t)sysconf(_SC_PAGESIZE);
-    capacity = (wanted + page - 1) / page * page;
+    capacity = (size + page - 1) / page * page;
     void *mapped = mmap(nullptr, capacity + 2 * page, PROT_NONE, MAP_PRIVATE | MAP_ANONYMOUS | MAP_NORESERVE, -1, 0);
     if (mapped == MAP_FAILED)
         abort();
@@ -25,16 +25,16 @@ Guarded::Guarded(size_t wanted)
         abort();
 }
 
-uint8_t *Guarded::last(size_t length) const
+uint8_t *GuardedMemory::get_tail(size_t length) const
 {
     if (length > capacity)
         abort();
     return start + capacity - length;
 }
 
-const uint8_t *Guarded::holding(const Bytes &bytes) const
+const uint8_t *GuardedMemory::store(const Bytes &bytes) const
 {
-    uint8_t *at = last(bytes.size());
+    uint8_t *at = get_tail(bytes.size());
     if (!bytes.empty())
         memcpy(at, bytes.data(), bytes.size());
     return at;
@@ -43,21 +43,21 @@ const uint8_t *Guarded::holding(const Bytes &bytes) const
 Result check(const Bytes &capture, uint32_t limit)
 {
     Result result = {};
-    result.status = linkcap_check(first_input.holding(capture), capture.size(), limit, &result.fault);
+    result.status = linkcap_check(first_input.store(capture), capture.size(), limit, &result.fault);
     return result;
 }
 
 Result measure(const Bytes &capture, uint32_t limit, linkcap_sizes &sizes)
 {
     Result result = {};
-    result.status = linkcap_measure(first_input.holding(capture), capture.size(), limit, &sizes, &result.fault);
+    result.status = linkcap_measure(first_input.store(capture), capture.size(), limit, &sizes, &result.fault);
     return result;
 }
 
 Result same(const Bytes &first, const Bytes &second, uint32_t limit)
 {
     Result result = {};
-    result.status = linkcap_same(first_input.holding(first), first.size(), second_input.holding(second), second.size(), limit,
+    result.status = linkcap_same(first_input.store(first), first.size(), second_input.store(second), second.size(), limit,
                                  &result.fault);
     return result;
 }
@@ -65,109 +65,110 @@ Result same(const Bytes &first, const Bytes &second, uint32_t limit)
 Result same_ignoring_numbers(const Bytes &first, const Bytes &second, uint32_t limit)
 {
     Result result = {};
-    result.status = linkcap_same_ignoring_numbers(first_input.holding(first), first.size(), second_input.holding(second),
+    result.status = linkcap_same_ignoring_numbers(first_input.store(first), first.size(), second_input.store(second),
                                                   second.size(), limit, &result.fault);
     return result;
 }
 
-// Calls with `room` bytes of room, and with as many as are wanted if these are too few.
-template <typename Call> static Result write(size_t room, Call call)
+// Calls with a buffer of `capacity` bytes, and if it is too small, with one of the size that the call requires.
+template <typename Call> static Result write(size_t capacity, Call call)
 {
     Result result = {};
     uint64_t written = 0;
-    result.status = call(output.last(room), room, &written, &result.fault);
+    result.status = call(output.get_tail(capacity), capacity, &written, &result.fault);
     if (result.status == LINKCAP_NO_ROOM) {
-        LAW(written > room);
-        room = written;
-        result.status = call(output.last(room), room, &written, &result.fault);
-        LAW(result.status != LINKCAP_NO_ROOM && written == room);
+        LAW(written > capacity);
+        capacity = written;
+        result.status = call(output.get_tail(capacity), capacity, &written, &result.fault);
+        LAW(result.status != LINKCAP_NO_ROOM && written == capacity);
     }
     LAW(result.status == LINKCAP_OK || result.status == LINKCAP_FAULT);
-    LAW(written <= room);
-    result.written.assign(output.last(room), output.last(room) + written);
+    LAW(written <= capacity);
+    result.written.assign(output.get_tail(capacity), output.get_tail(capacity) + written);
     return result;
 }
 
 Result normalize(const Bytes &capture, uint32_t limit)
 {
-    const uint8_t *at = first_input.holding(capture);
-    return write(capture.size() + 16, [&](uint8_t *out, size_t room, uint64_t *written, linkcap_fault *fault) {
-        return linkcap_normalize(at, capture.size(), limit, out, room, written, fault);
+    const uint8_t *at = first_input.store(capture);
+    return write(capture.size() + 16, [&](uint8_t *out, size_t capacity, uint64_t *written, linkcap_fault *fault) {
+        return linkcap_normalize(at, capture.size(), limit, out, capacity, written, fault);
     });
 }
 
-uint64_t wanted_room(const Bytes &capture, uint32_t limit, size_t room)
+uint64_t get_required_capacity(const Bytes &capture, uint32_t limit, size_t capacity)
 {
-    uint8_t *out = output.last(room);
-    if (room)
-        memset(out, UNTOUCHED, room);
+    uint8_t *out = output.get_tail(capacity);
+    if (capacity)
+        memset(out, UNTOUCHED, capacity);
     uint64_t written = 0;
     linkcap_fault fault;
-    LAW(linkcap_normalize(first_input.holding(capture), capture.size(), limit, out, room, &written, &fault) == LINKCAP_NO_ROOM);
-    for (size_t i = 0; i < room; i++)
+    LAW(linkcap_normalize(first_input.store(capture), capture.size(), limit, out, capacity, &written, &fault) == LINKCAP_NO_ROOM);
+    for (size_t i = 0; i < capacity; i++)
         LAW(out[i] == UNTOUCHED);
     return written;
 }
 
 Result lines(const Bytes &capture, uint32_t limit, const LineChoice &choice)
 {
-    const uint8_t *at = first_input.holding(capture);
-    return write(8 * capture.size() + 64, [&](uint8_t *out, size_t room, uint64_t *written, linkcap_fault *fault) {
+    const uint8_t *at = first_input.store(capture);
+    return write(8 * capture.size() + 64, [&](uint8_t *out, size_t capacity, uint64_t *written, linkcap_fault *fault) {
         return linkcap_show_with(at, capture.size(), limit, choice.without_numbers, choice.types.data(), choice.types.size(), out,
-                                 room, written, fault);
+                                 capacity, written, fault);
     });
 }
 
 Reason why(const Bytes &capture, uint32_t limit)
 {
     Reason reason = {};
-    const uint8_t *at = first_input.holding(capture);
+    const uint8_t *at = first_input.store(capture);
     uint64_t written = 0;
-    reason.status = linkcap_why(at, capture.size(), limit, nullptr, 0, &written, &reason.place);
+    reason.status = linkcap_why(at, capture.size(), limit, nullptr, 0, &written, &reason.offset);
     if (reason.status != LINKCAP_NO_ROOM) {
-        LAW(written == 0 && reason.place == UINT64_MAX);
+        LAW(written == 0 && reason.offset == UINT64_MAX);
         return reason;
     }
-    size_t room = written;
-    uint8_t *out = output.last(room);
-    LAW(room == 1 || linkcap_why(at, capture.size(), limit, out, room - 1, &written, &reason.place) == LINKCAP_NO_ROOM);
-    reason.status = linkcap_why(at, capture.size(), limit, out, room, &written, &reason.place);
-    LAW(reason.status == LINKCAP_OK && written == room);
+    size_t capacity = written;
+    uint8_t *out = output.get_tail(capacity);
+    LAW(capacity == 1 || linkcap_why(at, capture.size(), limit, out, capacity - 1, &written, &reason.offset) == LINKCAP_NO_ROOM);
+    reason.status = linkcap_why(at, capture.size(), limit, out, capacity, &written, &reason.offset);
+    LAW(reason.status == LINKCAP_OK && written == capacity);
     reason.words.assign(out, out + written);
     return reason;
 }
 
-// What a call over a piece has written to `out`.
-static Piece written_of(Piece result, const Bytes &piece, const uint8_t *out, size_t room)
+// Completes the result of a call for a piece with the bytes that it wrote to `out`.
+static Piece collect_output(Piece result, const Bytes &piece, const uint8_t *out, size_t capacity)
 {
-    LAW(result.progress.used <= piece.size() && result.progress.written <= room);
-    LAW(result.status == LINKCAP_NO_ROOM ? result.progress.wanted > room - result.progress.written : result.progress.wanted == 0);
+    LAW(result.progress.used <= piece.size() && result.progress.written <= capacity);
+    LAW(result.status == LINKCAP_NO_ROOM ? result.progress.wanted > capacity - result.progress.written
+                                         : result.progress.wanted == 0);
     result.written.assign(out, out + result.progress.written);
     return result;
 }
 
-Piece normalize_some(const Bytes &piece, bool is_last, uint32_t limit, size_t room)
+Piece normalize_some(const Bytes &piece, bool is_last, uint32_t limit, size_t capacity)
 {
     Piece result = {};
-    uint8_t *out = output.last(room);
-    result.status = linkcap_normalize_some(first_input.holding(piece), piece.size(), is_last, limit, out, room, &result.progress,
+    uint8_t *out = output.get_tail(capacity);
+    result.status = linkcap_normalize_some(first_input.store(piece), piece.size(), is_last, limit, out, capacity, &result.progress,
                                            &result.fault);
-    return written_of(result, piece, out, room);
+    return collect_output(result, piece, out, capacity);
 }
 
-Piece show_some(const Bytes &piece, bool is_last, uint32_t limit, const LineChoice &choice, size_t room)
+Piece show_some(const Bytes &piece, bool is_last, uint32_t limit, const LineChoice &choice, size_t capacity)
 {
     Piece result = {};
-    uint8_t *out = output.last(room);
-    result.status = linkcap_show_some(first_input.holding(piece), piece.size(), is_last, limit, choice.without_numbers,
-                                      choice.types.data(), choice.types.size(), out, room, &result.progress, &result.fault);
-    return written_of(result, piece, out, room);
+    uint8_t *out = output.get_tail(capacity);
+    result.status = linkcap_show_some(first_input.store(piece), piece.size(), is_last, limit, choice.without_numbers,
+                                      choice.types.data(), choice.types.size(), out, capacity, &result.progress, &result.fault);
+    return collect_output(result, piece, out, capacity);
 }
 
 Message next_message(const Bytes &capture, uint32_t limit, uint64_t offset)
 {
     Message result = {};
-    result.status = linkcap_next_message(first_input.holding(capture), capture.size(), limit, offset, &result.message,
+    result.status = linkcap_next_message(first_input.store(capture), capture.size(), limit, offset, &result.message,
                                          &result.fault);
     return result;
 }
@@ -175,7 +176,7 @@ Message next_message(const Bytes &capture, uint32_t limit, uint64_t offset)
 Quirks quirks(const Bytes &capture, uint32_t limit)
 {
     Quirks result = {};
-    const uint8_t *at = first_input.holding(capture);
+    const uint8_t *at = first_input.store(capture);
     uint64_t count = 0;
     result.status = linkcap_quirks(at, capture.size(), limit, nullptr, 0, &count, &result.fault);
     if (result.status != LINKCAP_NO_ROOM) {
@@ -183,21 +184,21 @@ Quirks quirks(const Bytes &capture, uint32_t limit)
         return result;
     }
     size_t size = count * sizeof(linkcap_quirk);
-    linkcap_quirk *found = (linkcap_quirk *)output.last(size);
-    memset(found, UNTOUCHED, size);
-    uint64_t wanted = 0;
-    LAW(linkcap_quirks(at, capture.size(), limit, found, count - 1, &wanted, &result.fault) == LINKCAP_NO_ROOM);
+    linkcap_quirk *array = (linkcap_quirk *)output.get_tail(size);
+    memset(array, UNTOUCHED, size);
+    uint64_t required = 0;
+    LAW(linkcap_quirks(at, capture.size(), limit, array, count - 1, &required, &result.fault) == LINKCAP_NO_ROOM);
     for (size_t i = 0; i < size; i++)
-        LAW(((uint8_t *)found)[i] == UNTOUCHED);
-    result.status = linkcap_quirks(at, capture.size(), limit, found, count, &wanted, &result.fault);
-    LAW(wanted == count && (result.status == LINKCAP_OK || result.status == LINKCAP_FAULT));
-    result.found.assign(found, found + count);
+        LAW(((uint8_t *)array)[i] == UNTOUCHED);
+    result.status = linkcap_quirks(at, capture.size(), limit, array, count, &required, &result.fault);
+    LAW(required == count && (result.status == LINKCAP_OK || result.status == LINKCAP_FAULT));
+    result.list.assign(array, array + count);
     return result;
 }
 
 Bytes quirk_text(const linkcap_quirk &quirk)
 {
-    uint8_t *out = output.last(LINKCAP_FAULT_TEXT);
+    uint8_t *out = output.get_tail(LINKCAP_FAULT_TEXT);
     uint64_t written = 0;
     LAW(linkcap_quirk_text(&quirk, out, LINKCAP_FAULT_TEXT, &written) == LINKCAP_OK && written <= LINKCAP_FAULT_TEXT);
     return Bytes(out, out + written);
@@ -205,7 +206,7 @@ Bytes quirk_text(const linkcap_quirk &quirk)
 
 Bytes fault_text(const linkcap_fault &fault)
 {
-    uint8_t *out = output.last(LINKCAP_FAULT_TEXT);
+    uint8_t *out = output.get_tail(LINKCAP_FAULT_TEXT);
     uint64_t written = 0;
     LAW(linkcap_fault_text(&fault, out, LINKCAP_FAULT_TEXT, &written) == LINKCAP_OK && written <= LINKCAP_FAULT_TEXT);
     return Bytes(out, out + written);

@@ -1,17 +1,17 @@
-// A libFuzzer mutator that keeps most lengths right: it cuts a capture into messages and their attributes, changes one of
-// these at some depth, and writes the lengths anew.
+// A libFuzzer mutator that yields consistent lengths most of the time: it splits a capture into messages and their
+// attributes, changes one of these at some depth, and recomputes the lengths.
 #include "library.h"
 
 #include <algorithm>
 #include <cstring>
 #include <random>
 
-extern "C" size_t LLVMFuzzerMutate(uint8_t *bytes, size_t length, size_t most);
+extern "C" size_t LLVMFuzzerMutate(uint8_t *bytes, size_t length, size_t capacity);
 
 using Random = std::minstd_rand;
 
 static const size_t MESSAGE_HEADER = 16, LINK_HEADER = 16, ATTRIBUTE_HEADER = 4;
-static const int MOST_DEPTH = 6;
+static const int MAX_DEPTH = 6;
 
 struct Attribute {
     uint16_t kind;
@@ -47,7 +47,7 @@ static bool one_in(Random &random, uint32_t number)
     return random() % number == 0;
 }
 
-// libFuzzer's own mutations, by which the bytes grow by 8 at most.
+// Applies libFuzzer's mutations to the bytes from `start`, which grow by at most 8.
 static void mutate_bytes(Bytes &bytes, size_t start)
 {
     size_t length = bytes.size() - start;
@@ -57,7 +57,7 @@ static void mutate_bytes(Bytes &bytes, size_t start)
 
 // ---- attributes
 
-// Whether the bytes from `start` are a list of attributes.
+// Splits the bytes from `start` into attributes, and returns whether they are a list of attributes.
 static bool split(const Bytes &bytes, size_t start, Attributes &attributes)
 {
     size_t at = start;
@@ -82,7 +82,7 @@ static void append(Bytes &bytes, const Attribute &attribute, Random &random)
         bytes.push_back(one_in(random, 8) ? uint8_t(random()) : 0);
 }
 
-// The first `start` bytes, and attributes after them.
+// Returns the first `start` bytes, followed by the attributes.
 static Bytes join(const Bytes &bytes, size_t start, const Attributes &attributes, Random &random)
 {
     Bytes joined(bytes.begin(), bytes.begin() + start);
@@ -91,7 +91,7 @@ static Bytes join(const Bytes &bytes, size_t start, const Attributes &attributes
     return joined;
 }
 
-static uint16_t any_kind(Random &random)
+static uint16_t make_kind(Random &random)
 {
     uint16_t kind = uint16_t(random() % (one_in(random, 4) ? 80 : 40));
     return uint16_t(kind | (one_in(random, 6) ? 0x8000 : 0) | (one_in(random, 20) ? 0x4000 : 0));
@@ -103,7 +103,7 @@ static const char *const KIND_NAMES[] = {
     "netkit", "nlmon", "rmnet", "sit", "team", "tun", "vcan", "veth", "virt_wifi", "vlan", "vrf", "vti", "vti6", "vxcan", "vxlan",
     "wireguard", "wwan", "xfrm"};
 
-static Bytes any_payload(Random &random)
+static Bytes make_payload(Random &random)
 {
     static const size_t sizes[] = {0, 1, 2, 4, 8, 12, 16};
     if (one_in(random, 8)) {
@@ -119,7 +119,7 @@ static Bytes any_payload(Random &random)
 static void change_kind(Attribute &attribute, Random &random)
 {
     const uint16_t next = uint16_t((attribute.kind & 0xc000) | ((attribute.kind + 1) & 0x3fff));
-    const uint16_t kinds[] = {any_kind(random), uint16_t(attribute.kind ^ 0x8000), uint16_t(attribute.kind ^ 0x4000), next};
+    const uint16_t kinds[] = {make_kind(random), uint16_t(attribute.kind ^ 0x8000), uint16_t(attribute.kind ^ 0x4000), next};
     attribute.kind = kinds[random() % 4];
 }
 
@@ -127,7 +127,7 @@ static void change_payload(Bytes &payload, Random &random)
 {
     switch (random() % 6) {
     case 0:
-        payload = any_payload(random);
+        payload = make_payload(random);
         break;
     case 1:
         payload.resize(payload.empty() ? 1 : payload.size() - 1);
@@ -139,7 +139,7 @@ static void change_payload(Bytes &payload, Random &random)
         payload.resize(one_in(random, 200) ? random() % 66000 : random() % 200);
         break;
     case 4:
-        payload = join({}, 0, {{any_kind(random), any_payload(random)}, {any_kind(random), any_payload(random)}}, random);
+        payload = join({}, 0, {{make_kind(random), make_payload(random)}, {make_kind(random), make_payload(random)}}, random);
         break;
     default:
         mutate_bytes(payload, 0);
@@ -148,12 +148,12 @@ static void change_payload(Bytes &payload, Random &random)
 
 static void mutate(Attributes &attributes, int depth, Random &random);
 
-// Changes a list inside a payload, which may begin by a header of a link, if there is one.
+// Changes the list of attributes in a payload, which may start with a header of a link, and returns whether there is one.
 static bool mutate_nested(Bytes &payload, int depth, Random &random)
 {
     for (size_t start : {size_t(0), LINK_HEADER}) {
         Attributes nested;
-        if (depth == MOST_DEPTH || payload.size() < start + ATTRIBUTE_HEADER || !split(payload, start, nested) || nested.empty())
+        if (depth == MAX_DEPTH || payload.size() < start + ATTRIBUTE_HEADER || !split(payload, start, nested) || nested.empty())
             continue;
         mutate(nested, depth + 1, random);
         payload = join(payload, start, nested, random);
@@ -165,7 +165,7 @@ static bool mutate_nested(Bytes &payload, int depth, Random &random)
 static void mutate(Attributes &attributes, int depth, Random &random)
 {
     if (attributes.empty() || one_in(random, 6)) {
-        attributes.insert(attributes.begin() + random() % (attributes.size() + 1), {any_kind(random), any_payload(random)});
+        attributes.insert(attributes.begin() + random() % (attributes.size() + 1), {make_kind(random), make_payload(random)});
         return;
     }
     size_t index = random() % attributes.size(), other = random() % attributes.size();
@@ -191,7 +191,7 @@ static void mutate(Attributes &attributes, int depth, Random &random)
 
 // ---- messages
 
-// Cuts whole messages off a capture; `rest` is what is left.
+// Returns the whole messages at the start of a capture, and writes the remaining bytes to `rest`.
 static std::vector<Bytes> split_messages(const Bytes &capture, Bytes &rest)
 {
     std::vector<Bytes> messages;
@@ -258,11 +258,11 @@ static Bytes join_messages(const std::vector<Bytes> &messages, Random &random)
     return capture;
 }
 
-extern "C" size_t LLVMFuzzerCustomMutator(uint8_t *bytes, size_t length, size_t most, unsigned seed)
+extern "C" size_t LLVMFuzzerCustomMutator(uint8_t *bytes, size_t length, size_t capacity, unsigned seed)
 {
     Random random(seed | 1);
     if (one_in(random, 5))
-        return LLVMFuzzerMutate(bytes, length, most);
+        return LLVMFuzzerMutate(bytes, length, capacity);
     Bytes rest;
     std::vector<Bytes> messages = split_messages(Bytes(bytes, bytes + length), rest);
     if (messages.empty()) {
@@ -276,7 +276,7 @@ extern "C" size_t LLVMFuzzerCustomMutator(uint8_t *bytes, size_t length, size_t 
         capture.insert(capture.end(), rest.begin(), rest.end());
     if (one_in(random, 10) && !capture.empty())
         capture.resize(capture.size() - random() % 4 % capture.size());
-    capture.resize(std::min(capture.size(), most));
+    capture.resize(std::min(capture.size(), capacity));
     if (!capture.empty())
         memcpy(bytes, capture.data(), capture.size());
     return capture.size();

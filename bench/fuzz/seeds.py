@@ -16,12 +16,12 @@ sys.path.insert(0, os.path.join(TOP, "tools", "oracle"))
 import tables               # noqa: E402
 import vectors              # noqa: E402
 
-LONGEST = 1 << 16
+MAX_LENGTH = 1 << 16
 CAPTURE_KINDS = ("norm", "same", "spelling", "refusal", "show")
 
 
 def captures():
-    """The samples, and the captures of the stored cases, which are in hex after the limit of a case."""
+    """Yields the samples and the captures of the stored cases, which are in hex after the limit of a case."""
     for name in sorted(os.listdir(os.path.join(TOP, "samples"))):
         if name.endswith(".bin"):
             with open(os.path.join(TOP, "samples", name), "rb") as file:
@@ -34,7 +34,7 @@ def captures():
 
 
 def dictionary():
-    """The entries of the dictionary for libFuzzer."""
+    """Yields the entries of the dictionary for libFuzzer."""
     for name in sorted(tables.DATA_ROWS):
         yield name.encode()
         yield name.encode() + b"\0"
@@ -50,7 +50,7 @@ def main():
     folder = sys.argv[1]
     os.makedirs(os.path.join(folder, "seeds"), exist_ok=True)
     for capture in captures():
-        if len(capture) <= LONGEST:
+        if len(capture) <= MAX_LENGTH:
             with open(os.path.join(folder, "seeds", hashlib.sha1(capture).hexdigest()), "wb") as file:
                 file.write(capture)
     with open(os.path.join(folder, "netlink.dict"), "w", encoding="ascii") as file:

@@ -2,7 +2,7 @@
  *
  *     calls SECONDS < CAPTURE
  *
- * Prints a line for each call: its name, and the nanoseconds that one takes. */
+ * Prints a line for each function: its name, and the nanoseconds of one call. */
 #include <libmnl/libmnl.h>
 #include <linux/rtnetlink.h>
 #include <stdio.h>
@@ -14,13 +14,13 @@
 
 static struct capture capture;
 static uint8_t *out;
-static size_t room;
+static size_t capacity;
 static unsigned long attributes;
 
-static double now(void) {
-    struct timespec at;
-    clock_gettime(CLOCK_PROCESS_CPUTIME_ID, &at);
-    return at.tv_sec + at.tv_nsec / 1e9;
+static double read_clock(void) {
+    struct timespec time;
+    clock_gettime(CLOCK_PROCESS_CPUTIME_ID, &time);
+    return time.tv_sec + time.tv_nsec / 1e9;
 }
 
 static int walk_attribute(const struct nlattr *attribute, void *unused) {
@@ -50,13 +50,14 @@ static uint32_t check(void) {
 static uint32_t normalize(void) {
     struct linkcap_fault fault;
     uint64_t written;
-    return linkcap_normalize((uint8_t *)capture.bytes, capture.size, LINKCAP_DEFAULT_LIMIT, out, room, &written, &fault);
+    return linkcap_normalize((uint8_t *)capture.bytes, capture.size, LINKCAP_DEFAULT_LIMIT, out, capacity, &written, &fault);
 }
 
 static uint32_t normalize_some(void) {
     struct linkcap_fault fault;
     struct linkcap_progress progress;
-    return linkcap_normalize_some((uint8_t *)capture.bytes, capture.size, true, LINKCAP_DEFAULT_LIMIT, out, room, &progress, &fault);
+    return linkcap_normalize_some((uint8_t *)capture.bytes, capture.size, true, LINKCAP_DEFAULT_LIMIT, out, capacity, &progress,
+                                  &fault);
 }
 
 static uint32_t same(void) {
@@ -67,22 +68,22 @@ static uint32_t same(void) {
 static uint32_t show(void) {
     struct linkcap_fault fault;
     uint64_t written;
-    return linkcap_show((uint8_t *)capture.bytes, capture.size, LINKCAP_DEFAULT_LIMIT, out, room, &written, &fault);
+    return linkcap_show((uint8_t *)capture.bytes, capture.size, LINKCAP_DEFAULT_LIMIT, out, capacity, &written, &fault);
 }
 
 static void measure(const char *name, uint32_t (*call)(void), double seconds) {
     double best = 0;
     for (int round = 0; round < 5; round++) {
         long calls = 0;
-        double begin = now(), end;
+        double begin = read_clock(), end;
         do {
             for (int i = 0; i < 20; i++, calls++)
                 if (call() != 0)
                     exit(2);
-            end = now();
+            end = read_clock();
         } while (end - begin < seconds / 5);
-        double one = (end - begin) / calls;
-        best = best == 0 || one < best ? one : best;
+        double duration = (end - begin) / calls;
+        best = best == 0 || duration < best ? duration : best;
     }
     printf("%s %.1f\n", name, best * 1e9);
 }
@@ -90,8 +91,8 @@ static void measure(const char *name, uint32_t (*call)(void), double seconds) {
 int main(int argc, char **argv) {
     double seconds = argc > 1 ? atof(argv[1]) : 1;
     capture = read_capture();
-    room = 8 * capture.size + 4096;
-    out = malloc(room);
+    capacity = 8 * capture.size + 4096;
+    out = malloc(capacity);
     if (out == NULL)
         return 2;
     measure("check", check, seconds);

@@ -16,8 +16,8 @@ def measure(name, seconds, call, *arguments):
             for _ in range(20):
                 call(*arguments)
             calls += 20
-        seconds_a_call = (time.process_time() - begin) / calls
-        best = seconds_a_call if best is None else min(best, seconds_a_call)
+        duration = (time.process_time() - begin) / calls
+        best = duration if best is None else min(best, duration)
     print(f"{name} {best * 1e9:.1f}", flush=True)
 
 

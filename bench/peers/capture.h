@@ -1,4 +1,4 @@
-/* A capture, read whole from standard input. */
+/* Reads a whole capture from standard input. */
 #include <stdio.h>
 #include <stdlib.h>
 #include <unistd.h>
@@ -10,22 +10,22 @@ struct capture {
 
 static struct capture read_capture(void) {
     struct capture capture = {NULL, 0};
-    size_t room = 0;
+    size_t capacity = 0;
     for (;;) {
-        if (capture.size == room) {
-            room = room ? 2 * room : 1 << 20;
-            capture.bytes = realloc(capture.bytes, room);
+        if (capture.size == capacity) {
+            capacity = capacity ? 2 * capacity : 1 << 20;
+            capture.bytes = realloc(capture.bytes, capacity);
             if (capture.bytes == NULL) {
                 exit(2);
             }
         }
-        ssize_t got = read(0, capture.bytes + capture.size, room - capture.size);
-        if (got < 0) {
+        ssize_t count = read(0, capture.bytes + capture.size, capacity - capture.size);
+        if (count < 0) {
             exit(2);
         }
-        if (got == 0) {
+        if (count == 0) {
             return capture;
         }
-        capture.size += got;
+        capture.size += count;
     }
 }

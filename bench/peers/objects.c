@@ -1,9 +1,9 @@
-/* Reads a capture from standard input, and has libnl make an object of each message. Prints how many it made, and how
- * many messages it refused.
+/* Reads a capture from standard input, and makes an object of each message with libnl. Prints the number of objects, and
+ * of messages that libnl refuses.
  *
  *     objects [ROUNDS] < CAPTURE
  *
- * ROUNDS is how often the bytes, once read, are gone through. */
+ * ROUNDS is the number of passes over the bytes. */
 #include <netlink/msg.h>
 #include <netlink/object.h>
 #include <stdio.h>
@@ -11,9 +11,9 @@
 
 #include "capture.h"
 
-static unsigned long links, refused;
+static unsigned long links, refusals;
 
-static void take(struct nl_object *object, void *unused) {
+static void count_link(struct nl_object *object, void *unused) {
     (void)object;
     (void)unused;
     links++;
@@ -33,13 +33,13 @@ int main(int argc, char **argv) {
                 return 2;
             }
             nlmsg_set_proto(message, NETLINK_ROUTE);
-            if (header->nlmsg_type >= NLMSG_MIN_TYPE && nl_msg_parse(message, take, NULL) < 0) {
-                refused++;
+            if (header->nlmsg_type >= NLMSG_MIN_TYPE && nl_msg_parse(message, count_link, NULL) < 0) {
+                refusals++;
             }
             nlmsg_free(message);
             at += NLMSG_ALIGN(header->nlmsg_len);
         }
     }
-    printf("%lu objects, %lu refused\n", links, refused);
+    printf("%lu objects, %lu refused\n", links, refusals);
     return 0;
 }

@@ -1,9 +1,9 @@
-/* Reads a capture from standard input, and walks each link message with libmnl: every attribute is cut and compared with
- * the least size of its type, link info and what is inside it too. Prints how many attributes there were.
+/* Reads a capture from standard input, and walks each link message with libmnl: it splits the attributes, also those nested in
+ * link info, and checks the size of each against its type. Prints the number of attributes.
  *
  *     walk [ROUNDS] < CAPTURE
  *
- * ROUNDS is how often the bytes, once read, are gone through. */
+ * ROUNDS is the number of passes over the bytes. */
 #include <libmnl/libmnl.h>
 #include <linux/if_link.h>
 #include <linux/rtnetlink.h>

@@ -4,8 +4,8 @@
 // A capture is a byte string of netlink messages, each at a multiple of 4. It is legal if it has no fault. Its normal text
 // is the canonical form of a capture: two legal captures mean the same if and only if their normal texts are equal.
 //
-// Functions of the package take [DefaultLimit]; the methods of [Limit] take another one. What isn't legal gives an
-// [*Error], with its kind and offset:
+// Functions of the package take [DefaultLimit]; the methods of [Limit] take another one. For a capture that isn't
+// legal they return an [*Error], with its kind and offset:
 //
 //	text, err := linkcap.Normalize(capture)
 //	if errors.Is(err, linkcap.Refused) {
@@ -16,7 +16,7 @@
 //
 // Calls share nothing, and may run in goroutines at once. Nobody may write to a capture while a call reads it.
 //
-// The library is found by pkg-config, whose folder PKG_CONFIG_PATH names. The archive liblinkcap.a is linked in, so that
-// the program needs no file when it runs; with the build tag linkcap_shared the program loads liblinkcap.so instead. The
-// package needs cgo, a C compiler and Linux.
+// pkg-config finds the library; PKG_CONFIG_PATH names its folder. The archive liblinkcap.a is linked in, so that the program
+// needs no file when it runs; with the build tag linkcap_shared the program loads liblinkcap.so instead. The package needs
+// cgo, a C compiler and Linux.
 package linkcap

@@ -11,7 +11,7 @@ import (
 	"unsafe"
 )
 
-// A Kind is what is wrong with a capture. A Kind is an error, for errors.Is(err, linkcap.Cut).
+// A Kind is a kind of fault. It is an error, for errors.Is(err, linkcap.Cut).
 type Kind uint32
 
 // Kinds of faults of captures, numbered as in linkcap.h.
@@ -43,7 +43,7 @@ type Error struct {
 	Kind    Kind
 	Side    int      // of two captures 1 for the first and 2 for the second, else 0
 	Offset  uint64   // the start of the message that has it, in bytes from the capture's start
-	Written []byte   // what the call wrote before it: normal text, or lines in ASCII
+	Written []byte   // the output of the call before it: normal text, or lines in ASCII
 	Why     *Refusal // the attribute that isn't accepted and the reason, if the kind is Refused
 }
 
@@ -75,19 +75,19 @@ func (e *Error) words() string {
 var (
 	// ErrLimit is returned for a limit under 16.
 	ErrLimit = errors.New("linkcap: limit under 16")
-	// ErrMemory is returned if the library ran out of memory, or the result is longer than memory.
+	// ErrMemory is returned if the library ran out of memory, or the result doesn't fit in memory.
 	ErrMemory = errors.New("linkcap: out of memory")
 )
 
-// failure returns the error for a status that isn't a success. faulty is the capture that the fault is of.
-func failure(status C.uint32_t, fault C.struct_linkcap_fault, faulty, written []byte, limit Limit) error {
+// failure returns the error for a status that isn't a success. The fault is that of the given capture.
+func failure(status C.uint32_t, fault C.struct_linkcap_fault, capture, written []byte, limit Limit) error {
 	switch status {
 	case C.LINKCAP_WRONG:
 		return ErrLimit
 	case C.LINKCAP_FAULT:
 		e := &Error{Kind: Kind(fault.kind), Side: int(fault.side), Offset: uint64(fault.offset), Written: written}
 		if e.Kind == Refused {
-			e.Why, _ = limit.Why(faulty)
+			e.Why, _ = limit.Why(capture)
 		}
 		return e
 	}

@@ -39,8 +39,8 @@ func ExampleSame() {
 }
 
 func ExampleLines() {
-	shown, _ := linkcap.Lines(capture, linkcap.LineOptions{WithoutNumbers: true})
-	fmt.Print(shown)
+	lines, _ := linkcap.Lines(capture, linkcap.LineOptions{WithoutNumbers: true})
+	fmt.Print(lines)
 	// Output:
 	// NLMSG_NOOP flags 0x0
 	// RTM_NEWADDR flags 0x0
@@ -82,8 +82,8 @@ func ExampleQuirks() {
 }
 
 func ExampleNewLineReader() {
-	shown, err := io.ReadAll(linkcap.NewLineReader(bytes.NewReader(capture), linkcap.LineOptions{Only: []uint16{1}}))
-	fmt.Print(string(shown), err)
+	lines, err := io.ReadAll(linkcap.NewLineReader(bytes.NewReader(capture), linkcap.LineOptions{Only: []uint16{1}}))
+	fmt.Print(string(lines), err)
 	// Output:
 	// NLMSG_NOOP flags 0x0 seq 1 port 0
 	// <nil>

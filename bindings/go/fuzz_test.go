@@ -12,31 +12,31 @@ import (
 
 // FuzzNormalize checks the laws of one capture: go test -fuzz FuzzNormalize.
 func FuzzNormalize(f *testing.F) {
-	for _, name := range names {
-		f.Add(sample(f, name))
+	for _, name := range sampleNames {
+		f.Add(readSample(f, name))
 	}
 	f.Add(capture)
-	f.Add(refused)
+	f.Add(refusedRequest)
 	f.Fuzz(func(t *testing.T, capture []byte) {
 		text, err := linkcap.Normalize(capture)
-		read, readErr := io.ReadAll(linkcap.NewReader(iotest.HalfReader(bytes.NewReader(capture))))
+		pieces, piecesErr := io.ReadAll(linkcap.NewReader(iotest.HalfReader(bytes.NewReader(capture))))
 		if err == nil {
 			checkLegal(t, capture, text)
 		} else {
-			fault := faultOf(t, err)
+			fault := requireFault(t, err)
 			text = fault.Written
 			checkFault(t, capture, fault)
 		}
-		if !bytes.Equal(read, text) || (readErr == nil) != (err == nil) || err != nil && readErr.Error() != err.Error() {
-			t.Fatalf("in pieces %x %v, as a whole %x %v", read, readErr, text, err)
+		if !bytes.Equal(pieces, text) || (piecesErr == nil) != (err == nil) || err != nil && piecesErr.Error() != err.Error() {
+			t.Fatalf("in pieces %x %v, as a whole %x %v", pieces, piecesErr, text, err)
 		}
 	})
 }
 
 func checkLegal(t *testing.T, capture, text []byte) {
 	t.Helper()
-	if again := normal(t, text); !bytes.Equal(again, text) {
-		t.Fatalf("the normal text of %x is %x", text, again)
+	if renormalized := normalize(t, text); !bytes.Equal(renormalized, text) {
+		t.Fatalf("the normal text of %x is %x", text, renormalized)
 	}
 	if same, err := linkcap.Same(capture, text); !same || err != nil {
 		t.Fatal(same, err)
@@ -56,8 +56,8 @@ func checkLegal(t *testing.T, capture, text []byte) {
 
 func checkFault(t *testing.T, capture []byte, fault *linkcap.Error) {
 	t.Helper()
-	if before := normal(t, capture[:fault.Offset]); !bytes.Equal(before, fault.Written) {
-		t.Fatalf("%x before the fault, want %x", fault.Written, before)
+	if prefix := normalize(t, capture[:fault.Offset]); !bytes.Equal(prefix, fault.Written) {
+		t.Fatalf("%x before the fault, want %x", fault.Written, prefix)
 	}
 	if err := linkcap.Check(capture); err == nil || err.Error() != fault.Error() {
 		t.Fatalf("%v, want %v", err, fault)
@@ -70,9 +70,9 @@ func checkFault(t *testing.T, capture []byte, fault *linkcap.Error) {
 
 // FuzzSame checks the laws of two captures: go test -fuzz FuzzSame.
 func FuzzSame(f *testing.F) {
-	for _, name := range names {
-		f.Add(sample(f, name), sample(f, "lo-request"))
-		f.Add(sample(f, name), normal(f, sample(f, name)))
+	for _, name := range sampleNames {
+		f.Add(readSample(f, name), readSample(f, "lo-request"))
+		f.Add(readSample(f, name), normalize(f, readSample(f, name)))
 	}
 	f.Fuzz(func(t *testing.T, first, second []byte) {
 		same, err := linkcap.Same(first, second)

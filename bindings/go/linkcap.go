@@ -18,12 +18,13 @@ type Limit uint32
 // DefaultLimit is the limit of the package's functions, and of the programs.
 const DefaultLimit Limit = C.LINKCAP_DEFAULT_LIMIT
 
-// Format is the format version of the library's normal texts and lines: while it stays, so do they, byte for byte.
+// Format is the format version of the library's normal texts and lines: under one version both stay as they are, byte for
+// byte.
 var Format = int(C.linkcap_format())
 
 func init() {
-	if found := uint32(C.linkcap_version()); found != C.LINKCAP_VERSION {
-		panic(fmt.Sprintf("linkcap: liblinkcap has version %d of the interface, and %d is needed", found, C.LINKCAP_VERSION))
+	if version := uint32(C.linkcap_version()); version != C.LINKCAP_VERSION {
+		panic(fmt.Sprintf("linkcap: liblinkcap has version %d of the interface, and %d is needed", version, C.LINKCAP_VERSION))
 	}
 }
 
@@ -34,7 +35,7 @@ type Sizes struct {
 	TextLen    uint64 // the length of its normal text in bytes, at most 2^64 - 1
 }
 
-// LineOptions select what lines show of a capture. The zero value shows all.
+// LineOptions select lines of a capture. The zero value selects all.
 type LineOptions struct {
 	// WithoutNumbers leaves out sequence and port numbers, which change from run to run.
 	WithoutNumbers bool
@@ -50,11 +51,11 @@ func (o *LineOptions) types() *C.uint16_t {
 	return (*C.uint16_t)(unsafe.Pointer(&o.Only[0]))
 }
 
-// A Refusal is what of a refused body isn't accepted.
+// A Refusal says which attribute made a body invalid, why, and at which offset.
 type Refusal struct {
 	// Words are the attribute's names from outside in, the reason, and the offset.
 	Words string
-	// Offset is where the attribute begins, in bytes from the capture's start. NLMSG_ERROR and NLMSG_DONE have none.
+	// Offset is the start of the attribute, in bytes from the capture's start. NLMSG_ERROR and NLMSG_DONE have none.
 	Offset    uint64
 	HasOffset bool
 }
@@ -62,8 +63,8 @@ type Refusal struct {
 // String returns the words.
 func (r *Refusal) String() string { return r.Words }
 
-// after returns the refusal of the same bytes at another offset of a capture.
-func (r *Refusal) after(start uint64) *Refusal {
+// shift returns the refusal with an offset that is greater by start.
+func (r *Refusal) shift(start uint64) *Refusal {
 	if r == nil || !r.HasOffset {
 		return r
 	}
@@ -90,19 +91,19 @@ func (l Limit) Check(capture []byte) error {
 	return failure(status, fault, capture, nil, l)
 }
 
-// Measure counts a legal capture's messages, attributes and the bytes of its normal text, else returns its first fault.
+// Measure returns the sizes of a legal capture, else its first fault.
 func (l Limit) Measure(capture []byte) (Sizes, error) {
 	var fault C.struct_linkcap_fault
-	var found C.struct_linkcap_sizes
-	status := C.linkcap_measure(address(capture), C.size_t(len(capture)), C.uint32_t(l), &found, &fault)
+	var sizes C.struct_linkcap_sizes
+	status := C.linkcap_measure(address(capture), C.size_t(len(capture)), C.uint32_t(l), &sizes, &fault)
 	if status != C.LINKCAP_OK {
 		return Sizes{}, failure(status, fault, capture, nil, l)
 	}
-	length := uint64(found.text_low)
-	if found.text_high != 0 {
+	length := uint64(sizes.text_low)
+	if sizes.text_high != 0 {
 		length = math.MaxUint64
 	}
-	return Sizes{uint64(found.frames), uint64(found.attributes), length}, nil
+	return Sizes{uint64(sizes.frames), uint64(sizes.attributes), length}, nil
 }
 
 // Same reports whether two legal captures mean the same, which is if and only if their normal texts are equal. Else it
@@ -110,7 +111,7 @@ func (l Limit) Measure(capture []byte) (Sizes, error) {
 func (l Limit) Same(first, second []byte) (bool, error) {
 	var fault C.struct_linkcap_fault
 	status := C.linkcap_same(address(first), C.size_t(len(first)), address(second), C.size_t(len(second)), C.uint32_t(l), &fault)
-	return l.sameness(status, fault, first, second)
+	return l.interpretComparison(status, fault, first, second)
 }
 
 // SameIgnoringNumbers reports whether two legal captures mean the same after zeroing the sequence and port number of each
@@ -120,31 +121,32 @@ func (l Limit) SameIgnoringNumbers(first, second []byte) (bool, error) {
 	var fault C.struct_linkcap_fault
 	status := C.linkcap_same_ignoring_numbers(address(first), C.size_t(len(first)), address(second), C.size_t(len(second)),
 		C.uint32_t(l), &fault)
-	return l.sameness(status, fault, first, second)
+	return l.interpretComparison(status, fault, first, second)
 }
 
-// sameness returns what a status of two captures says.
-func (l Limit) sameness(status C.uint32_t, fault C.struct_linkcap_fault, first, second []byte) (bool, error) {
+// interpretComparison returns the result that the status of a comparison represents.
+func (l Limit) interpretComparison(status C.uint32_t, fault C.struct_linkcap_fault, first, second []byte) (bool, error) {
 	switch status {
 	case C.LINKCAP_OK:
 		return true, nil
 	case C.LINKCAP_DIFFERENT:
 		return false, nil
 	}
-	faulty := first
+	capture := first
 	if fault.side == 2 {
-		faulty = second
+		capture = second
 	}
-	return false, failure(status, fault, faulty, nil, l)
+	return false, failure(status, fault, capture, nil, l)
 }
 
 // writer is a call that writes to a buffer, and returns a status.
-type writer func(out *C.uint8_t, room C.size_t, written *C.uint64_t, fault *C.struct_linkcap_fault) C.uint32_t
+type writer func(out *C.uint8_t, capacity C.size_t, written *C.uint64_t, fault *C.struct_linkcap_fault) C.uint32_t
 
-// appendWritten appends what a call writes, with `room` bytes of room at first. What was written before a fault is appended.
-func (l Limit) appendWritten(dst, capture []byte, room int, call writer) ([]byte, error) {
+// appendWritten appends the output of a call, also that before a fault. It reserves `capacity` bytes first, and more if the
+// call needs more.
+func (l Limit) appendWritten(dst, capture []byte, capacity int, call writer) ([]byte, error) {
 	for {
-		dst = reserve(dst, room)
+		dst = reserve(dst, capacity)
 		free := dst[len(dst):cap(dst)]
 		var written C.uint64_t
 		var fault C.struct_linkcap_fault
@@ -153,25 +155,25 @@ func (l Limit) appendWritten(dst, capture []byte, room int, call writer) ([]byte
 		case C.LINKCAP_OK:
 			return dst[:len(dst)+int(written)], nil
 		case C.LINKCAP_FAULT:
-			before := dst[:len(dst)+int(written)]
-			return before, failure(status, fault, capture, append([]byte(nil), before[len(dst):]...), l)
+			extended := dst[:len(dst)+int(written)]
+			return extended, failure(status, fault, capture, append([]byte(nil), extended[len(dst):]...), l)
 		case C.LINKCAP_NO_ROOM:
 			if uint64(written) > math.MaxInt/2 {
 				return dst, ErrMemory
 			}
-			room = int(written)
+			capacity = int(written)
 		default:
 			return dst, failure(status, fault, capture, nil, l)
 		}
 	}
 }
 
-// reserve returns the same bytes with at least `room` bytes of capacity after them.
-func reserve(dst []byte, room int) []byte {
-	if cap(dst)-len(dst) >= room {
+// reserve returns the same bytes with a spare capacity of at least `capacity` bytes.
+func reserve(dst []byte, capacity int) []byte {
+	if cap(dst)-len(dst) >= capacity {
 		return dst
 	}
-	grown := make([]byte, len(dst), len(dst)+room)
+	grown := make([]byte, len(dst), len(dst)+capacity)
 	copy(grown, dst)
 	return grown
 }
@@ -179,8 +181,8 @@ func reserve(dst []byte, room int) []byte {
 // AppendNormal appends a legal capture's normal text to dst. If the capture has a fault, the text before it is appended.
 func (l Limit) AppendNormal(dst, capture []byte) ([]byte, error) {
 	return l.appendWritten(dst, capture, len(capture)+16,
-		func(out *C.uint8_t, room C.size_t, written *C.uint64_t, fault *C.struct_linkcap_fault) C.uint32_t {
-			return C.linkcap_normalize(address(capture), C.size_t(len(capture)), C.uint32_t(l), out, room, written, fault)
+		func(out *C.uint8_t, capacity C.size_t, written *C.uint64_t, fault *C.struct_linkcap_fault) C.uint32_t {
+			return C.linkcap_normalize(address(capture), C.size_t(len(capture)), C.uint32_t(l), out, capacity, written, fault)
 		})
 }
 
@@ -198,33 +200,33 @@ func (l Limit) Normalize(capture []byte) ([]byte, error) {
 // Written has the lines before it.
 func (l Limit) Lines(capture []byte, options LineOptions) (string, error) {
 	types := options.types()
-	shown, err := l.appendWritten(nil, capture, 4*len(capture)+256,
-		func(out *C.uint8_t, room C.size_t, written *C.uint64_t, fault *C.struct_linkcap_fault) C.uint32_t {
+	lines, err := l.appendWritten(nil, capture, 4*len(capture)+256,
+		func(out *C.uint8_t, capacity C.size_t, written *C.uint64_t, fault *C.struct_linkcap_fault) C.uint32_t {
 			return C.linkcap_show_with(address(capture), C.size_t(len(capture)), C.uint32_t(l), C.bool(options.WithoutNumbers),
-				types, C.size_t(len(options.Only)), out, room, written, fault)
+				types, C.size_t(len(options.Only)), out, capacity, written, fault)
 		})
 	if err != nil {
 		return "", err
 	}
-	return string(shown), nil
+	return string(lines), nil
 }
 
-// Why returns what of a refused body isn't accepted, if a capture's first fault is of the kind [Refused]; else nil.
+// Why returns the refusal of a capture's first fault if this is of the kind [Refused]; else nil.
 func (l Limit) Why(capture []byte) (*Refusal, error) {
 	words := make([]byte, 512)
 	for {
-		var written, place C.uint64_t
+		var written, offset C.uint64_t
 		status := C.linkcap_why(address(capture), C.size_t(len(capture)), C.uint32_t(l), address(words), C.size_t(len(words)),
-			&written, &place)
+			&written, &offset)
 		switch status {
 		case C.LINKCAP_NONE:
 			return nil, nil
 		case C.LINKCAP_OK:
-			found := &Refusal{Words: string(words[:written])}
-			if place != math.MaxUint64 {
-				found.Offset, found.HasOffset = uint64(place), true
+			refusal := &Refusal{Words: string(words[:written])}
+			if offset != math.MaxUint64 {
+				refusal.Offset, refusal.HasOffset = uint64(offset), true
 			}
-			return found, nil
+			return refusal, nil
 		case C.LINKCAP_NO_ROOM:
 			words = make([]byte, written)
 		default:

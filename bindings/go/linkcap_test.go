@@ -15,15 +15,15 @@ import (
 	"linkcap.invalid/linkcap"
 )
 
-// top is the repository's.
+// top is the path of the repository.
 const top = "../.."
 
-var names = []string{"get-veth", "notify-vrf", "req-veth", "lo-request"}
+var sampleNames = []string{"get-veth", "notify-vrf", "req-veth", "lo-request"}
 
-// refused has an IFLA_MTU of 3 bytes.
-var refused = append(append([]byte{0x28, 0, 0, 0, 0x10}, make([]byte, 27)...), 7, 0, 4, 0, 1, 2, 3, 0)
+// refusedRequest is a request whose IFLA_MTU has 3 bytes.
+var refusedRequest = append(append([]byte{0x28, 0, 0, 0, 0x10}, make([]byte, 27)...), 7, 0, 4, 0, 1, 2, 3, 0)
 
-func read(t testing.TB, name string) []byte {
+func readFile(t testing.TB, name string) []byte {
 	t.Helper()
 	text, err := os.ReadFile(filepath.Join(top, name))
 	if err != nil {
@@ -32,12 +32,12 @@ func read(t testing.TB, name string) []byte {
 	return text
 }
 
-func sample(t testing.TB, name string) []byte {
+func readSample(t testing.TB, name string) []byte {
 	t.Helper()
-	return read(t, "samples/"+name+".bin")
+	return readFile(t, "samples/"+name+".bin")
 }
 
-func normal(t testing.TB, capture []byte) []byte {
+func normalize(t testing.TB, capture []byte) []byte {
 	t.Helper()
 	text, err := linkcap.Normalize(capture)
 	if err != nil {
@@ -46,7 +46,7 @@ func normal(t testing.TB, capture []byte) []byte {
 	return text
 }
 
-func faultOf(t testing.TB, err error) *linkcap.Error {
+func requireFault(t testing.TB, err error) *linkcap.Error {
 	t.Helper()
 	var fault *linkcap.Error
 	if !errors.As(err, &fault) {
@@ -56,13 +56,13 @@ func faultOf(t testing.TB, err error) *linkcap.Error {
 }
 
 func TestSamples(t *testing.T) {
-	for _, name := range names {
-		capture := sample(t, name)
-		shown, err := linkcap.Lines(capture, linkcap.LineOptions{})
-		if err != nil || shown != string(read(t, "samples/"+name+".lines")) {
+	for _, name := range sampleNames {
+		capture := readSample(t, name)
+		lines, err := linkcap.Lines(capture, linkcap.LineOptions{})
+		if err != nil || lines != string(readFile(t, "samples/"+name+".lines")) {
 			t.Errorf("%s: %v, lines differ", name, err)
 		}
-		text := normal(t, capture)
+		text := normalize(t, capture)
 		sizes, err := linkcap.Measure(capture)
 		if err != nil || sizes.TextLen != uint64(len(text)) {
 			t.Errorf("%s: %v %v, %d bytes", name, sizes, err, len(text))
@@ -74,11 +74,11 @@ func TestSamples(t *testing.T) {
 }
 
 func TestFaults(t *testing.T) {
-	capture := sample(t, "req-veth") // which is its own normal text
+	capture := readSample(t, "req-veth") // which is already canonical
 	cut := append(append([]byte(nil), capture...), capture[:20]...)
 	words := fmt.Sprintf("cut frame at %d", len(capture))
 	_, err := linkcap.Normalize(cut)
-	fault := faultOf(t, err)
+	fault := requireFault(t, err)
 	if fault.Kind != linkcap.Cut || fault.Offset != uint64(len(capture)) || fault.Side != 0 || fault.Why != nil || err.Error() != words {
 		t.Errorf("%#v", err)
 	}
@@ -102,8 +102,8 @@ func TestFaults(t *testing.T) {
 }
 
 func TestReasons(t *testing.T) {
-	capture := sample(t, "lo-request")
-	both := append(append([]byte(nil), capture...), refused...)
+	capture := readSample(t, "lo-request")
+	both := append(append([]byte(nil), capture...), refusedRequest...)
 	const reason = "IFLA_MTU: a payload of 3 bytes at 80"
 	_, sameErr := linkcap.Same(capture, both)
 	_, readErr := io.ReadAll(linkcap.NewReader(iotest.OneByteReader(bytes.NewReader(both))))
@@ -112,7 +112,7 @@ func TestReasons(t *testing.T) {
 		readErr:             "refused body at 48: " + reason,
 		sameErr:             "second: refused body at 48: " + reason,
 	} {
-		fault := faultOf(t, err)
+		fault := requireFault(t, err)
 		if err.Error() != want || fault.Why.Offset != 80 || !fault.Why.HasOffset {
 			t.Errorf("%v, want %s", err, want)
 		}
@@ -132,11 +132,12 @@ func TestLimits(t *testing.T) {
 		_, whyErr := limit.Why(nil)
 		_, messagesErr := limit.Messages(nil)
 		_, readErr := io.ReadAll(limit.NewReader(bytes.NewReader(nil)))
-		_, ignoringErr := limit.SameIgnoringNumbers(nil, nil)
+		_, unnumberedErr := limit.SameIgnoringNumbers(nil, nil)
 		_, quirksErr := limit.Quirks(nil)
-		_, shownErr := io.ReadAll(limit.NewLineReader(bytes.NewReader(nil), linkcap.LineOptions{}))
+		_, lineReaderErr := io.ReadAll(limit.NewLineReader(bytes.NewReader(nil), linkcap.LineOptions{}))
 		for i, err := range []error{
-			limit.Check(nil), measureErr, sameErr, normalErr, linesErr, whyErr, messagesErr, readErr, ignoringErr, quirksErr, shownErr,
+			limit.Check(nil), measureErr, sameErr, normalErr, linesErr, whyErr, messagesErr, readErr, unnumberedErr, quirksErr,
+			lineReaderErr,
 		} {
 			if err != linkcap.ErrLimit {
 				t.Errorf("call %d: %v", i, err)
@@ -151,13 +152,13 @@ func TestEmpty(t *testing.T) {
 			t.Error(err)
 		}
 		text, err := linkcap.Normalize(empty)
-		shown, linesErr := linkcap.Lines(empty, linkcap.LineOptions{})
+		lines, linesErr := linkcap.Lines(empty, linkcap.LineOptions{})
 		same, sameErr := linkcap.Same(empty, nil)
 		why, whyErr := linkcap.Why(empty)
 		messages, messagesErr := linkcap.Messages(empty)
-		read, readErr := io.ReadAll(linkcap.NewReader(bytes.NewReader(empty)))
-		if len(text) != 0 || shown != "" || !same || why != nil || len(messages) != 0 || len(read) != 0 {
-			t.Error(text, shown, same, why, messages, read)
+		got, readErr := io.ReadAll(linkcap.NewReader(bytes.NewReader(empty)))
+		if len(text) != 0 || lines != "" || !same || why != nil || len(messages) != 0 || len(got) != 0 {
+			t.Error(text, lines, same, why, messages, got)
 		}
 		for i, err := range []error{err, linesErr, sameErr, whyErr, messagesErr, readErr} {
 			if err != nil {
@@ -168,7 +169,7 @@ func TestEmpty(t *testing.T) {
 }
 
 func TestQuirks(t *testing.T) {
-	capture := sample(t, "lo-request")
+	capture := readSample(t, "lo-request")
 	if quirks, err := linkcap.Quirks(capture); err != nil || len(quirks) != 0 {
 		t.Error(quirks, err)
 	}
@@ -186,13 +187,13 @@ func TestQuirks(t *testing.T) {
 }
 
 func TestSameIgnoringNumbers(t *testing.T) {
-	capture := sample(t, "lo-request")
+	capture := readSample(t, "lo-request")
 	for i := 8; i < 16; i++ { // netlink.h, struct nlmsghdr
 		other := append([]byte(nil), capture...)
 		other[i] ^= 1
 		same, err := linkcap.SameIgnoringNumbers(capture, other)
-		if with, _ := linkcap.Same(capture, other); !same || with || err != nil {
-			t.Error(i, same, with, err)
+		if exact, _ := linkcap.Same(capture, other); !same || exact || err != nil {
+			t.Error(i, same, exact, err)
 		}
 	}
 	other := append([]byte(nil), capture...)
@@ -200,20 +201,20 @@ func TestSameIgnoringNumbers(t *testing.T) {
 	if same, err := linkcap.SameIgnoringNumbers(capture, other); same || err != nil {
 		t.Error(same, err)
 	}
-	_, err := linkcap.SameIgnoringNumbers(capture, refused)
-	if fault := faultOf(t, err); fault.Side != 2 || fault.Why == nil {
+	_, err := linkcap.SameIgnoringNumbers(capture, refusedRequest)
+	if fault := requireFault(t, err); fault.Side != 2 || fault.Why == nil {
 		t.Error(err)
 	}
 }
 
 func TestFormat(t *testing.T) {
-	if !bytes.Contains(read(t, "bindings/c/linkcap.h"), []byte(fmt.Sprintf("\n#define LINKCAP_FORMAT %d\n", linkcap.Format))) {
+	if !bytes.Contains(readFile(t, "bindings/c/linkcap.h"), []byte(fmt.Sprintf("\n#define LINKCAP_FORMAT %d\n", linkcap.Format))) {
 		t.Error(linkcap.Format)
 	}
 }
 
 func TestAppendNormal(t *testing.T) {
-	capture := sample(t, "req-veth")
+	capture := readSample(t, "req-veth")
 	out, err := linkcap.DefaultLimit.AppendNormal([]byte("before"), capture)
 	if err != nil || string(out) != "before"+string(capture) {
 		t.Error(err, len(out))
@@ -226,7 +227,7 @@ func TestAppendNormal(t *testing.T) {
 }
 
 func TestMessages(t *testing.T) {
-	capture := sample(t, "lo-request")
+	capture := readSample(t, "lo-request")
 	messages, err := linkcap.Messages(append(append([]byte(nil), capture...), capture...))
 	if err != nil || len(messages) != 2 {
 		t.Fatal(err, len(messages))
@@ -244,9 +245,9 @@ func TestMessages(t *testing.T) {
 }
 
 func TestReader(t *testing.T) {
-	for _, name := range names {
-		capture := sample(t, name)
-		want := normal(t, capture)
+	for _, name := range sampleNames {
+		capture := readSample(t, name)
+		want := normalize(t, capture)
 		for _, wrap := range []func(io.Reader) io.Reader{
 			func(r io.Reader) io.Reader { return r }, iotest.OneByteReader, iotest.HalfReader, iotest.DataErrReader,
 		} {
@@ -255,9 +256,9 @@ func TestReader(t *testing.T) {
 				t.Errorf("%s: %v, %d bytes", name, err, len(got))
 			}
 		}
-		broken := errors.New("broken")
-		got, err := io.ReadAll(linkcap.NewReader(io.MultiReader(bytes.NewReader(capture), iotest.ErrReader(broken))))
-		if err != broken || !bytes.Equal(got, want) {
+		sourceErr := errors.New("broken")
+		got, err := io.ReadAll(linkcap.NewReader(io.MultiReader(bytes.NewReader(capture), iotest.ErrReader(sourceErr))))
+		if err != sourceErr || !bytes.Equal(got, want) {
 			t.Errorf("%s: %v, %d bytes", name, err, len(got))
 		}
 		if err := iotest.TestReader(linkcap.NewReader(bytes.NewReader(capture)), want); err != nil {
@@ -276,17 +277,17 @@ func TestReaderOfLongMessages(t *testing.T) {
 }
 
 func TestGoroutines(t *testing.T) {
-	capture := sample(t, "notify-vrf")
-	want := normal(t, capture)
-	var all sync.WaitGroup
+	capture := readSample(t, "notify-vrf")
+	want := normalize(t, capture)
+	var group sync.WaitGroup
 	for i := 0; i < 16; i++ {
-		all.Add(1)
+		group.Add(1)
 		go func(seed int64) {
-			defer all.Done()
+			defer group.Done()
 			normalizePrefixes(t, rand.New(rand.NewSource(seed)), capture, want)
 		}(int64(i))
 	}
-	all.Wait()
+	group.Wait()
 }
 
 func normalizePrefixes(t *testing.T, random *rand.Rand, capture, want []byte) {

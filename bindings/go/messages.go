@@ -8,8 +8,8 @@ const headerLen = 16
 
 // A Message is one of a capture's messages, and its header.
 type Message struct {
-	Offset         int    // where it begins, in bytes from the capture's start
-	Bytes          []byte // the message without its padding, a part of the capture; it is a capture itself
+	Offset         int    // its start, in bytes from the capture's start
+	Bytes          []byte // the message without its padding: a slice of the capture, and a capture, too
 	Type           uint16 // as unix.RTM_NEWLINK
 	Flags          uint16
 	SequenceNumber uint32
@@ -21,11 +21,11 @@ func (l Limit) Messages(capture []byte) ([]Message, error) {
 	if err := l.Check(capture); err != nil {
 		return nil, err
 	}
-	var found []Message
+	var messages []Message
 	for offset := 0; offset+headerLen <= len(capture); {
 		header := capture[offset:]
 		length := int(binary.LittleEndian.Uint32(header))
-		found = append(found, Message{
+		messages = append(messages, Message{
 			Offset:         offset,
 			Bytes:          header[:length:length],
 			Type:           binary.LittleEndian.Uint16(header[4:]),
@@ -35,5 +35,5 @@ func (l Limit) Messages(capture []byte) ([]Message, error) {
 		})
 		offset += (length + 3) &^ 3
 	}
-	return found, nil
+	return messages, nil
 }

@@ -20,7 +20,7 @@ const (
 	NestedPortSettings   QuirkKind = C.LINKCAP_NESTED_PORT_SETTINGS    // IFLA_PROTINFO with the nested bit, under AF_BRIDGE
 	ResizedSettings      QuirkKind = C.LINKCAP_RESIZED_SETTINGS        // IFLA_INET_CONF not of 132 bytes
 	PathDiscoveryOverOne QuirkKind = C.LINKCAP_PATH_DISCOVERY_OVER_ONE // IFLA_GRE_PMTUDISC over 1
-	LaterPeer            QuirkKind = C.LINKCAP_LATER_PEER              // the peer of veth or vxcan behind another attribute
+	LaterPeer            QuirkKind = C.LINKCAP_LATER_PEER              // the peer of veth or vxcan after another attribute
 	LongAlias            QuirkKind = C.LINKCAP_LONG_ALIAS              // IFLA_IFALIAS of 255 bytes without a NUL
 	NameWithoutNul       QuirkKind = C.LINKCAP_NAME_WITHOUT_NUL        // a name without a NUL
 	FlagWithPayload      QuirkKind = C.LINKCAP_FLAG_WITH_PAYLOAD       // a flag with a payload
@@ -34,7 +34,7 @@ const (
 // A Quirk is an encoding that some kernels treat differently from its normal text.
 type Quirk struct {
 	Kind   QuirkKind
-	Offset uint64 // where the attribute that has it starts, or the header's byte, in bytes from the capture's start
+	Offset uint64 // the start of the attribute that has it, or the header's byte, in bytes from the capture's start
 }
 
 // String returns the words of the quirk and its offset, as "flag with a payload at 76".
@@ -52,27 +52,27 @@ func (q Quirk) String() string {
 // Quirks returns each encoding of a legal capture that some kernels treat differently from its normal text, in the order of
 // the bytes; else the first fault. A normal text has none.
 func (l Limit) Quirks(capture []byte) ([]Quirk, error) {
-	found := make([]C.struct_linkcap_quirk, 16)
+	buffer := make([]C.struct_linkcap_quirk, 16)
 	for {
 		var count C.uint64_t
 		var fault C.struct_linkcap_fault
-		status := C.linkcap_quirks(address(capture), C.size_t(len(capture)), C.uint32_t(l), &found[0], C.size_t(len(found)),
+		status := C.linkcap_quirks(address(capture), C.size_t(len(capture)), C.uint32_t(l), &buffer[0], C.size_t(len(buffer)),
 			&count, &fault)
 		switch {
 		case status == C.LINKCAP_OK:
-			return quirksOf(found[:count]), nil
+			return convertQuirks(buffer[:count]), nil
 		case status != C.LINKCAP_NO_ROOM:
 			return nil, failure(status, fault, capture, nil, l)
 		case count > math.MaxInt/2/C.sizeof_struct_linkcap_quirk:
 			return nil, ErrMemory
 		}
-		found = make([]C.struct_linkcap_quirk, count)
+		buffer = make([]C.struct_linkcap_quirk, count)
 	}
 }
 
-func quirksOf(found []C.struct_linkcap_quirk) []Quirk {
-	quirks := make([]Quirk, len(found))
-	for i, quirk := range found {
+func convertQuirks(rows []C.struct_linkcap_quirk) []Quirk {
+	quirks := make([]Quirk, len(rows))
+	for i, quirk := range rows {
 		quirks[i] = Quirk{QuirkKind(quirk.kind), uint64(quirk.offset)}
 	}
 	return quirks

@@ -15,34 +15,34 @@ import (
 // A Reader reads a capture from another reader, in pieces of any sizes, and returns its normal text, or its lines. Read
 // returns io.EOF after those of a legal capture, and an [*Error], whose Written is nil, after those before a fault.
 //
-// It keeps the bytes of the message that is cut, and what one piece is written as.
+// It keeps the bytes of the message that is cut, and the output for one piece.
 type Reader struct {
-	from   io.Reader
-	limit  Limit
-	shown  *LineOptions // of lines; none for normal text
-	piece  []byte       // what was read, and isn't used yet
-	wanted int          // with fewer bytes than these no call writes anything
-	texts  []byte       // what is written of them
-	given  int          // how much of it was given
-	start  uint64       // of the piece, in bytes from the capture's start
-	err    error        // what is returned once the texts are given
-	buffer [16 << 10]byte
+	source     io.Reader
+	limit      Limit
+	options    *LineOptions // of lines; nil for normal text
+	piece      []byte       // bytes that were read, and aren't used yet
+	messageLen int          // if the piece is shorter, no call writes anything
+	output     []byte       // texts or lines that calls wrote
+	position   int          // the number of bytes of output that Read has returned
+	start      uint64       // the start of the piece, in bytes from the capture's start
+	err        error        // the error that Read returns after the output
+	buffer     [16 << 10]byte
 }
 
 // NewReader returns a Reader with DefaultLimit.
-func NewReader(from io.Reader) *Reader { return DefaultLimit.NewReader(from) }
+func NewReader(source io.Reader) *Reader { return DefaultLimit.NewReader(source) }
 
 // NewReader returns a Reader.
-func (l Limit) NewReader(from io.Reader) *Reader { return &Reader{from: from, limit: l} }
+func (l Limit) NewReader(source io.Reader) *Reader { return &Reader{source: source, limit: l} }
 
 // NewLineReader returns a Reader of lines, with DefaultLimit.
-func NewLineReader(from io.Reader, options LineOptions) *Reader {
-	return DefaultLimit.NewLineReader(from, options)
+func NewLineReader(source io.Reader, options LineOptions) *Reader {
+	return DefaultLimit.NewLineReader(source, options)
 }
 
 // NewLineReader returns a Reader of a capture's lines, as Lines returns them.
-func (l Limit) NewLineReader(from io.Reader, options LineOptions) *Reader {
-	return &Reader{from: from, limit: l, shown: &options}
+func (l Limit) NewLineReader(source io.Reader, options LineOptions) *Reader {
+	return &Reader{source: source, limit: l, options: &options}
 }
 
 // Read reads further bytes of the normal text, or of the lines.
@@ -50,7 +50,7 @@ func (r *Reader) Read(to []byte) (int, error) {
 	if len(to) == 0 {
 		return 0, nil
 	}
-	for emptyReads := 0; r.given == len(r.texts); {
+	for emptyReads := 0; r.position == len(r.output); {
 		if r.err != nil {
 			return 0, r.err
 		}
@@ -60,18 +60,18 @@ func (r *Reader) Read(to []byte) (int, error) {
 			}
 		}
 	}
-	n := copy(to, r.texts[r.given:])
-	r.given += n
+	n := copy(to, r.output[r.position:])
+	r.position += n
 	return n, nil
 }
 
-// readPiece reads once, and writes the messages that are whole. It reports whether anything came.
+// readPiece reads once from the source, and writes the messages that are whole. It reports whether it got bytes or an error.
 func (r *Reader) readPiece() bool {
-	n, err := r.from.Read(r.buffer[:])
+	n, err := r.source.Read(r.buffer[:])
 	r.piece = append(r.piece, r.buffer[:n]...)
-	r.texts, r.given = r.texts[:0], 0
+	r.output, r.position = r.output[:0], 0
 	isLast := err == io.EOF
-	if isLast || n > 0 && len(r.piece) >= r.wanted {
+	if isLast || n > 0 && len(r.piece) >= r.messageLen {
 		r.err = r.write(isLast)
 	}
 	if r.err == nil {
@@ -80,29 +80,29 @@ func (r *Reader) readPiece() bool {
 	return n > 0 || err != nil
 }
 
-// call writes the messages that are whole to the free bytes.
+// call writes the messages that are whole to the free bytes, and returns the status.
 func (r *Reader) call(rest []byte, isLast bool, free []byte, progress *C.struct_linkcap_progress,
 	fault *C.struct_linkcap_fault) C.uint32_t {
 	at, length, limit := address(rest), C.size_t(len(rest)), C.uint32_t(r.limit)
-	out, room := address(free), C.size_t(len(free))
-	if r.shown == nil {
-		return C.linkcap_normalize_some(at, length, C.bool(isLast), limit, out, room, progress, fault)
+	out, capacity := address(free), C.size_t(len(free))
+	if r.options == nil {
+		return C.linkcap_normalize_some(at, length, C.bool(isLast), limit, out, capacity, progress, fault)
 	}
-	return C.linkcap_show_some(at, length, C.bool(isLast), limit, C.bool(r.shown.WithoutNumbers), r.shown.types(),
-		C.size_t(len(r.shown.Only)), out, room, progress, fault)
+	return C.linkcap_show_some(at, length, C.bool(isLast), limit, C.bool(r.options.WithoutNumbers), r.options.types(),
+		C.size_t(len(r.options.Only)), out, capacity, progress, fault)
 }
 
 // write writes the messages that are whole, and drops their bytes.
 func (r *Reader) write(isLast bool) error {
-	used, room := 0, len(r.piece)+headerLen
+	used, capacity := 0, len(r.piece)+headerLen
 	for {
 		rest := r.piece[used:]
-		r.texts = reserve(r.texts, room)
-		free := r.texts[len(r.texts):cap(r.texts)]
+		r.output = reserve(r.output, capacity)
+		free := r.output[len(r.output):cap(r.output)]
 		var progress C.struct_linkcap_progress
 		var fault C.struct_linkcap_fault
 		status := r.call(rest, isLast, free, &progress, &fault)
-		r.texts = r.texts[:len(r.texts)+int(progress.written)]
+		r.output = r.output[:len(r.output)+int(progress.written)]
 		used += int(progress.used)
 		switch {
 		case status == C.LINKCAP_OK:
@@ -113,30 +113,30 @@ func (r *Reader) write(isLast bool) error {
 		case progress.wanted > math.MaxInt/2:
 			return ErrMemory
 		}
-		room = int(progress.wanted) + len(r.piece) - used
+		capacity = int(progress.wanted) + len(r.piece) - used
 	}
 }
 
-// drop drops what was used. The message that is left waits for its header, then for the length that this gives.
+// drop drops the used bytes. The next call waits until the header of the message that is left is there, then until all of it is.
 func (r *Reader) drop(used int) {
 	r.start += uint64(used)
 	if used > 0 {
 		r.piece = r.piece[:copy(r.piece, r.piece[used:])]
 	}
-	r.wanted = headerLen
+	r.messageLen = headerLen
 	if len(r.piece) >= headerLen {
-		r.wanted = int(binary.LittleEndian.Uint32(r.piece))
+		r.messageLen = int(binary.LittleEndian.Uint32(r.piece))
 	}
 }
 
-// failure returns the error of the message after those that were used, with offsets from the capture's start.
+// failure returns the error of the message after the used bytes, with offsets from the capture's start.
 func (r *Reader) failure(status C.uint32_t, fault C.struct_linkcap_fault, used int) error {
 	fault.offset = 0
 	err := failure(status, fault, r.piece[used:], nil, r.limit)
 	var e *Error
 	if errors.As(err, &e) {
 		e.Offset = r.start + uint64(used)
-		e.Why = e.Why.after(e.Offset)
+		e.Why = e.Why.shift(e.Offset)
 	}
 	return err
 }

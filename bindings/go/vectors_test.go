@@ -14,61 +14,61 @@ import (
 	"linkcap.invalid/linkcap"
 )
 
-// A vector is a stored case of crates/vectors, as docs/vectors.md describes it, and its answer.
+// A vector is a stored case of crates/vectors, as docs/vectors.md describes it, and its expected output.
 type vector struct {
 	limit    linkcap.Limit
-	choice   string // of the kind show, what is shown
+	choice   string // for the kind show, the lines that are selected
 	captures [][]byte
-	answer   string
+	output   string
 }
 
-var outcome = regexp.MustCompile(`^(legal|[a-z][a-z0-9 ]* at [0-9]+)\n$`)
+var outcomeLine = regexp.MustCompile(`^(legal|[a-z][a-z0-9 ]* at [0-9]+)\n$`)
 
-// vectorsOf returns the vectors of a kind. Answers are in the order of the cases, a line each; those of show, the last
-// kind, have several lines.
-func vectorsOf(t *testing.T, kind string) []vector {
+// readVectors returns the vectors of a kind. Outputs are in the order of the cases, a line each; those of show, the last kind,
+// have several lines.
+func readVectors(t *testing.T, kind string) []vector {
 	t.Helper()
-	lines := strings.Split(string(read(t, "crates/vectors/stdin")), "\n")
-	answers := strings.SplitAfter(string(read(t, "crates/vectors/stdout")), "\n")
-	var found []vector
+	lines := strings.Split(string(readFile(t, "crates/vectors/stdin")), "\n")
+	outputs := strings.SplitAfter(string(readFile(t, "crates/vectors/stdout")), "\n")
+	var vectors []vector
 	start, cases := 0, 0
 	for _, line := range lines {
-		words := strings.Split(line, " ")
-		if words[0] == "#" {
+		columns := strings.Split(line, " ")
+		if columns[0] == "#" {
 			continue
 		}
 		cases++
-		if words[0] == kind {
-			found = append(found, vectorOf(t, kind, words[1:]))
-			start = cases - len(found)
+		if columns[0] == kind {
+			vectors = append(vectors, parseVector(t, kind, columns[1:]))
+			start = cases - len(vectors)
 		}
 	}
-	if len(found) == 0 {
+	if len(vectors) == 0 {
 		t.Fatalf("no vectors of %s", kind)
 	}
 	if kind == "show" {
-		answers = joined(answers[start:])
+		outputs = joinLines(outputs[start:])
 	} else {
-		answers = answers[start:]
+		outputs = outputs[start:]
 	}
-	for i := range found {
-		found[i].answer = strings.TrimSuffix(answers[i], "\n")
+	for i := range vectors {
+		vectors[i].output = strings.TrimSuffix(outputs[i], "\n")
 	}
-	return found
+	return vectors
 }
 
-func vectorOf(t *testing.T, kind string, words []string) vector {
+func parseVector(t *testing.T, kind string, columns []string) vector {
 	t.Helper()
-	limit, err := strconv.ParseUint(words[0], 10, 32)
+	limit, err := strconv.ParseUint(columns[0], 10, 32)
 	if err != nil {
 		t.Fatal(err)
 	}
-	v, hexed := vector{limit: linkcap.Limit(limit)}, words[1:]
-	if kind == "show" && len(hexed) == 2 {
-		v.choice, hexed = hexed[0], hexed[1:]
+	v, captures := vector{limit: linkcap.Limit(limit)}, columns[1:]
+	if kind == "show" && len(captures) == 2 {
+		v.choice, captures = captures[0], captures[1:]
 	}
-	for _, word := range hexed {
-		capture, err := hex.DecodeString(word)
+	for _, digits := range captures {
+		capture, err := hex.DecodeString(digits)
 		if err != nil {
 			t.Fatal(err)
 		}
@@ -77,55 +77,55 @@ func vectorOf(t *testing.T, kind string, words []string) vector {
 	return v
 }
 
-// joined joins lines up to each capture's outcome.
-func joined(lines []string) []string {
-	var all []string
-	begun := ""
+// joinLines joins lines into the outputs of captures, each of which ends with an outcome line.
+func joinLines(lines []string) []string {
+	var outputs []string
+	output := ""
 	for _, line := range lines {
-		begun += line
-		if outcome.MatchString(line) {
-			all = append(all, begun)
-			begun = ""
+		output += line
+		if outcomeLine.MatchString(line) {
+			outputs = append(outputs, output)
+			output = ""
 		}
 	}
-	return all
+	return outputs
 }
 
 func (v vector) check(t *testing.T, got string) {
 	t.Helper()
-	if got != v.answer {
-		t.Errorf("%.200x: %.300q, want %.300q", v.captures, got, v.answer)
+	if got != v.output {
+		t.Errorf("%.200x: %.300q, want %.300q", v.captures, got, v.output)
 	}
 }
 
-// words returns what an error of a vector is, without the reason of a refusal.
-func words(t *testing.T, err error) string {
+// faultWords returns the words of an error, without the reason of a refusal.
+func faultWords(t *testing.T, err error) string {
 	t.Helper()
-	fault := *faultOf(t, err)
+	fault := *requireFault(t, err)
 	fault.Why = nil
 	return fault.Error()
 }
 
 func TestNormVectors(t *testing.T) {
-	for _, v := range vectorsOf(t, "norm") {
+	for _, v := range readVectors(t, "norm") {
 		capture := v.captures[0]
 		text, err := v.limit.Normalize(capture)
 		if err != nil {
-			text = faultOf(t, err).Written
-			v.check(t, fmt.Sprintf("%x %s", text, words(t, err)))
+			text = requireFault(t, err).Written
+			v.check(t, fmt.Sprintf("%x %s", text, faultWords(t, err)))
 		} else {
 			sizes, _ := v.limit.Measure(capture)
 			v.check(t, fmt.Sprintf("%x %d %d %d", text, sizes.Frames, sizes.Attributes, sizes.TextLen))
 		}
-		checkOthers(t, v, err)
+		checkOtherCalls(t, v, err)
 		for _, size := range []int{1, 7, 100} {
 			checkPieces(t, v, size, text, err)
 		}
 	}
 }
 
-// checkOthers calls what returns the same error as Normalize.
-func checkOthers(t *testing.T, v vector, want error) {
+// checkOtherCalls checks that other calls return the same error as Normalize.
+func checkOtherCalls(t *testing.T, v vector, want error) {
 	t.Helper()
 	_, measureErr := v.limit.Measure(v.captures[0])
 	messages, messagesErr := v.limit.Messages(v.captures[0])
@@ -168,11 +168,11 @@ func (c *chunks) Read(to []byte) (int, error) {
 }
 
 func TestSameVectors(t *testing.T) {
-	for _, v := range vectorsOf(t, "same") {
+	for _, v := range readVectors(t, "same") {
 		same, err := v.limit.Same(v.captures[0], v.captures[1])
 		switch {
 		case err != nil:
-			v.check(t, words(t, err))
+			v.check(t, faultWords(t, err))
 		case same:
 			v.check(t, "same")
 		default:
@@ -182,10 +182,10 @@ func TestSameVectors(t *testing.T) {
 	}
 }
 
-// checkWithoutNumbers compares with what the lines without numbers say.
+// checkWithoutNumbers compares the result of SameIgnoringNumbers with the lines without numbers.
 func checkWithoutNumbers(t *testing.T, v vector, same bool, want error) {
 	t.Helper()
-	ignoring, err := v.limit.SameIgnoringNumbers(v.captures[0], v.captures[1])
+	unnumbered, err := v.limit.SameIgnoringNumbers(v.captures[0], v.captures[1])
 	if fmt.Sprint(err) != fmt.Sprint(want) {
 		t.Errorf("%x: %v, want %v", v.captures, err, want)
 	}
@@ -194,34 +194,34 @@ func checkWithoutNumbers(t *testing.T, v vector, same bool, want error) {
 	}
 	one, _ := v.limit.Lines(v.captures[0], linkcap.LineOptions{WithoutNumbers: true})
 	other, _ := v.limit.Lines(v.captures[1], linkcap.LineOptions{WithoutNumbers: true})
-	if ignoring != (one == other) || same && !ignoring {
-		t.Errorf("%x: %v", v.captures, ignoring)
+	if unnumbered != (one == other) || same && !unnumbered {
+		t.Errorf("%x: %v", v.captures, unnumbered)
 	}
 }
 
 func TestQuirkVectors(t *testing.T) {
-	for _, v := range vectorsOf(t, "spelling") {
+	for _, v := range readVectors(t, "spelling") {
 		capture, end := v.captures[0], "legal"
 		if err := v.limit.Check(capture); err != nil {
 			if _, quirksErr := v.limit.Quirks(capture); fmt.Sprint(quirksErr) != fmt.Sprint(err) {
 				t.Errorf("%x: %v, want %v", capture, quirksErr, err)
 			}
-			capture, end = capture[:faultOf(t, err).Offset], words(t, err)
+			capture, end = capture[:requireFault(t, err).Offset], faultWords(t, err)
 		}
 		quirks, err := v.limit.Quirks(capture)
 		if err != nil {
 			t.Fatal(err)
 		}
-		shown := ""
+		listing := ""
 		for _, quirk := range quirks {
-			shown += quirk.String() + "; "
+			listing += quirk.String() + "; "
 		}
-		v.check(t, shown+end)
+		v.check(t, listing+end)
 	}
 }
 
 func TestRefusalVectors(t *testing.T) {
-	for _, v := range vectorsOf(t, "refusal") {
+	for _, v := range readVectors(t, "refusal") {
 		why, err := v.limit.Why(v.captures[0])
 		if err != nil {
 			t.Error(err)
@@ -237,32 +237,32 @@ func TestRefusalVectors(t *testing.T) {
 }
 
 func TestShowVectors(t *testing.T) {
-	for _, v := range vectorsOf(t, "show") {
-		shown, err := v.limit.Lines(v.captures[0], optionsOf(t, v.choice))
+	for _, v := range readVectors(t, "show") {
+		lines, err := v.limit.Lines(v.captures[0], parseOptions(t, v.choice))
 		if err != nil {
-			v.check(t, string(faultOf(t, err).Written)+words(t, err))
+			v.check(t, string(requireFault(t, err).Written)+faultWords(t, err))
 		} else {
-			v.check(t, shown+"legal")
+			v.check(t, lines+"legal")
 		}
 		for _, size := range []int{1, 7, 100} {
-			read, readErr := io.ReadAll(v.limit.NewLineReader(&chunks{v.captures[0], size}, optionsOf(t, v.choice)))
+			got, readErr := io.ReadAll(v.limit.NewLineReader(&chunks{v.captures[0], size}, parseOptions(t, v.choice)))
 			if readErr != nil {
-				v.check(t, string(read)+words(t, readErr))
+				v.check(t, string(got)+faultWords(t, readErr))
 			} else {
-				v.check(t, string(read)+"legal")
+				v.check(t, string(got)+"legal")
 			}
 		}
 	}
 }
 
-func optionsOf(t *testing.T, choice string) linkcap.LineOptions {
+func parseOptions(t *testing.T, choice string) linkcap.LineOptions {
 	t.Helper()
 	if choice == "" || choice == "without-numbers" {
 		return linkcap.LineOptions{WithoutNumbers: choice != ""}
 	}
 	var options linkcap.LineOptions
-	for _, word := range strings.Split(choice, ",") {
-		kind, err := strconv.ParseUint(word, 10, 16)
+	for _, digits := range strings.Split(choice, ",") {
+		kind, err := strconv.ParseUint(digits, 10, 16)
 		if err != nil {
 			t.Fatal(err)
 		}

@@ -1,10 +1,10 @@
 /*
- * What callers meet at the edges: nothing at all, null, a limit under 16, a buffer one byte too short, a capture cut at each
- * byte, each request for memory refused, eight threads at once.
+ * Tests edge cases of the calls: an empty capture, null, a limit under 16, a buffer one byte too short, a capture cut at each
+ * byte, a failure of each allocation, eight threads at once.
  *
  *     edges CAPTURE ..
  *
- * Each CAPTURE is a file that is its own normal text. Built with -Wl,--wrap=malloc,--wrap=realloc,--wrap=free.
+ * Each CAPTURE is a file that is already canonical. Built with -Wl,--wrap=malloc,--wrap=realloc,--wrap=free.
  */
 #include <assert.h>
 #include <inttypes.h>
@@ -19,30 +19,30 @@
 
 static const uint32_t limit = LINKCAP_DEFAULT_LIMIT;
 
-/* ---- memory that is refused */
+/* ---- allocations that fail */
 
 void *__real_malloc(size_t size);
 void *__real_realloc(void *block, size_t size);
 void __real_free(void *block);
 
-static _Thread_local long refused; /* the request that is refused, counted from 1; 0 for none */
+static _Thread_local long failing_request; /* the number of the request that fails, from 1; 0 for no failure */
 static _Thread_local long requests, blocks;
 
-static int is_refused(void)
+static int should_fail(void)
 {
-    return ++requests == refused;
+    return ++requests == failing_request;
 }
 
 void *__wrap_malloc(size_t size)
 {
-    void *block = is_refused() ? NULL : __real_malloc(size);
+    void *block = should_fail() ? NULL : __real_malloc(size);
     blocks += block != NULL;
     return block;
 }
 
 void *__wrap_realloc(void *block, size_t size)
 {
-    if (is_refused())
+    if (should_fail())
         return NULL;
     void *moved = __real_realloc(block, size);
     blocks += block == NULL && moved != NULL;
@@ -75,8 +75,8 @@ static struct bytes read_file(const char *name)
     return bytes;
 }
 
-/* The start of the message in which `cut` bytes of a legal capture end, or `cut` if they end after one. */
-static size_t frame_at(struct bytes capture, size_t cut)
+/* Returns the start of the message that is cut in the first `cut` bytes of a legal capture, or `cut` if none is. */
+static size_t find_frame(struct bytes capture, size_t cut)
 {
     size_t at = 0;
     while (at < cut) {
@@ -96,38 +96,38 @@ static int is_untouched(const uint8_t *from, const uint8_t *to)
     return 1;
 }
 
-/* ---- the tests */
+/* ---- tests */
 
 static void test_nothing(void)
 {
-    uint8_t none[1] = {UNTOUCHED}, out[1] = {UNTOUCHED};
+    uint8_t empty[1] = {UNTOUCHED}, out[1] = {UNTOUCHED};
     uint64_t length = 7;
     struct linkcap_fault fault;
     struct linkcap_sizes sizes;
     struct linkcap_progress progress;
     assert(linkcap_version() == LINKCAP_VERSION && linkcap_format() == LINKCAP_FORMAT);
-    assert(linkcap_check(none, 0, limit, &fault) == LINKCAP_OK);
-    assert(linkcap_measure(none, 0, limit, &sizes, &fault) == LINKCAP_OK);
+    assert(linkcap_check(empty, 0, limit, &fault) == LINKCAP_OK);
+    assert(linkcap_measure(empty, 0, limit, &sizes, &fault) == LINKCAP_OK);
     assert(sizes.frames == 0 && sizes.attributes == 0 && sizes.text_low == 0 && sizes.text_high == 0);
-    assert(linkcap_normalize(none, 0, limit, out, 0, &length, &fault) == LINKCAP_OK && length == 0);
+    assert(linkcap_normalize(empty, 0, limit, out, 0, &length, &fault) == LINKCAP_OK && length == 0);
     length = 7;
-    assert(linkcap_show(none, 0, limit, out, 0, &length, &fault) == LINKCAP_OK && length == 0);
-    assert(linkcap_same(none, 0, out, 0, limit, &fault) == LINKCAP_OK);
+    assert(linkcap_show(empty, 0, limit, out, 0, &length, &fault) == LINKCAP_OK && length == 0);
+    assert(linkcap_same(empty, 0, out, 0, limit, &fault) == LINKCAP_OK);
     for (int last = 0; last < 2; last++) {
-        assert(linkcap_normalize_some(none, 0, last, limit, out, 0, &progress, &fault) == LINKCAP_OK);
+        assert(linkcap_normalize_some(empty, 0, last, limit, out, 0, &progress, &fault) == LINKCAP_OK);
         assert(progress.used == 0 && progress.written == 0 && progress.wanted == 0);
     }
-    assert(none[0] == UNTOUCHED && out[0] == UNTOUCHED);
+    assert(empty[0] == UNTOUCHED && out[0] == UNTOUCHED);
 }
 
-/* Null for each capture, piece, list of types and buffer whose length is 0. */
+/* Passes null for each capture, piece, list of types and buffer whose length is 0. */
 static void test_null(struct bytes capture)
 {
     struct linkcap_fault fault;
     struct linkcap_sizes sizes;
     struct linkcap_progress progress;
     struct linkcap_message message;
-    uint64_t length = 7, place;
+    uint64_t length = 7, offset;
     assert(linkcap_check(NULL, 0, limit, &fault) == LINKCAP_OK);
     assert(linkcap_measure(NULL, 0, limit, &sizes, &fault) == LINKCAP_OK && sizes.frames == 0 && sizes.text_low == 0);
     assert(linkcap_normalize(NULL, 0, limit, NULL, 0, &length, &fault) == LINKCAP_OK && length == 0);
@@ -135,7 +135,7 @@ static void test_null(struct bytes capture)
     assert(linkcap_show(NULL, 0, limit, NULL, 0, &length, &fault) == LINKCAP_OK && length == 0);
     length = 7;
     assert(linkcap_show_with(NULL, 0, limit, true, NULL, 0, NULL, 0, &length, &fault) == LINKCAP_OK && length == 0);
-    assert(linkcap_why(NULL, 0, limit, NULL, 0, &length, &place) == LINKCAP_NONE && length == 0 && place == UINT64_MAX);
+    assert(linkcap_why(NULL, 0, limit, NULL, 0, &length, &offset) == LINKCAP_NONE && length == 0 && offset == UINT64_MAX);
     length = 7;
     assert(linkcap_quirks(NULL, 0, limit, NULL, 0, &length, &fault) == LINKCAP_OK && length == 0);
     assert(linkcap_next_message(NULL, 0, limit, 0, &message, &fault) == LINKCAP_NONE);
@@ -197,23 +197,23 @@ static void test_limit_of_15(struct bytes capture)
     assert(linkcap_check(done, sizeof done, 16, &fault) == LINKCAP_FAULT);
 }
 
-typedef uint32_t writes(const uint8_t *, size_t, uint32_t, uint8_t *, size_t, uint64_t *, struct linkcap_fault *);
+typedef uint32_t writer(const uint8_t *, size_t, uint32_t, uint8_t *, size_t, uint64_t *, struct linkcap_fault *);
 
-/* Each capacity from none to what is wanted and a byte more; `step` leaves some out of long texts. */
-static void test_room(writes *call, struct bytes capture, size_t cut, uint32_t status, size_t step)
+/* Each capacity from 0 to the required one and a byte more; `step` leaves some out of long texts. */
+static void test_capacities(writer *call, struct bytes capture, size_t cut, uint32_t expected_status, size_t step)
 {
-    uint64_t wanted = 0, length;
+    uint64_t required = 0, length;
     struct linkcap_fault fault;
-    uint8_t none[1];
-    uint32_t first = call(capture.at, cut, limit, none, 0, &wanted, &fault);
-    assert(wanted == 0 ? first == status : first == LINKCAP_NO_ROOM);
-    uint8_t *out = __real_malloc(wanted + 1);
-    for (size_t room = 0; room <= wanted + 1; room += room + step < wanted ? step : 1) {
-        memset(out, UNTOUCHED, wanted + 1);
-        uint32_t answer = call(capture.at, cut, limit, out, room, &length, &fault);
-        assert(length == wanted);
-        assert(answer == (room < wanted ? LINKCAP_NO_ROOM : status));
-        assert(is_untouched(out + (room < wanted ? 0 : wanted), out + wanted + 1));
+    uint8_t empty[1];
+    uint32_t first_status = call(capture.at, cut, limit, empty, 0, &required, &fault);
+    assert(required == 0 ? first_status == expected_status : first_status == LINKCAP_NO_ROOM);
+    uint8_t *out = __real_malloc(required + 1);
+    for (size_t capacity = 0; capacity <= required + 1; capacity += capacity + step < required ? step : 1) {
+        memset(out, UNTOUCHED, required + 1);
+        uint32_t status = call(capture.at, cut, limit, out, capacity, &length, &fault);
+        assert(length == required);
+        assert(status == (capacity < required ? LINKCAP_NO_ROOM : expected_status));
+        assert(is_untouched(out + (capacity < required ? 0 : required), out + required + 1));
     }
     __real_free(out);
 }
@@ -222,116 +222,116 @@ static void test_cut_at_each_byte(struct bytes capture)
 {
     uint8_t *out = __real_malloc(capture.length);
     for (size_t cut = 0; cut <= capture.length; cut++) {
-        size_t whole = frame_at(capture, cut);
-        uint32_t status = whole == cut ? LINKCAP_OK : LINKCAP_FAULT;
+        size_t frame = find_frame(capture, cut);
+        uint32_t status = frame == cut ? LINKCAP_OK : LINKCAP_FAULT;
         uint64_t length;
         struct linkcap_fault fault;
         struct linkcap_progress progress;
-        /* what follows the last message is padding, of which the text has all */
-        size_t text = whole == cut ? (cut + 3) / 4 * 4 : whole;
+        /* the text has the whole padding of the last message, even if it is cut */
+        size_t text_length = frame == cut ? (cut + 3) / 4 * 4 : frame;
         uint8_t *piece = __real_malloc(cut ? cut : 1);
         memcpy(piece, capture.at, cut);
         assert(linkcap_normalize(piece, cut, limit, out, capture.length, &length, &fault) == status);
-        assert(length == text && memcmp(out, capture.at, text) == 0);
-        assert(status == LINKCAP_OK || (fault.kind == LINKCAP_CUT && fault.side == 0 && fault.offset == whole));
+        assert(length == text_length && memcmp(out, capture.at, text_length) == 0);
+        assert(status == LINKCAP_OK || (fault.kind == LINKCAP_CUT && fault.side == 0 && fault.offset == frame));
         assert(linkcap_check(piece, cut, limit, &fault) == status);
-        assert(status == LINKCAP_OK || (fault.kind == LINKCAP_CUT && fault.side == 0 && fault.offset == whole));
+        assert(status == LINKCAP_OK || (fault.kind == LINKCAP_CUT && fault.side == 0 && fault.offset == frame));
         assert(linkcap_normalize_some(piece, cut, true, limit, out, capture.length, &progress, &fault) == status);
-        assert(progress.written == text && progress.used == whole && memcmp(out, capture.at, text) == 0);
-        assert(status == LINKCAP_OK || (fault.kind == LINKCAP_CUT && fault.side == 0 && fault.offset == whole));
+        assert(progress.written == text_length && progress.used == frame && memcmp(out, capture.at, text_length) == 0);
+        assert(status == LINKCAP_OK || (fault.kind == LINKCAP_CUT && fault.side == 0 && fault.offset == frame));
         assert(linkcap_normalize_some(piece, cut, false, limit, out, capture.length, &progress, &fault) == LINKCAP_OK);
-        assert(progress.used % 4 == 0 && progress.used <= whole && progress.written == progress.used && progress.wanted == 0);
+        assert(progress.used % 4 == 0 && progress.used <= frame && progress.written == progress.used && progress.wanted == 0);
         assert(linkcap_same(piece, cut, capture.at, capture.length, limit, &fault)
-               == (status == LINKCAP_FAULT ? LINKCAP_FAULT : text == capture.length ? LINKCAP_OK : LINKCAP_DIFFERENT));
-        assert(status == LINKCAP_OK || (fault.kind == LINKCAP_CUT && fault.side == 1 && fault.offset == whole));
+               == (status == LINKCAP_FAULT ? LINKCAP_FAULT : text_length == capture.length ? LINKCAP_OK : LINKCAP_DIFFERENT));
+        assert(status == LINKCAP_OK || (fault.kind == LINKCAP_CUT && fault.side == 1 && fault.offset == frame));
         assert(linkcap_same(capture.at, capture.length, piece, cut, limit, &fault)
-               == (status == LINKCAP_FAULT ? LINKCAP_FAULT : text == capture.length ? LINKCAP_OK : LINKCAP_DIFFERENT));
-        assert(status == LINKCAP_OK || (fault.kind == LINKCAP_CUT && fault.side == 2 && fault.offset == whole));
+               == (status == LINKCAP_FAULT ? LINKCAP_FAULT : text_length == capture.length ? LINKCAP_OK : LINKCAP_DIFFERENT));
+        assert(status == LINKCAP_OK || (fault.kind == LINKCAP_CUT && fault.side == 2 && fault.offset == frame));
         __real_free(piece);
     }
     __real_free(out);
 }
 
-/* Refuses each request of a call in turn. Nothing is kept, and the result is out of memory or the one that it had. */
-static long test_refused(writes *call, struct bytes capture, size_t cut)
+/* Lets each allocation of a call fail in turn: no block leaks, and the call runs out of memory or returns its usual result. */
+static long test_failing_allocations(writer *call, struct bytes capture, size_t cut)
 {
-    uint64_t wanted = 0, length;
+    uint64_t required = 0, length;
     struct linkcap_fault fault;
-    size_t room = 8 * capture.length + 4096;
-    uint8_t *expected = __real_malloc(room), *out = __real_malloc(room);
-    uint32_t status = call(capture.at, cut, limit, expected, room, &wanted, &fault);
-    long lacking = 0;
-    assert(status == LINKCAP_OK || status == LINKCAP_FAULT);
-    for (refused = 1, requests = 1; requests >= refused; refused++) {
+    size_t capacity = 8 * capture.length + 4096;
+    uint8_t *expected = __real_malloc(capacity), *out = __real_malloc(capacity);
+    uint32_t expected_status = call(capture.at, cut, limit, expected, capacity, &required, &fault);
+    long failures = 0;
+    assert(expected_status == LINKCAP_OK || expected_status == LINKCAP_FAULT);
+    for (failing_request = 1, requests = 1; requests >= failing_request; failing_request++) {
         requests = blocks = 0;
-        memset(out, UNTOUCHED, room);
-        uint32_t answer = call(capture.at, cut, limit, out, room, &length, &fault);
+        memset(out, UNTOUCHED, capacity);
+        uint32_t status = call(capture.at, cut, limit, out, capacity, &length, &fault);
         assert(blocks == 0);
-        if (answer == LINKCAP_NO_MEMORY) {
-            lacking++;
+        if (status == LINKCAP_NO_MEMORY) {
+            failures++;
             assert(fault.kind == LINKCAP_MEMORY && fault.offset < cut && fault.offset % 4 == 0);
-            assert(is_untouched(out, out + room));
+            assert(is_untouched(out, out + capacity));
         } else {
-            assert(answer == status && length == wanted && memcmp(out, expected, wanted) == 0);
+            assert(status == expected_status && length == required && memcmp(out, expected, required) == 0);
         }
     }
-    refused = 0;
+    failing_request = 0;
     __real_free(expected);
     __real_free(out);
-    return lacking;
+    return failures;
 }
 
-static uint32_t by_some(const uint8_t *capture, size_t length, uint32_t most, uint8_t *out, size_t room,
-                        uint64_t *written, struct linkcap_fault *fault)
+static uint32_t normalize_in_pieces(const uint8_t *capture, size_t length, uint32_t max_length, uint8_t *out, size_t capacity,
+                                    uint64_t *written, struct linkcap_fault *fault)
 {
     struct linkcap_progress progress;
-    uint32_t status = linkcap_normalize_some(capture, length, true, most, out, room, &progress, fault);
+    uint32_t status = linkcap_normalize_some(capture, length, true, max_length, out, capacity, &progress, fault);
     *written = progress.written;
-    if (status == LINKCAP_NO_MEMORY) /* what came before is written: the test asks for nothing */
+    if (status == LINKCAP_NO_MEMORY) /* the test expects no output, but texts before the failure are written */
         memset(out, UNTOUCHED, progress.written);
     return status;
 }
 
-static uint32_t show_by_some(const uint8_t *capture, size_t length, uint32_t most, uint8_t *out, size_t room,
-                             uint64_t *written, struct linkcap_fault *fault)
+static uint32_t show_in_pieces(const uint8_t *capture, size_t length, uint32_t max_length, uint8_t *out, size_t capacity,
+                               uint64_t *written, struct linkcap_fault *fault)
 {
     struct linkcap_progress progress;
-    uint32_t status = linkcap_show_some(capture, length, true, most, true, NULL, 0, out, room, &progress, fault);
+    uint32_t status = linkcap_show_some(capture, length, true, max_length, true, NULL, 0, out, capacity, &progress, fault);
     *written = progress.written;
-    if (status == LINKCAP_NO_MEMORY) /* what came before is written: the test asks for nothing */
+    if (status == LINKCAP_NO_MEMORY) /* the test expects no output, but texts before the failure are written */
         memset(out, UNTOUCHED, progress.written);
     return status;
 }
 
-/* linkcap_why in the form of the calls that write: out of memory is returned at 0, as there is a fault. */
-static uint32_t why(const uint8_t *capture, size_t length, uint32_t most, uint8_t *out, size_t room, uint64_t *written,
-                    struct linkcap_fault *fault)
+/* linkcap_why with the signature of a `writer`. It sets the fault that an out-of-memory result has, at offset 0. */
+static uint32_t why(const uint8_t *capture, size_t length, uint32_t max_length, uint8_t *out, size_t capacity,
+                    uint64_t *written, struct linkcap_fault *fault)
 {
-    uint64_t place;
+    uint64_t offset;
     *fault = (struct linkcap_fault){LINKCAP_MEMORY, 0, 0};
-    return linkcap_why(capture, length, most, out, room, written, &place);
+    return linkcap_why(capture, length, max_length, out, capacity, written, &offset);
 }
 
 /* A link whose IFLA_MTU has 3 bytes. */
 static long test_why(void)
 {
     static const char words[] = "IFLA_MTU: a payload of 3 bytes at 32";
-    uint8_t link[40] = {40, 0, 0, 0, 16}, none[1] = {UNTOUCHED}, out[64];
+    uint8_t link[40] = {40, 0, 0, 0, 16}, empty[1] = {UNTOUCHED}, out[64];
     struct bytes capture = {link, sizeof link};
-    uint64_t length = 7, place = 7;
+    uint64_t length = 7, offset = 7;
     link[32] = 7;
     link[34] = 4;
-    assert(linkcap_why(link, sizeof link, limit, out, sizeof out, &length, &place) == LINKCAP_OK);
-    assert(length == strlen(words) && memcmp(out, words, length) == 0 && place == 32);
-    assert(linkcap_why(link, sizeof link, 15, none, 1, &length, &place) == LINKCAP_WRONG);
-    assert(length == strlen(words) && place == 32);
-    assert(linkcap_why(link, sizeof link - 1, limit, none, 1, &length, &place) == LINKCAP_NONE);
-    assert(length == 0 && place == UINT64_MAX);
-    length = place = 7;
-    assert(linkcap_why(none, 0, limit, none, 0, &length, &place) == LINKCAP_NONE && length == 0 && place == UINT64_MAX);
-    assert(none[0] == UNTOUCHED);
-    test_room(why, capture, capture.length, LINKCAP_OK, 1);
-    return test_refused(why, capture, capture.length);
+    assert(linkcap_why(link, sizeof link, limit, out, sizeof out, &length, &offset) == LINKCAP_OK);
+    assert(length == strlen(words) && memcmp(out, words, length) == 0 && offset == 32);
+    assert(linkcap_why(link, sizeof link, 15, empty, 1, &length, &offset) == LINKCAP_WRONG);
+    assert(length == strlen(words) && offset == 32);
+    assert(linkcap_why(link, sizeof link - 1, limit, empty, 1, &length, &offset) == LINKCAP_NONE);
+    assert(length == 0 && offset == UINT64_MAX);
+    length = offset = 7;
+    assert(linkcap_why(empty, 0, limit, empty, 0, &length, &offset) == LINKCAP_NONE && length == 0 && offset == UINT64_MAX);
+    assert(empty[0] == UNTOUCHED);
+    test_capacities(why, capture, capture.length, LINKCAP_OK, 1);
+    return test_failing_allocations(why, capture, capture.length);
 }
 
 /* Two messages whose header of a link has 1 in its second byte: row 11 of docs/kernels.md. */
@@ -339,27 +339,27 @@ static void test_quirks(void)
 {
     static const char words[] = "second byte of the header of RTM_GETLINK at 17";
     uint8_t links[64] = {[0] = 32, [4] = 18, [17] = 1, [32] = 32, [36] = 18, [49] = 1}, out[LINKCAP_FAULT_TEXT];
-    struct linkcap_quirk found[3];
+    struct linkcap_quirk quirks[3];
     struct linkcap_fault fault;
     uint64_t count, length;
-    memset(found, UNTOUCHED, sizeof found);
-    assert(linkcap_quirks(links, sizeof links, limit, found, 1, &count, &fault) == LINKCAP_NO_ROOM && count == 2);
-    assert(is_untouched((uint8_t *)found, (uint8_t *)(found + 3)));
-    assert(linkcap_quirks(links, sizeof links, limit, found, 3, &count, &fault) == LINKCAP_OK && count == 2);
-    assert(found[0].kind == LINKCAP_HEADER_BYTE && found[0].offset == 17 && found[1].offset == 49);
-    assert(is_untouched((uint8_t *)(found + 2), (uint8_t *)(found + 3)));
-    assert(linkcap_quirks(links, sizeof links - 1, limit, found, 3, &count, &fault) == LINKCAP_FAULT && count == 1);
+    memset(quirks, UNTOUCHED, sizeof quirks);
+    assert(linkcap_quirks(links, sizeof links, limit, quirks, 1, &count, &fault) == LINKCAP_NO_ROOM && count == 2);
+    assert(is_untouched((uint8_t *)quirks, (uint8_t *)(quirks + 3)));
+    assert(linkcap_quirks(links, sizeof links, limit, quirks, 3, &count, &fault) == LINKCAP_OK && count == 2);
+    assert(quirks[0].kind == LINKCAP_HEADER_BYTE && quirks[0].offset == 17 && quirks[1].offset == 49);
+    assert(is_untouched((uint8_t *)(quirks + 2), (uint8_t *)(quirks + 3)));
+    assert(linkcap_quirks(links, sizeof links - 1, limit, quirks, 3, &count, &fault) == LINKCAP_FAULT && count == 1);
     assert(fault.kind == LINKCAP_CUT && fault.offset == 32);
-    assert(linkcap_quirk_text(&found[0], out, sizeof out, &length) == LINKCAP_OK);
+    assert(linkcap_quirk_text(&quirks[0], out, sizeof out, &length) == LINKCAP_OK);
     assert(length == strlen(words) && memcmp(out, words, length) == 0);
-    assert(linkcap_quirk_text(&found[0], out, length - 1, &length) == LINKCAP_NO_ROOM && length == strlen(words));
-    found[0].kind = 0;
-    assert(linkcap_quirk_text(&found[0], out, sizeof out, &length) == LINKCAP_WRONG);
-    found[0].kind = LINKCAP_SHORT_MAP + 1;
-    assert(linkcap_quirk_text(&found[0], out, sizeof out, &length) == LINKCAP_WRONG);
+    assert(linkcap_quirk_text(&quirks[0], out, length - 1, &length) == LINKCAP_NO_ROOM && length == strlen(words));
+    quirks[0].kind = 0;
+    assert(linkcap_quirk_text(&quirks[0], out, sizeof out, &length) == LINKCAP_WRONG);
+    quirks[0].kind = LINKCAP_SHORT_MAP + 1;
+    assert(linkcap_quirk_text(&quirks[0], out, sizeof out, &length) == LINKCAP_WRONG);
 }
 
-/* Each byte of an NLMSG_ERROR in turn is another one: the numbers of its header and of the request's are the bytes 8 to 16 and
+/* Changes each byte of an NLMSG_ERROR in turn: the numbers of its header and of the request's are the bytes 8 to 16 and
  * 28 to 36 (netlink.h: struct nlmsgerr has its struct nlmsghdr after a code of 4 bytes). */
 static void test_numbers(void)
 {
@@ -379,7 +379,7 @@ static void test_numbers(void)
     assert(linkcap_same_ignoring_numbers(error, 39, other, 39, limit, &fault) == LINKCAP_FAULT && fault.side == 1);
 }
 
-/* Calls that allocate nothing. */
+/* Tests that these calls allocate nothing. */
 static void test_allocate_nothing(struct bytes capture)
 {
     struct linkcap_fault fault;
@@ -400,9 +400,9 @@ struct work {
     struct bytes capture, text, lines;
 };
 
-static void *run_thread(void *given)
+static void *run_thread(void *argument)
 {
-    struct work *work = given;
+    struct work *work = argument;
     struct linkcap_fault fault;
     uint64_t length;
     uint8_t *out = __real_malloc(work->lines.length + work->text.length);
@@ -421,10 +421,10 @@ static void test_threads(struct bytes capture)
 {
     pthread_t threads[8];
     struct linkcap_fault fault;
-    uint8_t none[1];
+    uint8_t empty[1];
     uint64_t length;
     struct work work = {capture, capture, {NULL, 0}};
-    assert(linkcap_show(capture.at, capture.length, limit, none, 0, &length, &fault) == LINKCAP_NO_ROOM);
+    assert(linkcap_show(capture.at, capture.length, limit, empty, 0, &length, &fault) == LINKCAP_NO_ROOM);
     work.lines = (struct bytes){__real_malloc(length), length};
     assert(linkcap_show(capture.at, capture.length, limit, work.lines.at, length, &length, &fault) == LINKCAP_OK);
     for (int i = 0; i < 8; i++)
@@ -453,40 +453,40 @@ static void test_words(void)
         assert(linkcap_fault_text(&cases[i].fault, words, length - 1, &length) == LINKCAP_NO_ROOM);
         assert(length == strlen(cases[i].words));
     }
-    static const struct linkcap_fault none[] = {{0, 0, 0}, {13, 0, 0}, {LINKCAP_CUT, 3, 0}};
-    for (size_t i = 0; i < sizeof none / sizeof none[0]; i++)
-        assert(linkcap_fault_text(&none[i], words, sizeof words, &length) == LINKCAP_WRONG);
+    static const struct linkcap_fault invalid[] = {{0, 0, 0}, {13, 0, 0}, {LINKCAP_CUT, 3, 0}};
+    for (size_t i = 0; i < sizeof invalid / sizeof invalid[0]; i++)
+        assert(linkcap_fault_text(&invalid[i], words, sizeof words, &length) == LINKCAP_WRONG);
 }
 
 int main(int argc, char **argv)
 {
-    long lacking = 0;
+    long failures = 0;
     test_nothing();
     test_words();
-    lacking += test_why();
+    failures += test_why();
     test_quirks();
     test_numbers();
     for (int i = 1; i < argc; i++) {
         struct bytes capture = read_file(argv[i]);
-        size_t in_the_last = capture.length - 8;
+        size_t last_cut = capture.length - 8;
         test_limit_of_15(capture);
         test_null(capture);
-        test_room(linkcap_normalize, capture, capture.length, LINKCAP_OK, 1 + capture.length / 500);
-        test_room(linkcap_normalize, capture, in_the_last, LINKCAP_FAULT, 1 + capture.length / 500);
-        test_room(linkcap_show, capture, capture.length, LINKCAP_OK, 1 + capture.length / 100);
-        test_room(linkcap_show, capture, in_the_last, LINKCAP_FAULT, 1 + capture.length / 100);
+        test_capacities(linkcap_normalize, capture, capture.length, LINKCAP_OK, 1 + capture.length / 500);
+        test_capacities(linkcap_normalize, capture, last_cut, LINKCAP_FAULT, 1 + capture.length / 500);
+        test_capacities(linkcap_show, capture, capture.length, LINKCAP_OK, 1 + capture.length / 100);
+        test_capacities(linkcap_show, capture, last_cut, LINKCAP_FAULT, 1 + capture.length / 100);
         if (capture.length < 2000)
             test_cut_at_each_byte(capture);
-        lacking += test_refused(linkcap_normalize, capture, capture.length);
-        lacking += test_refused(linkcap_normalize, capture, in_the_last);
-        lacking += test_refused(linkcap_show, capture, capture.length);
-        lacking += test_refused(linkcap_show, capture, in_the_last);
-        lacking += test_refused(by_some, capture, capture.length);
-        lacking += test_refused(show_by_some, capture, capture.length);
+        failures += test_failing_allocations(linkcap_normalize, capture, capture.length);
+        failures += test_failing_allocations(linkcap_normalize, capture, last_cut);
+        failures += test_failing_allocations(linkcap_show, capture, capture.length);
+        failures += test_failing_allocations(linkcap_show, capture, last_cut);
+        failures += test_failing_allocations(normalize_in_pieces, capture, capture.length);
+        failures += test_failing_allocations(show_in_pieces, capture, capture.length);
         test_allocate_nothing(capture);
         test_threads(capture);
         __real_free(capture.at);
     }
-    printf("edges: all as documented; out of memory %ld times\n", lacking);
+    printf("edges: all as documented; out of memory %ld times\n", failures);
     return 0;
 }

@@ -8,8 +8,8 @@ import (
 // context is the number of lines that are shown around a difference.
 const context = 3
 
-// mostCells bounds the table of the longest common subsequence. Longer differences are shown as a whole.
-const mostCells = 4 << 20
+// maxCells bounds the table of the longest common subsequence. Longer differences are shown as a whole.
+const maxCells = 4 << 20
 
 // A diffLine is a line with ' ' if both texts have it, '-' if the first does and '+' if the second does.
 type diffLine struct {
@@ -18,40 +18,41 @@ type diffLine struct {
 }
 
 // Diff returns the lines of two texts that differ, marked by - and +, with the lines around them and the first line of
-// their message.
+// each such message.
 func Diff(first, second, a, b string) string {
 	all := align(strings.SplitAfter(a, "\n"), strings.SplitAfter(b, "\n"))
-	isShown := shownLines(all)
+	isSelected := selectLines(all)
 	var out strings.Builder
 	fmt.Fprintf(&out, "--- %s\n+++ %s\n", first, second)
 	for i, line := range all {
 		switch {
-		case isShown[i] && strings.HasSuffix(line.text, "\n"):
+		case isSelected[i] && strings.HasSuffix(line.text, "\n"):
 			fmt.Fprintf(&out, "%c%s", line.mark, line.text)
-		case isShown[i] && line.text != "":
+		case isSelected[i] && line.text != "":
 			fmt.Fprintf(&out, "%c%s\n\\ No newline at end of file\n", line.mark, line.text)
-		case i > 0 && isShown[i-1] && line.text != "":
+		case i > 0 && isSelected[i-1] && line.text != "":
 			out.WriteString("@@\n")
 		}
 	}
 	return out.String()
 }
 
-// align pairs equal lines: those that both texts begin and end with, and of the others a longest common subsequence.
+// align pairs equal lines: those of the longest common prefix and suffix, and a longest common subsequence of the others.
 func align(a, b []string) []diffLine {
 	start := commonPrefix(a, b)
 	end := commonSuffix(a[start:], b[start:])
-	all := marked(nil, ' ', a[:start])
+	all := appendMarked(nil, ' ', a[:start])
 	x, y := a[start:len(a)-end], b[start:len(b)-end]
-	if len(x)*len(y) > mostCells {
-		all = marked(marked(all, '-', x), '+', y)
+	if len(x)*len(y) > maxCells {
+		all = appendMarked(appendMarked(all, '-', x), '+', y)
 	} else {
-		all = alignBy(all, x, y, commonLengths(x, y))
+		all = alignByLengths(all, x, y, commonLengths(x, y))
 	}
-	return marked(all, ' ', a[len(a)-end:])
+	return appendMarked(all, ' ', a[len(a)-end:])
 }
 
-func marked(all []diffLine, mark byte, lines []string) []diffLine {
+// appendMarked appends lines with a mark.
+func appendMarked(all []diffLine, mark byte, lines []string) []diffLine {
 	for _, line := range lines {
 		all = append(all, diffLine{mark, line})
 	}
@@ -84,21 +85,21 @@ func commonLengths(a, b []string) [][]int32 {
 	return table
 }
 
-func commonRow(line string, b []string, below []int32) []int32 {
+func commonRow(line string, b []string, next []int32) []int32 {
 	row := make([]int32, len(b)+1)
 	for j := len(b) - 1; j >= 0; j-- {
-		row[j] = below[j]
+		row[j] = next[j]
 		if row[j+1] > row[j] {
 			row[j] = row[j+1]
 		}
 		if line == b[j] {
-			row[j] = below[j+1] + 1
+			row[j] = next[j+1] + 1
 		}
 	}
 	return row
 }
 
-func alignBy(all []diffLine, a, b []string, lengths [][]int32) []diffLine {
+func alignByLengths(all []diffLine, a, b []string, lengths [][]int32) []diffLine {
 	i, j := 0, 0
 	for i < len(a) || j < len(b) {
 		switch {
@@ -116,26 +117,26 @@ func alignBy(all []diffLine, a, b []string, lengths [][]int32) []diffLine {
 	return all
 }
 
-// shownLines marks the lines near a difference, and the first line of its message, which isn't indented.
-func shownLines(all []diffLine) []bool {
-	isShown := make([]bool, len(all))
+// selectLines selects the lines near a difference, and the first line of its message, which isn't indented.
+func selectLines(all []diffLine) []bool {
+	isSelected := make([]bool, len(all))
 	message, lastDifference := 0, -context-1
 	for i, line := range all {
 		if !strings.HasPrefix(line.text, " ") && line.text != "" {
 			message = i
 		}
 		if line.mark != ' ' {
-			isShown[message] = true
-			showFrom(isShown, i-context, i)
+			isSelected[message] = true
+			selectRange(isSelected, i-context, i)
 			lastDifference = i
 		}
-		isShown[i] = isShown[i] || i-lastDifference <= context
+		isSelected[i] = isSelected[i] || i-lastDifference <= context
 	}
-	return isShown
+	return isSelected
 }
 
-func showFrom(isShown []bool, from, to int) {
+func selectRange(isSelected []bool, from, to int) {
 	for i := to; i >= from && i >= 0; i-- {
-		isShown[i] = true
+		isSelected[i] = true
 	}
 }

@@ -25,7 +25,7 @@ import (
 
 var update = flag.Bool("linkcap.update", false, "write the golden files of linkcaptest.Golden")
 
-var firstLine = regexp.MustCompile(`^# linkcap lines, format ([0-9]+)\r?\n`)
+var versionLine = regexp.MustCompile(`^# linkcap lines, format ([0-9]+)\r?\n`)
 
 // Golden compares a capture's lines with those of a file, without sequence and port numbers, and fails with a diff if
 // they differ. It stops the test at a fault, at an empty capture, and if the file can't be read or written.
@@ -39,15 +39,15 @@ func Golden(t testing.TB, capture []byte, path string) {
 // GoldenLines is Golden with lines of the caller's choice.
 func GoldenLines(t testing.TB, capture []byte, path string, options linkcap.LineOptions) {
 	t.Helper()
-	shown, err := linkcap.Lines(capture, options)
+	lines, err := linkcap.Lines(capture, options)
 	if err != nil {
 		t.Fatalf("linkcap: %v", err)
 	}
-	if shown == "" {
+	if lines == "" {
 		t.Fatalf("linkcap: the capture is empty, or has no message of these types")
 	}
 	if *update {
-		if err := write(path, fmt.Sprintf("# linkcap lines, format %d\n%s", linkcap.Format, shown)); err != nil {
+		if err := write(path, fmt.Sprintf("# linkcap lines, format %d\n%s", linkcap.Format, lines)); err != nil {
 			t.Fatalf("linkcap: %v", err)
 		}
 		return
@@ -59,8 +59,8 @@ func GoldenLines(t testing.TB, capture []byte, path string, options linkcap.Line
 	if err != nil {
 		t.Fatalf("linkcap: %v", err)
 	}
-	if version, expected := parse(string(text)); expected != shown {
-		t.Errorf("linkcap: %s", difference(path, version, expected, shown))
+	if version, expected := parse(string(text)); expected != lines {
+		t.Errorf("linkcap: %s", describeDifference(path, version, expected, lines))
 	}
 }
 
@@ -75,9 +75,9 @@ func Same(t testing.TB, got, want []byte) {
 		return
 	}
 	// Both are legal.
-	wanted, _ := linkcap.Lines(want, linkcap.LineOptions{})
-	found, _ := linkcap.Lines(got, linkcap.LineOptions{})
-	t.Errorf("linkcap: the captures don't mean the same\n%s", Diff("want", "got", wanted, found))
+	wantLines, _ := linkcap.Lines(want, linkcap.LineOptions{})
+	gotLines, _ := linkcap.Lines(got, linkcap.LineOptions{})
+	t.Errorf("linkcap: the captures don't mean the same\n%s", Diff("want", "got", wantLines, gotLines))
 }
 
 func write(path, text string) error {
@@ -89,7 +89,7 @@ func write(path, text string) error {
 
 // parse returns the format version that a golden file names, or 0, and its lines.
 func parse(text string) (int, string) {
-	first := firstLine.FindStringSubmatch(text)
+	first := versionLine.FindStringSubmatch(text)
 	if first == nil {
 		return 0, text
 	}
@@ -100,9 +100,9 @@ func parse(text string) (int, string) {
 	return version, text[len(first[0]):]
 }
 
-// difference returns why a file isn't that of a capture.
-func difference(path string, version int, expected, shown string) string {
-	if strings.ReplaceAll(expected, "\r\n", "\n") == shown {
+// describeDifference describes how the lines of a capture differ from the lines of a golden file.
+func describeDifference(path string, version int, expected, lines string) string {
+	if strings.ReplaceAll(expected, "\r\n", "\n") == lines {
 		return path + " has the capture's lines, but ends them by CRLF: keep it as it was written, in git by a line" +
 			" `*.lines -text` of .gitattributes"
 	}
@@ -111,5 +111,5 @@ func difference(path string, version int, expected, shown string) string {
 		reason = fmt.Sprintf("%s has lines of format %d, and this linkcap writes format %d: update the file with the capture"+
 			" that it was made of (CHANGELOG.md)", path, version, linkcap.Format)
 	}
-	return reason + "\n" + Diff(path, "this capture", expected, shown)
+	return reason + "\n" + Diff(path, "this capture", expected, lines)
 }

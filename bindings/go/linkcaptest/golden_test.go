@@ -10,8 +10,8 @@ import (
 	"linkcap.invalid/linkcap"
 )
 
-// A fake is a test that notes how it failed.
-type fake struct {
+// A fakeTest is a test that records its failure.
+type fakeTest struct {
 	testing.TB
 	message string
 	stopped bool
@@ -20,19 +20,19 @@ type fake struct {
 
 type stop struct{}
 
-func (f *fake) Helper() {}
+func (f *fakeTest) Helper() {}
 
-func (f *fake) Errorf(format string, a ...any) { f.message += fmt.Sprintf(format, a...) }
+func (f *fakeTest) Errorf(format string, a ...any) { f.message += fmt.Sprintf(format, a...) }
 
-func (f *fake) Fatalf(format string, a ...any) {
+func (f *fakeTest) Fatalf(format string, a ...any) {
 	f.Errorf(format, a...)
 	f.stopped = true
 	panic(stop{})
 }
 
-// failureOf returns how a call fails, or a fake without a message.
-func failureOf(call func(testing.TB)) (f *fake) {
-	f = &fake{}
+// runFake returns the fake test after a call, with the message of its failure if it fails.
+func runFake(call func(testing.TB)) (f *fakeTest) {
+	f = &fakeTest{}
 	defer func() {
 		if r := recover(); r != nil && r != (stop{}) {
 			panic(r)
@@ -42,17 +42,17 @@ func failureOf(call func(testing.TB)) (f *fake) {
 	return f
 }
 
-func golden(capture []byte, path string) *fake {
-	return failureOf(func(t testing.TB) { Golden(t, capture, path) })
+func runGolden(capture []byte, path string) *fakeTest {
+	return runFake(func(t testing.TB) { Golden(t, capture, path) })
 }
 
-// link returns an RTM_NEWLINK with an IFLA_MTU of 1280 and `mtu` more, whose sequence number is `mtu`.
-func link(mtu byte) []byte {
+// makeLink returns an RTM_NEWLINK whose IFLA_MTU is 1280 + mtu and whose sequence number is mtu.
+func makeLink(mtu byte) []byte {
 	capture := append([]byte{0x28, 0, 0, 0, 0x10, 0, 5, 0, mtu, 9}, make([]byte, 22)...)
 	return append(capture, 8, 0, 4, 0, mtu, 5, 0, 0)
 }
 
-func written(t *testing.T, capture []byte) string {
+func writeGolden(t *testing.T, capture []byte) string {
 	t.Helper()
 	path := filepath.Join(t.TempDir(), "new", "a.lines")
 	*update = true
@@ -62,29 +62,29 @@ func written(t *testing.T, capture []byte) string {
 }
 
 func TestGolden(t *testing.T) {
-	path := written(t, link(1))
+	path := writeGolden(t, makeLink(1))
 	text, err := os.ReadFile(path)
 	if err != nil || !strings.HasPrefix(string(text), "# linkcap lines, format 2\nRTM_NEWLINK flags 0x5 ") {
 		t.Errorf("%v %q", err, text)
 	}
-	if f := golden(link(1), path); f.message != "" {
+	if f := runGolden(makeLink(1), path); f.message != "" {
 		t.Error(f.message)
 	}
-	renumbered := link(1)
+	renumbered := makeLink(1)
 	renumbered[9] = 8
-	if f := golden(renumbered, path); f.message != "" {
+	if f := runGolden(renumbered, path); f.message != "" {
 		t.Error(f.message)
 	}
-	f := golden(link(2), path)
+	f := runGolden(makeLink(2), path)
 	if f.stopped || !strings.Contains(f.message, "-  IFLA_MTU 1281\n+  IFLA_MTU 1282\n") {
 		t.Error(f.message)
 	}
-	if f := golden(link(1), path+".missing"); !f.stopped || !strings.Contains(f.message, "no golden file") {
+	if f := runGolden(makeLink(1), path+".missing"); !f.stopped || !strings.Contains(f.message, "no golden file") {
 		t.Error(f.message)
 	}
 }
 
-// TestLinesOfLinkshow takes files that linkshow writes, as the tests of Python do.
+// TestLinesOfLinkshow compares with files that linkshow wrote, as the tests of Python do.
 func TestLinesOfLinkshow(t *testing.T) {
 	for _, name := range []string{"get-veth", "lo-request", "notify-vrf", "req-veth"} {
 		path := filepath.Join("..", "..", "..", "samples", name)
@@ -93,27 +93,27 @@ func TestLinesOfLinkshow(t *testing.T) {
 			t.Fatal(err)
 		}
 		GoldenLines(t, capture, path+".lines", linkcap.LineOptions{})
-		if f := golden(capture, path+".lines"); f.message == "" {
+		if f := runGolden(capture, path+".lines"); f.message == "" {
 			t.Errorf("%s: lines without numbers are those with numbers", name)
 		}
 	}
 }
 
 func TestFaultsAndEmptyCaptures(t *testing.T) {
-	path := written(t, link(1))
-	refused := link(1)
-	refused[32], refused[39] = 7, 0
-	f := golden(refused, path)
+	path := writeGolden(t, makeLink(1))
+	request := makeLink(1)
+	request[32], request[39] = 7, 0
+	f := runGolden(request, path)
 	if f.message != "linkcap: refused body at 0: IFLA_MTU: a payload of 3 bytes at 32" {
 		t.Error(f.message)
 	}
-	if f := golden(nil, path); !f.stopped || !strings.Contains(f.message, "empty") {
+	if f := runGolden(nil, path); !f.stopped || !strings.Contains(f.message, "empty") {
 		t.Error(f.message)
 	}
 }
 
 func TestFiles(t *testing.T) {
-	path := written(t, link(1))
+	path := writeGolden(t, makeLink(1))
 	text, err := os.ReadFile(path)
 	if err != nil {
 		t.Fatal(err)
@@ -128,7 +128,7 @@ func TestFiles(t *testing.T) {
 		if err := os.WriteFile(path, []byte(c.text), 0o666); err != nil {
 			t.Fatal(err)
 		}
-		f := golden(link(1), path)
+		f := runGolden(makeLink(1), path)
 		if (f.message == "") != (c.message == "") || !strings.Contains(f.message, c.message) {
 			t.Errorf("%s: %q", c.name, f.message)
 		}
@@ -136,16 +136,16 @@ func TestFiles(t *testing.T) {
 }
 
 func TestSame(t *testing.T) {
-	padded := append(link(1), 0x14, 0, 0, 0, 1, 0, 0, 0, 1, 0, 0, 0, 0, 0, 0, 0, 1, 2, 3, 4)
-	shorter := append(link(1), 0x10, 0, 0, 0, 1, 0, 0, 0, 1, 0, 0, 0, 0, 0, 0, 0)
-	if f := failureOf(func(t testing.TB) { Same(t, padded, shorter) }); f.message != "" {
+	padded := append(makeLink(1), 0x14, 0, 0, 0, 1, 0, 0, 0, 1, 0, 0, 0, 0, 0, 0, 0, 1, 2, 3, 4)
+	shorter := append(makeLink(1), 0x10, 0, 0, 0, 1, 0, 0, 0, 1, 0, 0, 0, 0, 0, 0, 0)
+	if f := runFake(func(t testing.TB) { Same(t, padded, shorter) }); f.message != "" {
 		t.Error(f.message)
 	}
-	f := failureOf(func(t testing.TB) { Same(t, link(2), link(1)) })
+	f := runFake(func(t testing.TB) { Same(t, makeLink(2), makeLink(1)) })
 	if !strings.Contains(f.message, "-  IFLA_MTU 1281\n+  IFLA_MTU 1282\n") {
 		t.Error(f.message)
 	}
-	if f := failureOf(func(t testing.TB) { Same(t, link(2), link(1)[:20]) }); f.message != "linkcap: second: cut frame at 0" {
+	if f := runFake(func(t testing.TB) { Same(t, makeLink(2), makeLink(1)[:20]) }); f.message != "linkcap: second: cut frame at 0" {
 		t.Error(f.message)
 	}
 }

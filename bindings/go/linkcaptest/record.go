@@ -8,14 +8,14 @@ import (
 	"testing"
 )
 
-// notRecorded is linkrec's exit status if it can't record.
-const notRecorded = 125
+// cannotRecordStatus is linkrec's exit status if it can't record.
+const cannotRecordStatus = 125
 
 // Record returns the capture of the route messages that a command sends, its threads and child processes included. It runs
-// the command in a network namespace of its own, with the environment and the folder of cmd.
+// the command in a new network namespace, with the environment and the folder of cmd.
 //
 // The program linkrec records it, which has to be on the PATH, or named by LINKREC. The test is skipped if there is no
-// linkrec, or if it can't record here: it wants strace, and without root a kernel that allows user namespaces. The test
+// linkrec, or if it can't record here: it needs strace, and without root a kernel that allows user namespaces. The test
 // stops if the command fails.
 //
 //	linkcaptest.Golden(t, linkcaptest.Record(t, exec.Command("ip", "link", "add", "d0", "type", "dummy")), "testdata/d0.lines")
@@ -37,8 +37,8 @@ func Record(t testing.TB, cmd *exec.Cmd) []byte {
 	run := exec.Command(linkrec, append([]string{"run", "--netns", "-o", file, "--", cmd.Path}, cmd.Args[1:]...)...)
 	run.Env, run.Dir, run.Stdin = cmd.Env, cmd.Dir, cmd.Stdin
 	out, err := run.CombinedOutput()
-	var ended *exec.ExitError
-	if errors.As(err, &ended) && ended.ExitCode() == notRecorded {
+	var exitErr *exec.ExitError
+	if errors.As(err, &exitErr) && exitErr.ExitCode() == cannotRecordStatus {
 		t.Skipf("linkcap: nothing is recorded here: %s", out)
 	}
 	if err != nil {

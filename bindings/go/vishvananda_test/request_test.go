@@ -18,7 +18,7 @@ import (
 	"linkcap.invalid/linkcap/linkcaptest"
 )
 
-// newLink begins a request as netlink.LinkAdd does.
+// newLink returns the start of a request, as netlink.LinkAdd makes it.
 func newLink(name string) *nl.NetlinkRequest {
 	request := nl.NewNetlinkRequest(unix.RTM_NEWLINK, unix.NLM_F_CREATE|unix.NLM_F_EXCL|unix.NLM_F_ACK)
 	request.AddData(nl.NewIfInfomsg(unix.AF_UNSPEC))
@@ -26,7 +26,7 @@ func newLink(name string) *nl.NetlinkRequest {
 	return request
 }
 
-// linkInfo returns the data of a kind in an IFLA_LINKINFO.
+// linkInfo returns an IFLA_LINKINFO of a kind, and its empty IFLA_INFO_DATA.
 func linkInfo(kind string) (info, data *nl.RtAttr) {
 	info = nl.NewRtAttr(unix.IFLA_LINKINFO, nil)
 	info.AddRtAttr(nl.IFLA_INFO_KIND, nl.NonZeroTerminated(kind))
@@ -72,27 +72,27 @@ func TestPaddingMeansNothing(t *testing.T) {
 	linkcaptest.Same(t, other, one)
 }
 
-// withParent returns attributes of a link above the first one.
-func withParent(name string) netlink.LinkAttrs {
-	attributes := named(name)
+// makeChildAttributes returns attributes of a link whose parent is the first one.
+func makeChildAttributes(name string) netlink.LinkAttrs {
+	attributes := makeAttributes(name)
 	attributes.ParentIndex = 1
 	return attributes
 }
 
-func named(name string) netlink.LinkAttrs {
+func makeAttributes(name string) netlink.LinkAttrs {
 	attributes := netlink.NewLinkAttrs()
 	attributes.Name = name
 	return attributes
 }
 
 var links = map[string]netlink.Link{
-	"bridge":  &netlink.Bridge{LinkAttrs: named("br0")},
-	"dummy":   &netlink.Dummy{LinkAttrs: named("d0")},
-	"ipvlan":  &netlink.IPVlan{LinkAttrs: withParent("i0"), Mode: netlink.IPVLAN_MODE_L2},
-	"macvlan": &netlink.Macvlan{LinkAttrs: withParent("m0"), Mode: netlink.MACVLAN_MODE_BRIDGE},
-	"veth":    &netlink.Veth{LinkAttrs: named("v0"), PeerName: "v1"},
-	"vlan":    &netlink.Vlan{LinkAttrs: withParent("e0.5"), VlanId: 5, VlanProtocol: netlink.VLAN_PROTOCOL_8021Q},
-	"vxlan":   &netlink.Vxlan{LinkAttrs: named("vx0"), VxlanId: 10, Port: 4789, Learning: true},
+	"bridge":  &netlink.Bridge{LinkAttrs: makeAttributes("br0")},
+	"dummy":   &netlink.Dummy{LinkAttrs: makeAttributes("d0")},
+	"ipvlan":  &netlink.IPVlan{LinkAttrs: makeChildAttributes("i0"), Mode: netlink.IPVLAN_MODE_L2},
+	"macvlan": &netlink.Macvlan{LinkAttrs: makeChildAttributes("m0"), Mode: netlink.MACVLAN_MODE_BRIDGE},
+	"veth":    &netlink.Veth{LinkAttrs: makeAttributes("v0"), PeerName: "v1"},
+	"vlan":    &netlink.Vlan{LinkAttrs: makeChildAttributes("e0.5"), VlanId: 5, VlanProtocol: netlink.VLAN_PROTOCOL_8021Q},
+	"vxlan":   &netlink.Vxlan{LinkAttrs: makeAttributes("vx0"), VxlanId: 10, Port: 4789, Learning: true},
 }
 
 var add = flag.String("add", "", "the link that this program adds, in place of its tests")
@@ -108,7 +108,7 @@ func TestMain(m *testing.M) {
 	}
 }
 
-// TestLinkAdd compares with golden files what netlink.LinkAdd itself sends, which linkrec records.
+// TestLinkAdd records the request that netlink.LinkAdd sends by linkrec, and compares it with golden files.
 func TestLinkAdd(t *testing.T) {
 	t.Setenv("LINKREC", "../../../scripts/linkrec")
 	for name := range links {

@@ -1,10 +1,10 @@
-//! What goes wrong.
+//! Faults of captures, and other errors.
 
-use crate::writing::words_of;
+use crate::writing::collect_words;
 use crate::{ffi, why, Refusal};
 use std::{fmt, io};
 
-/// What is wrong with a capture, numbered as in linkcap.h.
+/// A kind of fault, numbered as in linkcap.h.
 #[derive(Clone, Copy, Debug, PartialEq, Eq, Hash)]
 #[non_exhaustive]
 pub enum Kind {
@@ -36,22 +36,22 @@ pub enum Side {
 #[derive(Clone, Debug, PartialEq, Eq)]
 pub struct Fault {
     pub kind: Kind,
-    /// Of two captures, which has it.
+    /// The capture that has it, of two.
     pub side: Option<Side>,
     /// The start of the message that has it, in bytes from the capture's start.
     pub offset: u64,
-    /// What the call wrote before it: texts, or lines in ASCII.
+    /// The output of the call before it: texts, or lines in ASCII.
     pub written: Vec<u8>,
     /// The attribute that isn't accepted and the reason, if the kind is [`Kind::Refused`] and there is memory for the words.
     pub why: Option<Refusal>,
 }
 
-/// Why a call returns no value.
+/// The error of a call.
 #[derive(Clone, Debug, PartialEq, Eq)]
 #[non_exhaustive]
 pub enum Error {
     Fault(Fault),
-    /// There is no memory for a text, or the text is longer than memory.
+    /// An allocation failed, or the result doesn't fit in memory.
     Memory,
     /// The limit is under 16.
     Limit,
@@ -60,22 +60,22 @@ pub enum Error {
 }
 
 impl Error {
-    /// The error of a status over some bytes, which begin `start` bytes after the capture's start.
-    pub(crate) fn of(status: u32, fault: &ffi::Fault, given: &[u8], start: u64, limit: u32, written: Vec<u8>) -> Error {
+    /// Returns the error of a status for `bytes`, which begin `start` bytes after the capture's start.
+    pub(crate) fn from_status(status: u32, fault: &ffi::Fault, bytes: &[u8], start: u64, limit: u32, written: Vec<u8>) -> Error {
         match status {
             ffi::FAULT => Error::Fault(Fault {
-                kind: kind_of(fault.kind),
+                kind: decode_kind(fault.kind),
                 side: [None, Some(Side::First), Some(Side::Second)][fault.side as usize],
                 offset: start + fault.offset,
                 written,
-                why: refusal(fault, given, start, limit),
+                why: find_refusal(fault, bytes, start, limit),
             }),
             ffi::WRONG => Error::Limit,
             _ => Error::Memory,
         }
     }
 
-    /// The fault, if it is one.
+    /// Returns the fault, if it is one.
     #[must_use]
     pub fn fault(&self) -> Option<&Fault> {
         match self {
@@ -85,16 +85,16 @@ impl Error {
     }
 }
 
-/// Why a body is refused, with offsets from the capture's start.
-fn refusal(fault: &ffi::Fault, given: &[u8], start: u64, limit: u32) -> Option<Refusal> {
+/// Returns why a body is refused, with an offset from the capture's start.
+fn find_refusal(fault: &ffi::Fault, bytes: &[u8], start: u64, limit: u32) -> Option<Refusal> {
     if fault.kind != Kind::Refused as u32 {
         return None;
     }
-    let message = given.get(usize::try_from(fault.offset).ok()?..)?;
-    Some(why(message, limit).ok()??.further(start + fault.offset))
+    let message = bytes.get(usize::try_from(fault.offset).ok()?..)?;
+    Some(why(message, limit).ok()??.shift(start + fault.offset))
 }
 
-fn kind_of(number: u32) -> Kind {
+fn decode_kind(number: u32) -> Kind {
     match number {
         1 => Kind::Cut,
         2 => Kind::ShortLength,
@@ -108,7 +108,7 @@ fn kind_of(number: u32) -> Kind {
 }
 
 impl Fault {
-    /// Its words without the reason, as `refused body at 48`.
+    /// Returns its words without the reason, as `refused body at 48`.
     #[must_use]
     pub fn words(&self) -> String {
         let fault = ffi::Fault {
@@ -117,7 +117,7 @@ impl Fault {
             offset: self.offset,
         };
         // Safety: the buffer has the capacity that is given.
-        words_of(|out, room, length| unsafe { ffi::linkcap_fault_text(&fault, out, room, length) })
+        collect_words(|out, capacity, length| unsafe { ffi::linkcap_fault_text(&fault, out, capacity, length) })
     }
 }
 

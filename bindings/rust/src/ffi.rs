@@ -51,7 +51,7 @@ extern "C" {
         length: usize,
         limit: u32,
         out: *mut u8,
-        room: usize,
+        capacity: usize,
         written: &mut u64,
         fault: &mut Fault,
     ) -> u32;
@@ -61,7 +61,7 @@ extern "C" {
         last: bool,
         limit: u32,
         out: *mut u8,
-        room: usize,
+        capacity: usize,
         progress: &mut Progress,
         fault: &mut Fault,
     ) -> u32;
@@ -90,7 +90,7 @@ extern "C" {
         types: *const u16,
         types_length: usize,
         out: *mut u8,
-        room: usize,
+        capacity: usize,
         progress: &mut Progress,
         fault: &mut Fault,
     ) -> u32;
@@ -99,11 +99,11 @@ extern "C" {
         length: usize,
         limit: u32,
         quirks: *mut Quirk,
-        room: usize,
+        capacity: usize,
         count: &mut u64,
         fault: &mut Fault,
     ) -> u32;
-    pub fn linkcap_quirk_text(quirk: &Quirk, out: *mut u8, room: usize, written: &mut u64) -> u32;
+    pub fn linkcap_quirk_text(quirk: &Quirk, out: *mut u8, capacity: usize, written: &mut u64) -> u32;
     pub fn linkcap_show_with(
         capture: *const u8,
         length: usize,
@@ -112,7 +112,7 @@ extern "C" {
         types: *const u16,
         types_length: usize,
         out: *mut u8,
-        room: usize,
+        capacity: usize,
         written: &mut u64,
         fault: &mut Fault,
     ) -> u32;
@@ -121,9 +121,9 @@ extern "C" {
         length: usize,
         limit: u32,
         out: *mut u8,
-        room: usize,
+        capacity: usize,
         written: &mut u64,
-        place: &mut u64,
+        offset: &mut u64,
     ) -> u32;
-    pub fn linkcap_fault_text(fault: &Fault, out: *mut u8, room: usize, written: &mut u64) -> u32;
+    pub fn linkcap_fault_text(fault: &Fault, out: *mut u8, capacity: usize, written: &mut u64) -> u32;
 }

@@ -3,8 +3,8 @@
 //! A capture is a byte string of netlink messages, each at a multiple of 4. `limit` is the greatest length in bytes that
 //! a message, read or written, may have, from 16 on.
 //!
-//! The work is done by the C library of linkcap, whose calls are proved; this crate hands slices to it. Calls may run in
-//! threads at once. They must not run in a signal handler, nor in the forked child of a process with threads.
+//! The C library of linkcap does the work; its calls are proved. This crate passes slices to it. Calls may run in threads
+//! at once. They must not run in a signal handler, nor in the forked child of a process with threads.
 //!
 //! ```
 //! use linkcap::{lines_with, normalize, same, LineOptions, DEFAULT_LIMIT};
@@ -51,21 +51,21 @@ pub struct Measure {
     pub text_len: u128,
 }
 
-/// Whether the library is one of the version that this crate was written for.
+/// Returns whether the library has the version that this crate was written for.
 #[must_use]
 pub fn is_known_version() -> bool {
-    // Safety: it takes nothing.
+    // Safety: it has no parameters.
     unsafe { ffi::linkcap_version() == ffi::VERSION }
 }
 
-/// The format version of normal texts and lines, as linkcap's `CHANGELOG.md` has it.
+/// Returns the format version of normal texts and lines, as linkcap's `CHANGELOG.md` has it.
 #[must_use]
 pub fn format() -> u32 {
-    // Safety: it takes nothing.
+    // Safety: it has no parameters.
     unsafe { ffi::linkcap_format() }
 }
 
-/// Returns Ok if a capture is legal. It takes no memory.
+/// Returns `Ok` if a capture is legal. It allocates nothing.
 ///
 /// # Errors
 ///
@@ -83,11 +83,11 @@ pub fn check(capture: &[u8], limit: u32) -> Result<(), Error> {
     // Safety: the pointer has the length that is given.
     match unsafe { ffi::linkcap_check(capture.as_ptr(), capture.len(), limit, &mut fault) } {
         ffi::OK => Ok(()),
-        status => Err(Error::of(status, &fault, capture, 0, limit, Vec::new())),
+        status => Err(Error::from_status(status, &fault, capture, 0, limit, Vec::new())),
     }
 }
 
-/// The sizes of a legal capture. It takes no memory.
+/// Returns the sizes of a legal capture. It allocates nothing.
 ///
 /// # Errors
 ///
@@ -109,11 +109,12 @@ pub fn measure(capture: &[u8], limit: u32) -> Result<Measure, Error> {
             attributes: sizes.attributes,
             text_len: u128::from(sizes.text_low) | u128::from(sizes.text_high) << 64,
         }),
-        status => Err(Error::of(status, &fault, capture, 0, limit, Vec::new())),
+        status => Err(Error::from_status(status, &fault, capture, 0, limit, Vec::new())),
     }
 }
 
-/// Whether two legal captures mean the same, which is if and only if their normal texts are equal. It takes no memory.
+/// Returns whether two legal captures mean the same, which is if and only if their normal texts are equal. It allocates
+/// nothing.
 ///
 /// # Errors
 ///
@@ -132,8 +133,8 @@ pub fn same(first: &[u8], second: &[u8], limit: u32) -> Result<bool, Error> {
     compare(ffi::linkcap_same, first, second, limit)
 }
 
-/// Whether two legal captures mean the same after zeroing the sequence and port number of each message, and those of the
-/// request's header that an `NLMSG_ERROR` repeats, which change from run to run. It takes no memory.
+/// Returns whether two legal captures mean the same after zeroing the sequence and port number of each message, and those of
+/// the request's header that an `NLMSG_ERROR` repeats, which change from run to run. It allocates nothing.
 ///
 /// # Errors
 ///
@@ -151,17 +152,17 @@ pub fn same_ignoring_numbers(first: &[u8], second: &[u8], limit: u32) -> Result<
     compare(ffi::linkcap_same_ignoring_numbers, first, second, limit)
 }
 
-type Compares = unsafe extern "C" fn(*const u8, usize, *const u8, usize, u32, &mut ffi::Fault) -> u32;
+type Comparison = unsafe extern "C" fn(*const u8, usize, *const u8, usize, u32, &mut ffi::Fault) -> u32;
 
-fn compare(call: Compares, first: &[u8], second: &[u8], limit: u32) -> Result<bool, Error> {
+fn compare(call: Comparison, first: &[u8], second: &[u8], limit: u32) -> Result<bool, Error> {
     let mut fault = ffi::Fault::default();
     // Safety: the pointers have the lengths that are given.
     match unsafe { call(first.as_ptr(), first.len(), second.as_ptr(), second.len(), limit, &mut fault) } {
         ffi::OK => Ok(true),
         ffi::DIFFERENT => Ok(false),
         status => {
-            let faulty = if fault.side == 2 { second } else { first };
-            Err(Error::of(status, &fault, faulty, 0, limit, Vec::new()))
+            let capture = if fault.side == 2 { second } else { first };
+            Err(Error::from_status(status, &fault, capture, 0, limit, Vec::new()))
         }
     }
 }

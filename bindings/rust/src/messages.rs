@@ -7,9 +7,9 @@ const HEADER: usize = 16;
 /// A message of a legal capture, and its header.
 #[derive(Clone, Copy, Debug, PartialEq, Eq)]
 pub struct Message<'a> {
-    /// Where it begins, in bytes from the capture's start.
+    /// Its start, in bytes from the capture's start.
     pub offset: usize,
-    /// The message without its padding; it is a capture itself.
+    /// The message without its padding, which is a capture, too.
     pub bytes: &'a [u8],
     /// As 16 for `RTM_NEWLINK`.
     pub message_type: u16,
@@ -25,7 +25,7 @@ pub struct Messages<'a> {
     offset: usize,
 }
 
-/// The messages of a legal capture.
+/// Returns the messages of a legal capture.
 ///
 /// # Errors
 ///
@@ -44,33 +44,33 @@ pub fn messages(capture: &[u8], limit: u32) -> Result<Messages<'_>, Error> {
     Ok(Messages { capture, offset: 0 })
 }
 
-/// The two bytes at an index of a header, little-endian.
-fn number_16(header: &[u8], at: usize) -> u16 {
+/// Returns the number in two bytes of a header, little-endian.
+fn read_u16(header: &[u8], at: usize) -> u16 {
     u16::from_le_bytes([header[at], header[at + 1]])
 }
 
-/// The four bytes at an index of a header, little-endian.
-fn number_32(header: &[u8], at: usize) -> u32 {
-    u32::from(number_16(header, at)) | u32::from(number_16(header, at + 2)) << 16
+/// Returns the number in four bytes of a header, little-endian.
+fn read_u32(header: &[u8], at: usize) -> u32 {
+    u32::from(read_u16(header, at)) | u32::from(read_u16(header, at + 2)) << 16
 }
 
 impl<'a> Iterator for Messages<'a> {
     type Item = Message<'a>;
 
     fn next(&mut self) -> Option<Message<'a>> {
-        // A capture is legal: each header is whole, and its length is that of bytes that are there.
+        // The capture is legal: each header is whole, and so is the message, whose length it has.
         let rest = self.capture.get(self.offset..)?;
         let header = rest.get(..HEADER)?;
-        let bytes = rest.get(..number_32(header, 0) as usize)?;
+        let bytes = rest.get(..read_u32(header, 0) as usize)?;
         let offset = self.offset;
         self.offset = offset + (bytes.len() + 3) / 4 * 4;
         Some(Message {
             offset,
             bytes,
-            message_type: number_16(header, 4),
-            flags: number_16(header, 6),
-            sequence_number: number_32(header, 8),
-            port_number: number_32(header, 12),
+            message_type: read_u16(header, 4),
+            flags: read_u16(header, 6),
+            sequence_number: read_u32(header, 8),
+            port_number: read_u32(header, 12),
         })
     }
 }

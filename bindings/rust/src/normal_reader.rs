@@ -1,13 +1,13 @@
-//! The normal text of what another reader gives.
+//! A reader of normal text.
 
 use crate::{Error, Reader};
 use std::io::{self, Read};
 
 const PIECE: usize = 1 << 16;
 
-/// Reads a capture from another reader, and gives its normal text. After the text before a fault each read returns an
+/// Reads a capture from another reader, and returns its normal text. After the text before a fault each read returns an
 /// [`io::Error`] of the kind `InvalidData`, whose `get_ref` is an [`Error`]. An error of the other reader is passed on, and
-/// the next read goes on after it.
+/// the next read continues after it.
 ///
 /// ```
 /// use std::io::Read;
@@ -22,31 +22,33 @@ const PIECE: usize = 1 << 16;
 #[derive(Debug)]
 pub struct NormalReader<R> {
     source: R,
-    /// None once the capture has ended, or has shown a fault.
+    /// None after the end of the capture, or after an error.
     reader: Option<Reader>,
     outcome: Result<(), Error>,
     piece: Vec<u8>,
     texts: Vec<u8>,
-    given: usize,
+    /// The number of bytes of `texts` that were returned.
+    position: usize,
 }
 
 impl<R: Read> NormalReader<R> {
-    /// The normal text of what `source` gives. `limit` is the greatest length in bytes that a message may have.
+    /// Returns a reader of the normal text of the capture that `source` yields. `limit` is the greatest length in bytes that a
+    /// message may have.
     ///
     /// # Errors
     ///
     /// [`Error::Limit`].
     pub fn new(source: R, limit: u32) -> Result<NormalReader<R>, Error> {
         let reader = Some(Reader::new(limit)?);
-        Ok(NormalReader { source, reader, outcome: Ok(()), piece: vec![0; PIECE], texts: Vec::new(), given: 0 })
+        Ok(NormalReader { source, reader, outcome: Ok(()), piece: vec![0; PIECE], texts: Vec::new(), position: 0 })
     }
 
-    /// Reads once from the source, and writes the texts of the messages that are whole. The end of the source is that of
-    /// the capture.
+    /// Reads once from the source, and writes the texts of the messages that are whole. The capture ends at the end of the
+    /// source.
     fn read_piece(&mut self) -> io::Result<()> {
         let count = self.source.read(&mut self.piece)?;
         self.texts.clear();
-        self.given = 0;
+        self.position = 0;
         self.outcome = match (&mut self.reader, count) {
             (None, _) => Ok(()),
             (reader, 0) => reader.take().map_or(Ok(()), |reader| reader.finish(&mut self.texts)),
@@ -64,15 +66,15 @@ impl<R: Read> Read for NormalReader<R> {
         if to.is_empty() {
             return Ok(0);
         }
-        while self.given == self.texts.len() {
+        while self.position == self.texts.len() {
             if self.reader.is_none() {
                 return self.outcome.clone().map(|()| 0).map_err(io::Error::from);
             }
             self.read_piece()?;
         }
-        let count = to.len().min(self.texts.len() - self.given);
-        to[..count].copy_from_slice(&self.texts[self.given..self.given + count]);
-        self.given += count;
+        let count = to.len().min(self.texts.len() - self.position);
+        to[..count].copy_from_slice(&self.texts[self.position..self.position + count]);
+        self.position += count;
         Ok(count)
     }
 }

@@ -1,6 +1,6 @@
 //! Encodings that some kernels treat differently from their normal texts.
 
-use crate::writing::{count, words_of};
+use crate::writing::{collect_words, to_length};
 use crate::{ffi, Error};
 use std::fmt;
 
@@ -39,11 +39,11 @@ pub enum QuirkKind {
 #[derive(Clone, Copy, Debug, PartialEq, Eq, Hash)]
 pub struct Quirk {
     pub kind: QuirkKind,
-    /// Where the attribute that has it starts, or the header's byte, in bytes from the capture's start.
+    /// The start of the attribute that has it, or the header's byte, in bytes from the capture's start.
     pub offset: u64,
 }
 
-fn kind_of(number: u32) -> QuirkKind {
+fn decode_kind(number: u32) -> QuirkKind {
     match number {
         1 => QuirkKind::NestedPortSettings,
         2 => QuirkKind::ResizedSettings,
@@ -65,12 +65,12 @@ impl fmt::Display for Quirk {
     fn fmt(&self, f: &mut fmt::Formatter<'_>) -> fmt::Result {
         let quirk = ffi::Quirk { offset: self.offset, kind: self.kind as u32 };
         // Safety: the buffer has the capacity that is given.
-        f.pad(&words_of(|out, room, length| unsafe { ffi::linkcap_quirk_text(&quirk, out, room, length) }))
+        f.pad(&collect_words(|out, capacity, length| unsafe { ffi::linkcap_quirk_text(&quirk, out, capacity, length) }))
     }
 }
 
-/// Each encoding of a legal capture that some kernels treat differently from its normal text, in the order of the bytes. A
-/// normal text has none.
+/// Returns each encoding of a legal capture that some kernels treat differently from its normal text, in the order of the
+/// bytes. A normal text has none.
 ///
 /// # Errors
 ///
@@ -87,21 +87,21 @@ impl fmt::Display for Quirk {
 /// # Ok::<(), linkcap::Error>(())
 /// ```
 pub fn quirks(capture: &[u8], limit: u32) -> Result<Vec<Quirk>, Error> {
-    let mut found: Vec<ffi::Quirk> = Vec::new();
-    let mut wanted = 16;
+    let mut array: Vec<ffi::Quirk> = Vec::new();
+    let mut required = 16;
     loop {
         let (mut number, mut fault) = (0, ffi::Fault::default());
-        found.try_reserve(wanted).map_err(|_| Error::Memory)?;
-        found.resize(wanted, ffi::Quirk::default());
-        let (from, length, to, room) = (capture.as_ptr(), capture.len(), found.as_mut_ptr(), found.len());
+        array.try_reserve(required).map_err(|_| Error::Memory)?;
+        array.resize(required, ffi::Quirk::default());
+        let (from, length, to, capacity) = (capture.as_ptr(), capture.len(), array.as_mut_ptr(), array.len());
         // Safety: both pointers have the lengths that are given, and don't overlap.
-        match unsafe { ffi::linkcap_quirks(from, length, limit, to, room, &mut number, &mut fault) } {
+        match unsafe { ffi::linkcap_quirks(from, length, limit, to, capacity, &mut number, &mut fault) } {
             ffi::OK => {
-                let quirk = |one: &ffi::Quirk| Quirk { kind: kind_of(one.kind), offset: one.offset };
-                return Ok(found.iter().take(count(number)?).map(quirk).collect());
+                let quirk = |row: &ffi::Quirk| Quirk { kind: decode_kind(row.kind), offset: row.offset };
+                return Ok(array.iter().take(to_length(number)?).map(quirk).collect());
             }
-            ffi::NO_ROOM => wanted = count(number)?,
-            status => return Err(Error::of(status, &fault, capture, 0, limit, Vec::new())),
+            ffi::NO_ROOM => required = to_length(number)?,
+            status => return Err(Error::from_status(status, &fault, capture, 0, limit, Vec::new())),
         }
     }
 }

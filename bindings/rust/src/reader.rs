@@ -1,12 +1,12 @@
 //! Captures in pieces.
 
-use crate::writing::{count, reserve, LineOptions};
+use crate::writing::{reserve, to_length, LineOptions};
 use crate::{ffi, Error};
 
-/// A call over what is there of a capture: the bytes, whether they are the last, and where to write.
+/// A call for bytes of a capture: these bytes, whether they are the last, and the buffer to write to.
 type Call<'a> = &'a dyn Fn(&[u8], bool, *mut u8, usize, &mut ffi::Progress, &mut ffi::Fault) -> u32;
 
-/// The bytes of a message that is cut, between pieces.
+/// Between pieces, the bytes of the message that is cut.
 #[derive(Debug)]
 struct Pieces {
     limit: u32,
@@ -56,28 +56,28 @@ impl Pieces {
         Ok(())
     }
 
-    /// Writes what is there, and returns how many bytes were used.
-    fn write(&self, call: Call<'_>, given: &[u8], last: bool, out: &mut Vec<u8>) -> Result<usize, Error> {
+    /// Writes the messages that are whole, and returns the number of bytes used.
+    fn write(&self, call: Call<'_>, bytes: &[u8], last: bool, out: &mut Vec<u8>) -> Result<usize, Error> {
         let mut used = 0;
-        let mut wanted = given.len();
+        let mut required = bytes.len();
         loop {
-            let rest = &given[used..];
+            let rest = &bytes[used..];
             let (mut progress, mut fault) = (ffi::Progress::default(), ffi::Fault::default());
-            reserve(out, wanted)?;
+            reserve(out, required)?;
             let free = out.spare_capacity_mut();
-            let (to, room) = (free.as_mut_ptr().cast(), free.len());
-            let status = call(rest, last, to, room, &mut progress, &mut fault);
+            let (to, capacity) = (free.as_mut_ptr().cast(), free.len());
+            let status = call(rest, last, to, capacity, &mut progress, &mut fault);
             // Safety: this many bytes after the vector's are written.
-            unsafe { out.set_len(out.len() + count(progress.written)?) };
-            used += count(progress.used)?;
+            unsafe { out.set_len(out.len() + to_length(progress.written)?) };
+            used += to_length(progress.used)?;
             match status {
                 ffi::OK => return Ok(used),
-                ffi::NO_ROOM => wanted = count(progress.wanted)?.max(given.len() - used),
+                ffi::NO_ROOM => required = to_length(progress.wanted)?.max(bytes.len() - used),
                 _ => {
-                    // The fault is that of the message after those that were used.
+                    // The fault is that of the first message that wasn't used.
                     fault.offset = 0;
                     let start = self.start + used as u64;
-                    return Err(Error::of(status, &fault, &given[used..], start, self.limit, Vec::new()));
+                    return Err(Error::from_status(status, &fault, &bytes[used..], start, self.limit, Vec::new()));
                 }
             }
         }
@@ -104,16 +104,17 @@ pub struct Reader {
     pieces: Pieces,
 }
 
-/// The texts of what is there.
-fn texts(limit: u32) -> impl Fn(&[u8], bool, *mut u8, usize, &mut ffi::Progress, &mut ffi::Fault) -> u32 {
+/// Returns a call that writes texts.
+fn make_text_call(limit: u32) -> impl Fn(&[u8], bool, *mut u8, usize, &mut ffi::Progress, &mut ffi::Fault) -> u32 {
     // Safety: both pointers have the lengths that are given, and don't overlap.
-    move |given, last, out, room, progress, fault| unsafe {
-        ffi::linkcap_normalize_some(given.as_ptr(), given.len(), last, limit, out, room, progress, fault)
+    move |bytes, last, out, capacity, progress, fault| unsafe {
+        ffi::linkcap_normalize_some(bytes.as_ptr(), bytes.len(), last, limit, out, capacity, progress, fault)
     }
 }
 
 impl Reader {
-    /// A reader of nothing yet. `limit` is the greatest length in bytes that a message, read or written, may have.
+    /// Returns a reader at the start of a capture. `limit` is the greatest length in bytes that a message, read or written,
+    /// may have.
     ///
     /// # Errors
     ///
@@ -130,7 +131,7 @@ impl Reader {
     /// [`Error::Memory`]. After an error each later call returns [`Error::Failed`].
     pub fn feed(&mut self, piece: &[u8], out: &mut Vec<u8>) -> Result<(), Error> {
         let limit = self.pieces.limit;
-        self.pieces.feed(&texts(limit), piece, out)
+        self.pieces.feed(&make_text_call(limit), piece, out)
     }
 
     /// The capture ends here: the text of a last message that lacks padding is appended to `out`.
@@ -139,12 +140,12 @@ impl Reader {
     ///
     /// Those of [`Reader::feed`].
     pub fn finish(self, out: &mut Vec<u8>) -> Result<(), Error> {
-        self.pieces.finish(&texts(self.pieces.limit), out)
+        self.pieces.finish(&make_text_call(self.pieces.limit), out)
     }
 }
 
-/// Shows a capture that comes in pieces, as [`Reader`] normalises one: its lines are appended in ASCII. Memory is that of a
-/// piece, its lines and the message that is cut.
+/// Shows a capture that comes in pieces, as [`Reader`] normalises one: its lines are appended in ASCII. It allocates memory
+/// for a piece, its lines and the message that is cut.
 ///
 /// ```
 /// use linkcap::{LineOptions, LineReader, DEFAULT_LIMIT};
@@ -164,23 +165,23 @@ pub struct LineReader<'a> {
     options: LineOptions<'a>,
 }
 
-/// The lines of what is there.
-fn shown<'a>(
+/// Returns a call that writes lines.
+fn make_line_call<'a>(
     limit: u32,
     options: LineOptions<'a>,
 ) -> impl Fn(&[u8], bool, *mut u8, usize, &mut ffi::Progress, &mut ffi::Fault) -> u32 + 'a {
     let LineOptions { without_numbers, only } = options;
-    move |given, last, out, room, progress, fault| {
-        let (from, length, types) = (given.as_ptr(), given.len(), only.as_ptr());
+    move |bytes, last, out, capacity, progress, fault| {
+        let (from, length, types) = (bytes.as_ptr(), bytes.len(), only.as_ptr());
         // Safety: the pointers have the lengths that are given, and `out` doesn't overlap the others.
         unsafe {
-            ffi::linkcap_show_some(from, length, last, limit, without_numbers, types, only.len(), out, room, progress, fault)
+            ffi::linkcap_show_some(from, length, last, limit, without_numbers, types, only.len(), out, capacity, progress, fault)
         }
     }
 }
 
 impl<'a> LineReader<'a> {
-    /// A reader of nothing yet, which shows what the options select.
+    /// Returns a reader at the start of a capture, which shows the lines that the options select.
     ///
     /// # Errors
     ///
@@ -195,7 +196,7 @@ impl<'a> LineReader<'a> {
     ///
     /// Those of [`Reader::feed`].
     pub fn feed(&mut self, piece: &[u8], out: &mut Vec<u8>) -> Result<(), Error> {
-        let call = shown(self.pieces.limit, self.options);
+        let call = make_line_call(self.pieces.limit, self.options);
         self.pieces.feed(&call, piece, out)
     }
 
@@ -205,6 +206,6 @@ impl<'a> LineReader<'a> {
     ///
     /// Those of [`Reader::feed`].
     pub fn finish(self, out: &mut Vec<u8>) -> Result<(), Error> {
-        self.pieces.finish(&shown(self.pieces.limit, self.options), out)
+        self.pieces.finish(&make_line_call(self.pieces.limit, self.options), out)
     }
 }

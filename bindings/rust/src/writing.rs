@@ -2,60 +2,60 @@
 
 use crate::{ffi, Error};
 
-/// The longest words of a fault or a quirk.
-const WORDS: usize = 127;
+/// The greatest length of the words of a fault or a quirk.
+const MAX_WORDS: usize = 127;
 
-/// Reserves capacity for `wanted` bytes after those of a vector.
-pub(crate) fn reserve(out: &mut Vec<u8>, wanted: usize) -> Result<(), Error> {
-    out.try_reserve(wanted).map_err(|_| Error::Memory)
+/// Reserves capacity for `additional` bytes after those of a vector.
+pub(crate) fn reserve(out: &mut Vec<u8>, additional: usize) -> Result<(), Error> {
+    out.try_reserve(additional).map_err(|_| Error::Memory)
 }
 
-/// A number of bytes in memory.
-pub(crate) fn count(number: u64) -> Result<usize, Error> {
+/// Returns a number of bytes as a length in memory.
+pub(crate) fn to_length(number: u64) -> Result<usize, Error> {
     usize::try_from(number).map_err(|_| Error::Memory)
 }
 
-/// The words that a call writes.
-pub(crate) fn words_of(call: impl FnOnce(*mut u8, usize, &mut u64) -> u32) -> String {
-    let (mut words, mut length) = ([0u8; WORDS], 0u64);
+/// Returns the words that a call writes.
+pub(crate) fn collect_words(call: impl FnOnce(*mut u8, usize, &mut u64) -> u32) -> String {
+    let (mut words, mut length) = ([0u8; MAX_WORDS], 0u64);
     if call(words.as_mut_ptr(), words.len(), &mut length) != ffi::OK {
         return String::new();
     }
     let words = usize::try_from(length).ok().and_then(|length| words.get(..length)).unwrap_or_default();
-    ascii(words.to_vec())
+    into_string(words.to_vec())
 }
 
-/// What a call writes of a capture to a buffer, which has capacity for `wanted` bytes at first.
+/// Returns the bytes that a call for a capture writes to a buffer, which has a capacity of `capacity` bytes at first.
 fn write(
     capture: &[u8],
     limit: u32,
     mut call: impl FnMut(*mut u8, usize, &mut u64, &mut ffi::Fault) -> u32,
-    mut wanted: usize,
+    mut capacity: usize,
 ) -> Result<Vec<u8>, Error> {
     let mut out: Vec<u8> = Vec::new();
     loop {
         let (mut written, mut fault) = (0, ffi::Fault::default());
-        reserve(&mut out, wanted)?;
+        reserve(&mut out, capacity)?;
         let free = out.spare_capacity_mut();
         let status = call(free.as_mut_ptr().cast(), free.len(), &mut written, &mut fault);
         match status {
-            ffi::NO_ROOM => wanted = count(written)?,
+            ffi::NO_ROOM => capacity = to_length(written)?,
             ffi::OK | ffi::FAULT => {
                 // Safety: the call has written this many bytes.
-                unsafe { out.set_len(count(written)?) };
-                return if status == ffi::OK { Ok(out) } else { Err(Error::of(status, &fault, capture, 0, limit, out)) };
+                unsafe { out.set_len(to_length(written)?) };
+                return if status == ffi::OK { Ok(out) } else { Err(Error::from_status(status, &fault, capture, 0, limit, out)) };
             }
-            _ => return Err(Error::of(status, &fault, capture, 0, limit, Vec::new())),
+            _ => return Err(Error::from_status(status, &fault, capture, 0, limit, Vec::new())),
         }
     }
 }
 
-/// Text of the library, which is ASCII.
-fn ascii(text: Vec<u8>) -> String {
+/// Returns text of the library, which is ASCII, as a string.
+fn into_string(text: Vec<u8>) -> String {
     String::from_utf8(text).unwrap_or_default()
 }
 
-/// The normal text of a legal capture.
+/// Returns the normal text of a legal capture.
 ///
 /// # Errors
 ///
@@ -72,22 +72,22 @@ fn ascii(text: Vec<u8>) -> String {
 /// ```
 pub fn normalize(capture: &[u8], limit: u32) -> Result<Vec<u8>, Error> {
     // Safety: both pointers have the lengths that are given, and don't overlap.
-    let call = |out, room, written: &mut u64, fault: &mut ffi::Fault| unsafe {
-        ffi::linkcap_normalize(capture.as_ptr(), capture.len(), limit, out, room, written, fault)
+    let call = |out, capacity, written: &mut u64, fault: &mut ffi::Fault| unsafe {
+        ffi::linkcap_normalize(capture.as_ptr(), capture.len(), limit, out, capacity, written, fault)
     };
     write(capture, limit, call, capture.len() + 16)
 }
 
-/// What lines show of a capture.
+/// Selects lines of a capture.
 #[derive(Clone, Copy, Debug, Default, PartialEq, Eq)]
 pub struct LineOptions<'a> {
     /// Leave out sequence and port numbers, which change from run to run.
     pub without_numbers: bool,
-    /// Show messages of these types alone, as 16 for `RTM_NEWLINK`; of all if it is empty.
+    /// Show only messages of these types, as 16 for `RTM_NEWLINK`; all if it is empty.
     pub only: &'a [u16],
 }
 
-/// The lines of a legal capture, as `linkshow` writes them.
+/// Returns the lines of a legal capture, as `linkshow` writes them.
 ///
 /// # Errors
 ///
@@ -103,7 +103,7 @@ pub fn lines(capture: &[u8], limit: u32) -> Result<String, Error> {
     lines_with(capture, limit, LineOptions::default())
 }
 
-/// The lines of a legal capture that the options select.
+/// Returns the lines of a legal capture that the options select.
 ///
 /// # Errors
 ///
@@ -112,29 +112,29 @@ pub fn lines_with(capture: &[u8], limit: u32, options: LineOptions<'_>) -> Resul
     let LineOptions { without_numbers, only } = options;
     let (at, length) = (capture.as_ptr(), capture.len());
     // Safety: the pointers have the lengths that are given, and `out` doesn't overlap the others.
-    let call = |out, room, written: &mut u64, fault: &mut ffi::Fault| unsafe {
-        ffi::linkcap_show_with(at, length, limit, without_numbers, only.as_ptr(), only.len(), out, room, written, fault)
+    let call = |out, capacity, written: &mut u64, fault: &mut ffi::Fault| unsafe {
+        ffi::linkcap_show_with(at, length, limit, without_numbers, only.as_ptr(), only.len(), out, capacity, written, fault)
     };
-    write(capture, limit, call, length.saturating_mul(4)).map(ascii)
+    write(capture, limit, call, length.saturating_mul(4)).map(into_string)
 }
 
-/// What of a refused body isn't accepted. It is displayed as its words.
+/// Why a body is refused. It is displayed as its words.
 #[derive(Clone, Debug, PartialEq, Eq)]
 pub struct Refusal {
     /// The attribute's names from outside in, the reason, and the offset.
     pub words: String,
-    /// Where the attribute begins, in bytes from the capture's start. `NLMSG_ERROR` and `NLMSG_DONE` have none.
+    /// The start of the attribute, in bytes from the capture's start. `NLMSG_ERROR` and `NLMSG_DONE` have none.
     pub offset: Option<u64>,
 }
 
 impl Refusal {
-    /// The same, of bytes that begin `start` bytes later.
-    pub(crate) fn further(self, start: u64) -> Refusal {
+    /// Returns the refusal with an offset that is greater by `start`.
+    pub(crate) fn shift(self, start: u64) -> Refusal {
         let Refusal { words, offset } = self;
-        let front = offset.and_then(|offset| words.strip_suffix(&format!(" at {offset}")));
-        match (front, offset) {
-            (Some(front), Some(offset)) => {
-                Refusal { words: format!("{front} at {}", start + offset), offset: Some(start + offset) }
+        let prefix = offset.and_then(|offset| words.strip_suffix(&format!(" at {offset}")));
+        match (prefix, offset) {
+            (Some(prefix), Some(offset)) => {
+                Refusal { words: format!("{prefix} at {}", start + offset), offset: Some(start + offset) }
             }
             _ => Refusal { words, offset },
         }
@@ -147,8 +147,7 @@ impl std::fmt::Display for Refusal {
     }
 }
 
-/// What of a refused body isn't accepted, if a capture's first fault is [`Kind::Refused`](crate::Kind::Refused); else
-/// None.
+/// Returns why a body is refused, if a capture's first fault is [`Kind::Refused`](crate::Kind::Refused); else `None`.
 ///
 /// # Errors
 ///
@@ -163,15 +162,15 @@ impl std::fmt::Display for Refusal {
 /// # Ok::<(), linkcap::Error>(())
 /// ```
 pub fn why(capture: &[u8], limit: u32) -> Result<Option<Refusal>, Error> {
-    let mut place = 0;
+    let mut offset = 0;
     // Safety: both pointers have the lengths that are given, and don't overlap.
-    let call = |out, room, written: &mut u64, _: &mut ffi::Fault| unsafe {
-        match ffi::linkcap_why(capture.as_ptr(), capture.len(), limit, out, room, written, &mut place) {
-            // No words.
+    let call = |out, capacity, written: &mut u64, _: &mut ffi::Fault| unsafe {
+        match ffi::linkcap_why(capture.as_ptr(), capture.len(), limit, out, capacity, written, &mut offset) {
+            // It writes no words.
             ffi::NONE => ffi::OK,
             status => status,
         }
     };
-    let words = write(capture, limit, call, 256).map(ascii)?;
-    Ok((!words.is_empty()).then(|| Refusal { words, offset: (place != u64::MAX).then_some(place) }))
+    let words = write(capture, limit, call, 256).map(into_string)?;
+    Ok((!words.is_empty()).then(|| Refusal { words, offset: (offset != u64::MAX).then_some(offset) }))
 }

@@ -1,67 +1,67 @@
-//! The calls over the stored vectors, and at the edges.
+//! Tests the calls with the stored vectors, and edge cases.
 
 use linkcap::{Error, Kind, LineOptions, LineReader, Message, NormalReader, QuirkKind, Reader, Side, DEFAULT_LIMIT};
 use std::fs;
 use std::io::{self, Read};
 use std::path::Path;
 
-fn read(name: &str) -> Vec<u8> {
+fn read_file(name: &str) -> Vec<u8> {
     fs::read(Path::new(env!("CARGO_MANIFEST_DIR")).join("../..").join(name)).expect(name)
 }
 
-fn text(name: &str) -> String {
-    String::from_utf8(read(name)).expect("a text")
+fn read_text(name: &str) -> String {
+    String::from_utf8(read_file(name)).expect("a text")
 }
 
-fn unhex(word: &str) -> Vec<u8> {
-    (0..word.len() / 2).map(|i| u8::from_str_radix(&word[2 * i..2 * i + 2], 16).expect("hex")).collect()
+fn decode_hex(digits: &str) -> Vec<u8> {
+    (0..digits.len() / 2).map(|i| u8::from_str_radix(&digits[2 * i..2 * i + 2], 16).expect("hex")).collect()
 }
 
-fn hex(bytes: &[u8]) -> String {
+fn encode_hex(bytes: &[u8]) -> String {
     bytes.iter().map(|byte| format!("{byte:02x}")).collect()
 }
 
-/// The lines that are cases: `# ` begins one with the label of those that follow.
-fn cases_of(stdin: &str) -> impl Iterator<Item = &str> {
+/// Returns the lines that are cases. A line that begins with `# ` labels those that follow.
+fn filter_cases(stdin: &str) -> impl Iterator<Item = &str> {
     stdin.lines().filter(|line| !line.starts_with("# "))
 }
 
-/// The stored cases of a kind, and the lines of their results: one each, but of `show`, the last kind.
-fn stored(kind: &str) -> (Vec<String>, Vec<String>) {
-    let (stdin, stdout) = (text("crates/vectors/stdin"), text("crates/vectors/stdout"));
-    let word = format!("{kind} ");
-    let before = cases_of(&stdin).take_while(|line| !line.starts_with(&word)).count();
-    let cases: Vec<String> = cases_of(&stdin).filter_map(|line| line.strip_prefix(&word)).map(String::from).collect();
+/// Returns the stored cases of a kind, and the lines of their outputs: one each, except for `show`, the last kind.
+fn read_cases(kind: &str) -> (Vec<String>, Vec<String>) {
+    let (stdin, stdout) = (read_text("crates/vectors/stdin"), read_text("crates/vectors/stdout"));
+    let prefix = format!("{kind} ");
+    let start = filter_cases(&stdin).take_while(|line| !line.starts_with(&prefix)).count();
+    let cases: Vec<String> = filter_cases(&stdin).filter_map(|line| line.strip_prefix(&prefix)).map(String::from).collect();
     assert!(!cases.is_empty());
     let count = if kind == "show" { usize::MAX } else { cases.len() };
-    let answers: Vec<String> = stdout.lines().skip(before).take(count).map(String::from).collect();
-    assert!(answers.len() >= cases.len());
-    (cases, answers)
+    let outputs: Vec<String> = stdout.lines().skip(start).take(count).map(String::from).collect();
+    assert!(outputs.len() >= cases.len());
+    (cases, outputs)
 }
 
-/// The limit and the captures of each case of a kind, and its result.
-fn answered(kind: &str) -> Vec<(u32, Vec<Vec<u8>>, String)> {
-    let (cases, answers) = stored(kind);
+/// Returns the limit and the captures of each case of a kind, and its expected output.
+fn read_vectors(kind: &str) -> Vec<(u32, Vec<Vec<u8>>, String)> {
+    let (cases, outputs) = read_cases(kind);
     cases
         .iter()
-        .zip(answers)
-        .map(|(case, answer)| {
-            let mut words = case.split(' ');
-            (words.next().expect("a limit").parse().expect("a limit"), words.map(unhex).collect(), answer)
+        .zip(outputs)
+        .map(|(case, output)| {
+            let mut columns = case.split(' ');
+            (columns.next().expect("a limit").parse().expect("a limit"), columns.map(decode_hex).collect(), output)
         })
         .collect()
 }
 
-type Written = (Vec<u8>, Option<Error>);
+type Output = (Vec<u8>, Option<Error>);
 
-fn whole(capture: &[u8], limit: u32) -> Written {
+fn normalize_whole(capture: &[u8], limit: u32) -> Output {
     match linkcap::normalize(capture, limit) {
         Ok(text) => (text, None),
         Err(error) => (error.fault().expect("a fault").written.clone(), Some(error)),
     }
 }
 
-fn pieces(capture: &[u8], limit: u32, size: usize) -> Written {
+fn normalize_pieces(capture: &[u8], limit: u32, size: usize) -> Output {
     let mut reader = Reader::new(limit).expect("a limit");
     let mut out = Vec::new();
     for piece in capture.chunks(size) {
@@ -92,11 +92,11 @@ impl Read for Chunks<'_> {
     }
 }
 
-fn by_reader(capture: &[u8], limit: u32, size: usize) -> Written {
+fn normalize_by_reader(capture: &[u8], limit: u32, size: usize) -> Output {
     let source = Chunks { rest: capture, size, is_interrupted: false };
     let mut reader = NormalReader::new(source, limit).expect("a limit");
     let mut out = Vec::new();
-    // `read_to_end` goes on after an interruption.
+    // `read_to_end` reads again after an interruption.
     let error = reader.read_to_end(&mut out).err().map(|error| {
         assert_eq!(error.kind(), io::ErrorKind::InvalidData);
         assert_eq!(reader.read(&mut [0; 9]).expect_err("the same error").to_string(), error.to_string());
@@ -109,19 +109,19 @@ fn count_messages(capture: &[u8], limit: u32) -> Result<u64, Error> {
     linkcap::messages(capture, limit).map(|messages| messages.count() as u64)
 }
 
-fn norm_line(capture: &[u8], limit: u32, (text, error): Written) -> String {
-    let again = linkcap::measure(capture, limit);
-    assert_eq!(linkcap::check(capture, limit).err(), again.clone().err());
-    match (error, again) {
+fn format_norm(capture: &[u8], limit: u32, (text, error): Output) -> String {
+    let measurement = linkcap::measure(capture, limit);
+    assert_eq!(linkcap::check(capture, limit).err(), measurement.clone().err());
+    match (error, measurement) {
         (None, Ok(sizes)) if count_messages(capture, limit) == Ok(sizes.frames) => {
-            format!("{} {} {} {}", hex(&text), sizes.frames, sizes.attributes, sizes.text_len)
+            format!("{} {} {} {}", encode_hex(&text), sizes.frames, sizes.attributes, sizes.text_len)
         }
-        (Some(error), Err(again)) => {
-            let (fault, other) = (error.fault().expect("a fault"), again.fault().expect("a fault"));
+        (Some(error), Err(measure_error)) => {
+            let (fault, other) = (error.fault().expect("a fault"), measure_error.fault().expect("a fault"));
             assert_eq!((fault.kind, fault.offset, fault.side), (other.kind, other.offset, None));
             assert_eq!(fault.why, other.why);
-            assert_eq!(count_messages(capture, limit), Err(again));
-            format!("{} {}", hex(&text), fault.words())
+            assert_eq!(count_messages(capture, limit), Err(measure_error));
+            format!("{} {}", encode_hex(&text), fault.words())
         }
         _ => panic!("a measure with another answer"),
     }
@@ -129,94 +129,94 @@ fn norm_line(capture: &[u8], limit: u32, (text, error): Written) -> String {
 
 #[test]
 fn norm() {
-    for (i, (limit, captures, line)) in answered("norm").into_iter().enumerate() {
-        assert_eq!(norm_line(&captures[0], limit, whole(&captures[0], limit)), line);
-        assert_eq!(norm_line(&captures[0], limit, pieces(&captures[0], limit, [1, 7, 100][i % 3])), line);
-        assert_eq!(norm_line(&captures[0], limit, by_reader(&captures[0], limit, [1, 7, 100][i % 3])), line);
+    for (i, (limit, captures, line)) in read_vectors("norm").into_iter().enumerate() {
+        assert_eq!(format_norm(&captures[0], limit, normalize_whole(&captures[0], limit)), line);
+        assert_eq!(format_norm(&captures[0], limit, normalize_pieces(&captures[0], limit, [1, 7, 100][i % 3])), line);
+        assert_eq!(format_norm(&captures[0], limit, normalize_by_reader(&captures[0], limit, [1, 7, 100][i % 3])), line);
     }
 }
 
-fn without_numbers(capture: &[u8], limit: u32) -> Result<String, Error> {
+fn lines_without_numbers(capture: &[u8], limit: u32) -> Result<String, Error> {
     linkcap::lines_with(capture, limit, LineOptions { without_numbers: true, only: &[] })
 }
 
 #[test]
 fn same() {
-    for (limit, captures, line) in answered("same") {
-        let answer = match linkcap::same(&captures[0], &captures[1], limit) {
+    for (limit, captures, line) in read_vectors("same") {
+        let output = match linkcap::same(&captures[0], &captures[1], limit) {
             Ok(true) => "same".to_string(),
             Ok(false) => "different".to_string(),
             Err(error) => error.fault().expect("a fault").words(),
         };
-        assert_eq!(answer, line);
-        let ignoring = linkcap::same_ignoring_numbers(&captures[0], &captures[1], limit);
+        assert_eq!(output, line);
+        let unnumbered = linkcap::same_ignoring_numbers(&captures[0], &captures[1], limit);
         match linkcap::same(&captures[0], &captures[1], limit) {
             Ok(is_same) => {
-                let are_shown_alike = without_numbers(&captures[0], limit) == without_numbers(&captures[1], limit);
-                assert_eq!(ignoring, Ok(is_same || are_shown_alike));
+                let are_lines_equal = lines_without_numbers(&captures[0], limit) == lines_without_numbers(&captures[1], limit);
+                assert_eq!(unnumbered, Ok(is_same || are_lines_equal));
             }
-            Err(error) => assert_eq!(ignoring, Err(error)),
+            Err(error) => assert_eq!(unnumbered, Err(error)),
         }
     }
 }
 
 #[test]
 fn show() {
-    let (cases, stored) = stored("show");
-    let mut answers = String::new();
+    let (cases, expected) = read_cases("show");
+    let mut output = String::new();
     for case in cases {
-        let (front, capture) = case.rsplit_once(' ').expect("a capture");
-        let (limit, choice) = front.split_once(' ').unwrap_or((front, ""));
+        let (prefix, capture) = case.rsplit_once(' ').expect("a capture");
+        let (limit, choice) = prefix.split_once(' ').unwrap_or((prefix, ""));
         let (limit, without_numbers) = (limit.parse().expect("a limit"), choice == "without-numbers");
         let types: Vec<u16> = choice.split(',').filter_map(|word| word.parse().ok()).collect();
-        match linkcap::lines_with(&unhex(capture), limit, LineOptions { without_numbers, only: &types }) {
-            Ok(lines) => answers += &(lines + "legal\n"),
+        match linkcap::lines_with(&decode_hex(capture), limit, LineOptions { without_numbers, only: &types }) {
+            Ok(lines) => output += &(lines + "legal\n"),
             Err(error) => {
-                answers += std::str::from_utf8(&error.fault().expect("a fault").written).expect("lines");
-                answers += &format!("{}\n", error.fault().expect("a fault").words());
+                output += std::str::from_utf8(&error.fault().expect("a fault").written).expect("lines");
+                output += &format!("{}\n", error.fault().expect("a fault").words());
             }
         }
     }
-    assert!(answers == stored.join("\n") + "\n");
+    assert!(output == expected.join("\n") + "\n");
 }
 
-/// The lines of each case in pieces.
+/// Compares the lines of each case, shown in pieces.
 #[test]
 fn show_in_pieces() {
-    let (cases, stored) = stored("show");
-    let mut answers = String::new();
+    let (cases, expected) = read_cases("show");
+    let mut output = String::new();
     for (i, case) in cases.iter().enumerate() {
-        let (front, capture) = case.rsplit_once(' ').expect("a capture");
-        let (limit, choice) = front.split_once(' ').unwrap_or((front, ""));
+        let (prefix, capture) = case.rsplit_once(' ').expect("a capture");
+        let (limit, choice) = prefix.split_once(' ').unwrap_or((prefix, ""));
         let types: Vec<u16> = choice.split(',').filter_map(|word| word.parse().ok()).collect();
         let options = LineOptions { without_numbers: choice == "without-numbers", only: &types };
         let mut reader = LineReader::new(limit.parse().expect("a limit"), options).expect("a limit");
-        let (capture, mut lines) = (unhex(capture), Vec::new());
-        let fed = capture.chunks([1, 7, 100][i % 3]).try_for_each(|piece| reader.feed(piece, &mut lines));
-        let end = match fed.and_then(|()| reader.finish(&mut lines)) {
+        let (capture, mut lines) = (decode_hex(capture), Vec::new());
+        let result = capture.chunks([1, 7, 100][i % 3]).try_for_each(|piece| reader.feed(piece, &mut lines));
+        let end = match result.and_then(|()| reader.finish(&mut lines)) {
             Ok(()) => "legal".to_string(),
             Err(error) => error.fault().expect("a fault").words(),
         };
-        answers += &(String::from_utf8(lines).expect("lines") + &end + "\n");
+        output += &(String::from_utf8(lines).expect("lines") + &end + "\n");
     }
-    assert!(answers == stored.join("\n") + "\n");
+    assert!(output == expected.join("\n") + "\n");
 }
 
 #[test]
 fn quirks() {
-    for (limit, captures, line) in answered("spelling") {
-        let (end, found) = match linkcap::quirks(&captures[0], limit) {
-            Ok(found) => ("legal".to_string(), found),
+    for (limit, captures, line) in read_vectors("spelling") {
+        let (end, quirks) = match linkcap::quirks(&captures[0], limit) {
+            Ok(quirks) => ("legal".to_string(), quirks),
             Err(error) => {
                 let fault = error.fault().expect("a fault");
                 let before = &captures[0][..usize::try_from(fault.offset).expect("an offset")];
                 (fault.words(), linkcap::quirks(before, limit).expect("legal messages"))
             }
         };
-        let words: String = found.iter().map(|quirk| format!("{quirk}; ")).collect();
+        let words: String = quirks.iter().map(|quirk| format!("{quirk}; ")).collect();
         assert_eq!(words + &end, line);
     }
-    let mut request = read("samples/lo-request.bin");
+    let mut request = read_file("samples/lo-request.bin");
     request[17] = 1;
     let many = linkcap::quirks(&request.repeat(40), DEFAULT_LIMIT).expect("a legal capture");
     assert_eq!((many.len(), many[1].kind, many[1].offset), (40, QuirkKind::HeaderByte, 48 + 17));
@@ -224,19 +224,19 @@ fn quirks() {
 
 #[test]
 fn refusal() {
-    for (limit, captures, line) in answered("refusal") {
+    for (limit, captures, line) in read_vectors("refusal") {
         match linkcap::why(&captures[0], limit).expect("memory") {
             None => assert_eq!(line, "nothing"),
-            Some(found) => {
-                assert_eq!(found.to_string(), line);
-                assert_eq!(found.offset, line.rsplit_once(" at ").and_then(|(_, place)| place.parse().ok()));
+            Some(refusal) => {
+                assert_eq!(refusal.to_string(), line);
+                assert_eq!(refusal.offset, line.rsplit_once(" at ").and_then(|(_, offset)| offset.parse().ok()));
                 let error = linkcap::check(&captures[0], limit).expect_err("a refused body");
                 let fault = error.fault().expect("a fault");
-                assert_eq!((fault.kind, fault.why.as_ref()), (Kind::Refused, Some(&found)));
+                assert_eq!((fault.kind, fault.why.as_ref()), (Kind::Refused, Some(&refusal)));
                 assert_eq!(error.to_string(), format!("{}: {line}", fault.words()));
-                // A reader has the last bytes alone.
-                let (_, again) = pieces(&captures[0], limit, 61);
-                assert_eq!(again.expect("a fault").fault().expect("a fault").why.as_ref(), Some(&found));
+                // A reader has only the last bytes.
+                let (_, pieces_error) = normalize_pieces(&captures[0], limit, 61);
+                assert_eq!(pieces_error.expect("a fault").fault().expect("a fault").why.as_ref(), Some(&refusal));
             }
         }
     }
@@ -245,7 +245,7 @@ fn refusal() {
 #[test]
 fn edges() {
     assert!(linkcap::is_known_version());
-    assert!(text("bindings/c/linkcap.h").contains(&format!("\n#define LINKCAP_FORMAT {}\n", linkcap::format())));
+    assert!(read_text("bindings/c/linkcap.h").contains(&format!("\n#define LINKCAP_FORMAT {}\n", linkcap::format())));
     assert_eq!(linkcap::normalize(&[], 16), Ok(Vec::new()));
     assert_eq!(linkcap::lines(&[], 16), Ok(String::new()));
     assert_eq!(linkcap::same(&[], &[], 16), Ok(true));
@@ -262,7 +262,7 @@ fn edges() {
         assert_eq!(linkcap::quirks(&[], limit), Err(Error::Limit));
         assert_eq!(linkcap::same_ignoring_numbers(&[], &[], limit), Err(Error::Limit));
     }
-    let capture = read("samples/lo-request.bin");
+    let capture = read_file("samples/lo-request.bin");
     let error = linkcap::same(&capture, &capture[..47], DEFAULT_LIMIT).expect_err("a cut frame");
     let fault = error.fault().expect("a fault");
     assert_eq!((fault.kind, fault.side, fault.offset), (Kind::Cut, Some(Side::Second), 0));
@@ -272,40 +272,40 @@ fn edges() {
 
 #[test]
 fn messages() {
-    let capture = read("samples/lo-request.bin");
+    let capture = read_file("samples/lo-request.bin");
     let twice = [&capture[..], &capture[..]].concat();
-    let found: Vec<Message> = linkcap::messages(&twice, DEFAULT_LIMIT).expect("a legal capture").collect();
+    let messages: Vec<Message> = linkcap::messages(&twice, DEFAULT_LIMIT).expect("a legal capture").collect();
     // the numbers that samples/lo-request.lines has
     let (message_type, flags, sequence_number, port_number) = (18, 0x301, 1_526_271_540, 0);
     let message = |offset| Message { offset, bytes: &capture, message_type, flags, sequence_number, port_number };
-    assert_eq!(found, [message(0), message(48)]);
+    assert_eq!(messages, [message(0), message(48)]);
     assert_eq!(linkcap::messages(&[], 16).expect("nothing").next(), None);
 }
 
 #[test]
 fn broken_sources() {
-    struct Broken;
-    impl Read for Broken {
+    struct BrokenSource;
+    impl Read for BrokenSource {
         fn read(&mut self, _: &mut [u8]) -> io::Result<usize> {
             Err(io::Error::from(io::ErrorKind::BrokenPipe))
         }
     }
-    let capture = read("samples/req-veth.bin");
-    let mut reader = NormalReader::new(capture.chain(Broken), DEFAULT_LIMIT).expect("a limit");
+    let capture = read_file("samples/req-veth.bin");
+    let mut reader = NormalReader::new(capture.chain(BrokenSource), DEFAULT_LIMIT).expect("a limit");
     let mut out = Vec::new();
     assert_eq!(reader.read_to_end(&mut out).expect_err("a broken source").kind(), io::ErrorKind::BrokenPipe);
-    assert_eq!(out, read("samples/req-veth.bin"));
+    assert_eq!(out, read_file("samples/req-veth.bin"));
     assert_eq!(NormalReader::new(&[][..], 15).err(), Some(Error::Limit));
 }
 
 #[test]
 fn a_capture_cut_at_each_byte() {
-    let capture = read("samples/req-veth.bin");
+    let capture = read_file("samples/req-veth.bin");
     let mut at = 0;
     while at < capture.len() {
         let length = u32::from_le_bytes(capture[at..at + 4].try_into().expect("four bytes")) as usize;
         for cut in at..(at + (length + 3) / 4 * 4).min(capture.len()) {
-            let (text, error) = whole(&capture[..cut], DEFAULT_LIMIT);
+            let (text, error) = normalize_whole(&capture[..cut], DEFAULT_LIMIT);
             if at < cut && cut < at + length {
                 let error = error.expect("a cut frame");
                 let fault = error.fault().expect("a fault");
@@ -321,7 +321,7 @@ fn a_capture_cut_at_each_byte() {
 
 #[test]
 fn eight_threads() {
-    let capture = read("samples/get-veth.bin");
+    let capture = read_file("samples/get-veth.bin");
     let text = linkcap::normalize(&capture, DEFAULT_LIMIT).expect("a legal capture");
     std::thread::scope(|scope| {
         for _ in 0..8 {

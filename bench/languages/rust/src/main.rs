@@ -8,28 +8,28 @@ extern "C" {
     fn clock() -> std::ffi::c_long;
 }
 
-fn now() -> f64 {
-    // Safety: it takes nothing.
+fn read_clock() -> f64 {
+    // Safety: it has no parameters.
     unsafe { clock() as f64 / 1e6 }
 }
 
 fn measure<T>(name: &str, seconds: f64, call: impl Fn() -> T) {
     let mut best = f64::INFINITY;
     for _ in 0..5 {
-        let (mut calls, begin) = (0, now());
-        while now() - begin < seconds / 5.0 {
+        let (mut calls, begin) = (0, read_clock());
+        while read_clock() - begin < seconds / 5.0 {
             for _ in 0..100 {
                 std::hint::black_box(call());
             }
             calls += 100;
         }
-        best = best.min((now() - begin) / calls as f64);
+        best = best.min((read_clock() - begin) / calls as f64);
     }
     println!("{name} {:.1}", best * 1e9);
 }
 
 fn main() {
-    let seconds = std::env::args().nth(1).map_or(1.0, |word| word.parse().expect("seconds"));
+    let seconds = std::env::args().nth(1).map_or(1.0, |argument| argument.parse().expect("seconds"));
     let mut capture = Vec::new();
     std::io::stdin().read_to_end(&mut capture).expect("a capture");
     measure("check", seconds, || linkcap::check(&capture, DEFAULT_LIMIT).expect("legal"));

@@ -4,8 +4,8 @@ use linkcap::DEFAULT_LIMIT;
 use netlink_packet_route::link::nlas::{Info, InfoKind, Nla};
 use netlink_packet_route::{LinkMessage, NetlinkHeader, NetlinkMessage, NetlinkPayload, RtnlMessage, NLM_F_CREATE, NLM_F_REQUEST};
 
-/// A request for a dummy link of this name.
-fn request(name: &str) -> Vec<u8> {
+/// Returns a request for a dummy link of this name.
+fn make_request(name: &str) -> Vec<u8> {
     let mut message = LinkMessage::default();
     message.nlas.push(Nla::IfName(name.to_string()));
     message.nlas.push(Nla::Mtu(1450));
@@ -21,7 +21,7 @@ fn request(name: &str) -> Vec<u8> {
 }
 
 fn main() -> Result<(), Box<dyn std::error::Error>> {
-    let capture = request("d0");
+    let capture = make_request("d0");
     let text = linkcap::normalize(&capture, DEFAULT_LIMIT)?;
     assert!(linkcap::same(&capture, &text, DEFAULT_LIMIT)?);
     print!("{}", linkcap::lines(&capture, DEFAULT_LIMIT)?);

@@ -215,26 +215,31 @@ def kind_name(p):
     return drop_nul(p).decode("utf-8")
 
 
+def next_in_force(in_force, kind, payload):
+    """(kind, port kind) in force after an attribute of link info, from those before it, each a name or None."""
+    kind_in_force, port_kind = in_force
+    if proper(kind) == 1:
+        return kind_name(payload), port_kind
+    if proper(kind) == 4:
+        return kind_in_force, kind_name(payload)
+    return kind_in_force, None if proper(kind) == 5 else port_kind
+
+
 def read_list(rules, table, context, b):
     """All entries of b, or None if b isn't accepted."""
     pairs = cut(b)
     if pairs is None:
         return None
     out = []
-    kind_in_force = port_kind = None        # in link info
+    in_force = None, None        # in link info
     for kind, payload in pairs:
-        here = (kind_in_force, port_kind) if table is LINK_INFO else context
+        here = in_force if table is LINK_INFO else context
         entry = read_entry(rules, table, here, kind, payload)
         if entry is None:
             return None
         out.append(entry)
         if table is LINK_INFO:
-            if proper(kind) == 1:
-                kind_in_force = kind_name(payload)
-            elif proper(kind) == 4:
-                port_kind = kind_name(payload)
-            elif proper(kind) == 5:
-                port_kind = None
+            in_force = next_in_force(in_force, kind, payload)
     return out
 
 

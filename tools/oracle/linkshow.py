@@ -271,13 +271,13 @@ def read_only(argument):
 def why_list(rules, table, context, b, at, family):
     """(names from outside in, offset, reason) of the first attribute of a list
     that isn't accepted; None if the list is accepted."""
-    start, kind_in_force, port_kind = 0, None, None
+    start, in_force = 0, (None, None)
     while len(b) - start >= 4:
         length, kind = o.u16(b, start), o.u16(b, start + 2)
         if length < 4 or start + length > len(b):
             return [], at + start, "no attribute: %d bytes are left, and its length is %d" % (len(b) - start, length)
         payload = b[start + 4:start + length]
-        here = (kind_in_force, port_kind) if table is o.LINK_INFO else context
+        here = in_force if table is o.LINK_INFO else context
         proper = o.proper(kind)
         row = rules.row(table, here, proper)
         if o.read_entry(rules, table, here, kind, payload) is None:
@@ -287,12 +287,7 @@ def why_list(rules, table, context, b, at, family):
                 reason = "no IFLA_INFO_%sKIND is in force" % ("SLAVE_" if proper == 5 else "")
             return [name] + path, at + start if offset is None else offset, reason
         if table is o.LINK_INFO:
-            if proper == 1:
-                kind_in_force = o.kind_name(payload)
-            elif proper == 4:
-                port_kind = o.kind_name(payload)
-            elif proper == 5:
-                port_kind = None
+            in_force = o.next_in_force(in_force, kind, payload)
         start += o.round_up(length)
     if len(b) > start:
         return [], at + start, "no attribute: %d bytes are left" % (len(b) - start)

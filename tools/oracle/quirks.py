@@ -73,9 +73,9 @@ def attribute_quirks(table, family, kind, payload):
 
 def list_quirks(rules, table, context, family, b, start):
     """(text, offset) of each quirk of an accepted list that starts at an offset."""
-    kind_in_force = port_kind = None
+    in_force = None, None
     for offset, kind, payload in attributes_with_offsets(b, start):
-        here = (kind_in_force, port_kind) if table is o.LINK_INFO else context
+        here = in_force if table is o.LINK_INFO else context
         proper = o.proper(kind)
         if table.name == "vf_infos" and proper != table.kept_kind:
             yield "foreign entry in IFLA_VFINFO_LIST", offset
@@ -84,12 +84,7 @@ def list_quirks(rules, table, context, family, b, start):
             yield text, offset
         row = rules.row(table, here, proper)
         if table is o.LINK_INFO:
-            if proper == 1:
-                kind_in_force = o.kind_name(payload)
-            elif proper == 4:
-                port_kind = o.kind_name(payload)
-            elif proper == 5:
-                port_kind = None
+            in_force = o.next_in_force(in_force, kind, payload)
         if table.kept_kind is None or proper == table.kept_kind:
             yield from payload_quirks(rules, row, family, payload, offset + 4)
 

@@ -3,7 +3,8 @@
 
     bench/hostile.sh [SEED [COUNT]]
 
-Captures come in groups of siblings under one limit: mutations of one sample or vector. These are the laws of a capture:
+Captures come in groups of siblings under one limit: mutations of one sample or vector, or of one capture that raw_bodies.py
+makes of messages of other types and of raw attributes. These are the laws of a capture:
 
 - The whole capture, its pieces of 1, 7 and 100 bytes, and the call `check` have one result. The program vectors compares
   these.
@@ -12,6 +13,7 @@ Captures come in groups of siblings under one limit: mutations of one sample or 
 - The normal text is legal and canonical, has the length of the result, and is at most 77 times as long as the capture.
 - The capture means the same as its normal text. It means the same as its neighbour if and only if their texts are equal. A
   pair with a fault has the first fault of the first capture, or else that of the second.
+- The lines of the capture are those of its normal text. They are those of its neighbour if and only if their texts are equal.
 - Of every thousandth capture, linkcap gives this text, fault and status, in an address space of 32 MB and 100 times the
   longest frame.
 
@@ -27,6 +29,7 @@ import sys
 
 TOP = os.path.join(os.path.dirname(os.path.abspath(__file__)), "..")
 sys.path.insert(0, os.path.join(TOP, "tools", "oracle"))
+import raw_bodies           # noqa: E402
 import vectors              # noqa: E402
 
 GROUP = 20
@@ -86,11 +89,18 @@ def attributes(data, begin, end, depth=0):
         at += round_up(length)
 
 
+def header_size(data, at):
+    """The size of the header of the body of the frame at an offset; None if no attributes follow."""
+    kind, body = number(data, at + 4, 2), data[at + 16:at + number(data, at, 4)]
+    return 16 if kind in LINKS else raw_bodies.header_size(kind, number(data, at + 6, 2), body)
+
+
 def all_attributes(data):
     offsets = []
     for at in frames(data):
-        if number(data, at + 4, 2) in LINKS:
-            offsets += attributes(data, at + 32, min(len(data), at + number(data, at, 4)))
+        size = header_size(data, at)
+        if size is not None:
+            offsets += attributes(data, at + 16 + size, min(len(data), at + number(data, at, 4)))
     return offsets
 
 
@@ -118,7 +128,7 @@ def change_frame_length(rng, data):
 
 
 def change_frame_type(rng, data):
-    set_number(data, rng.choice(list(frames(data)) or [0]) + 4, 2, rng.choice([*range(21), 65535]))
+    set_number(data, rng.choice(list(frames(data)) or [0]) + 4, 2, rng.choice([*range(21), *range(124), 65535]))
 
 
 def change_attribute_length(rng, data):
@@ -220,17 +230,20 @@ def groups(seed, sources):
     """Yields a limit and a group of siblings, GROUPS times."""
     rng = random.Random(seed)
     for _ in range(GROUPS):
-        base = rng.choice(sources)
+        base = raw_bodies.capture(rng) if rng.random() < 0.3 else rng.choice(sources)
         near = number(base, 0, 4) + rng.randrange(-4, 60)
         limit = rng.choice([*LIMITS, max(16, min(near, GREATEST))])
         yield limit, [mutate(rng, base) for _ in range(GROUP)]
 
 
 def run_vectors(kind, cases):
-    """The results of the program vectors for cases of a kind, each a line; `inconsistent` if it ends with an error."""
+    """The results of the program vectors for cases of a kind, each a line, or several lines of `show`; `inconsistent` if it
+    ends with an error."""
     text = "".join(kind + " " + case for case in cases)
     process = subprocess.run([program("vectors")], input=text.encode(), stdout=subprocess.PIPE)
     results = process.stdout.decode().splitlines()
+    if kind == "show":
+        results = list(vectors.show_results(results))
     if process.returncode == 0 and len(results) == len(cases):
         return results
     if len(cases) == 1:
@@ -280,12 +293,33 @@ def case_line(limit, *captures):
     return " ".join([str(limit), *captures]) + "\n"
 
 
+def lines_of(cases):
+    """The lines of each capture, without the outcome after them; None if the program ended with an error."""
+    results = run_vectors("show", [case_line(limit, capture) for limit, capture in cases])
+    return [None if result == "inconsistent" else "".join(result.splitlines(True)[:-1]) for result in results]
+
+
+def lines_violations(cases, texts, counts):
+    """(limit, capture, law) of each capture whose lines break a law, from the captures' normal texts in hex."""
+    capture_lines = lines_of([(limit, capture.hex()) for limit, capture in cases])
+    text_lines = lines_of([(limit, text) for (limit, _), text in zip(cases, texts)])
+    violations = []
+    for index, (limit, capture) in enumerate(cases):
+        counts["captures shown"] += 1
+        if capture_lines[index] is None or capture_lines[index] != text_lines[index]:
+            violations.append((limit, capture.hex(), "the lines aren't those of the text"))
+        are_equal = index % GROUP and texts[index] == texts[index - 1]
+        if index % GROUP and (capture_lines[index] == capture_lines[index - 1]) != are_equal:
+            violations.append((limit, capture.hex(), "the lines equal its neighbour's, or not, unlike the texts"))
+    return violations
+
+
 def check_chunk(job):
     """The counts of one chunk of captures, and (limit, capture, law) of each capture that breaks a law."""
     seed, sources = job
     counts, violations = collections.Counter(), []
     cases = [(limit, capture) for limit, siblings in groups(seed, sources) for capture in siblings]
-    text_cases, expected_texts, pair_cases, expected_pairs = [], [], [], []
+    texts, text_cases, expected_texts, pair_cases, expected_pairs = [], [], [], [], []
     results = run_vectors("norm", [case_line(limit, capture.hex()) for limit, capture in cases])
     previous = None
     for index, ((limit, capture), result) in enumerate(zip(cases, results)):
@@ -297,6 +331,7 @@ def check_chunk(job):
             counts["runs of linkcap"] += 1
         if law:
             violations.append((limit, capture.hex(), law))
+        texts.append(text)
         text_cases.append(case_line(limit, text))
         expected_texts.append((text, limit, capture))
         if fault:
@@ -316,6 +351,7 @@ def check_chunk(job):
         counts["texts and legal prefixes"] += 1
         if not result.startswith(text + " ") or fault_offset(result) is not None:
             violations.append((limit, capture.hex(), "a text or a legal prefix has another text"))
+    violations += lines_violations(cases, texts, counts)
     for result, (expected, limit, capture) in zip(run_vectors("same", pair_cases), expected_pairs):
         counts["pairs"] += 1
         counts["pairs: " + (result.split(":")[0])] += 1

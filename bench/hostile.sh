@@ -3,8 +3,9 @@
 #
 #     bench/hostile.sh [SEED [COUNT]]
 #
-# bench/hostile.py makes COUNT captures (1000000) from the samples and the vectors by mutations, the same ones for the same
-# SEED (1), and runs the programs vectors and linkcap on them. It builds nothing, and no gate runs it.
+# bench/hostile.py makes COUNT captures (1000000) by mutations of the samples, the vectors and bodies by the rows of
+# tools/oracle/raw.tsv, the same ones for the same SEED (1), and runs the programs vectors and linkcap on them. It builds
+# nothing, and no gate runs it.
 set -euo pipefail
 cd "$(dirname "$0")/.."
 

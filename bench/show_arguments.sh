@@ -61,7 +61,7 @@ printf '%s\n' 'NLMSG_ERROR flags 0x0' '  code -17' '  request length 48 RTM_GETL
 run --without-numbers --kernels "$work/refusal"
 expect "a refused request without numbers" 0 "" "$work/refused"
 cat "$request" "$work/refusal" > "$work/both"
-for types in error 2 newlink,error,77 error,error 65535,2; do
+for types in error 2 00002 newlink,error,77 error,error 65535,2 Error NLMSG_ERROR rtm_newtunnel,nlmsg_error; do
     run --without-numbers --only "$types" "$work/both"
     expect "only $types" 0 "" "$work/refused"
 done
@@ -96,7 +96,7 @@ status=$?
 expect "help that can't be printed" 2 "write failed at 0" "$work/nothing"
 
 # Usage errors.
-for arguments in "--limit" "--limit 15" "--limit +48" "--limit 4294967296" "--limit 48 --limit" "--limit=48" "--only" "--only RTM_NEWLINK" "--only newlink," "--only ,2" "--only 65536" "--only +2" "--only NEWLINK" "--kernels --unknown" "-x" \
+for arguments in "--limit" "--limit 15" "--limit +48" "--limit 4294967296" "--limit 48 --limit" "--limit=48" "--only" "--only newlinks" "--only RTM_ERROR" "--only newlink," "--only ,2" "--only 65536" "--only 000002" "--only +2" "--kernels --unknown" "-x" \
     "a b" "- a" "a --kernels" "--help a" "--version --kernels"; do
     # shellcheck disable=SC2086
     run $arguments < "$request"

@@ -133,7 +133,7 @@ expect "names of the sides" 1 "" "$linkdiff" --label golden --label made a b << 
 -  IFLA_IFNAME "lo"
 +  IFLA_IFNAME "l1"
 END
-{ echo "# linkcap lines, format 2"; cat "$work/a.golden"; } > "$work/headed.lines"
+{ echo "# linkcap lines, format 3"; cat "$work/a.golden"; } > "$work/headed.lines"
 expect "a golden file with its format version" 0 "" "$linkdiff" headed.lines a < /dev/null
 expect "a golden file's line numbers" 1 "" "$linkdiff" --without numbers headed.lines b << 'END'
 --- headed.lines
@@ -162,6 +162,36 @@ succeeds "help" bash -c '"$0" --help | grep -q "linkdiff \[OPTION\]"' "$linkdiff
 succeeds "standard input" bash -c '"$0" - a < b | grep -x -- "--- -" > /dev/null; [ ${PIPESTATUS[0]} -eq 1 ]' "$linkdiff"
 succeeds "no program" bash -c 'LINKSHOW=/nowhere/linkshow "$0" a a 2>&1 | grep -q "no program"' "$linkdiff"
 expect "a link by its index alone" 0 "" "$linkdiff" --link 7 --without IFLA_EXT_MASK mask1 mask2 < /dev/null
+# an address with another prefix length, and a route whose second next hop has another weight
+cp samples/req-routes.bin "$work/routes"
+cp samples/req-routes.lines "$work/routes.lines"
+{ head -c 65 "$work/routes"; printf '\x19'; tail -c +67 "$work/routes"; } > "$work/prefix"
+{ head -c 235 "$work/routes"; printf '\x1'; tail -c +237 "$work/routes"; } > "$work/weight"
+expect "an address" 1 "" "$linkdiff" --without numbers routes prefix << 'END'
+--- routes
++++ prefix
+@@ -3,7 +3,7 @@ RTM_NEWADDR index 3
+   IFLA_EXT_MASK 0x9 (Vf | SkipStats)
+   IFLA_IFNAME "v0"
+ RTM_NEWADDR flags 0x605 (REQUEST | ACK | EXCL | CREATE)
+-  ifaddrmsg family 2 (AF_INET) prefixlen 24 flags 0x0 scope 0 (universe) index 3
++  ifaddrmsg family 2 (AF_INET) prefixlen 25 flags 0x0 scope 0 (universe) index 3
+   IFA_LOCAL 192.0.2.1
+   IFA_ADDRESS 192.0.2.1
+ RTM_GETLINK flags 0x301 (REQUEST | ROOT | MATCH)
+END
+expect "a next hop in a file of lines" 1 "" "$linkdiff" --without-numbers --only NEWROUTE routes.lines weight << 'END'
+--- routes.lines
++++ weight
+@@ -4,5 +4,5 @@ RTM_NEWROUTE
+   RTA_MULTIPATH
+     rtnexthop flags 0x0 hops 0 ifindex 0
+       RTA_GATEWAY 192.0.2.2
+-    rtnexthop flags 0x0 hops 9 ifindex 0
++    rtnexthop flags 0x0 hops 1 ifindex 0
+       RTA_GATEWAY 192.0.2.3
+END
+expect "no next hops" 0 "" "$linkdiff" --without numbers,RTA_MULTIPATH routes.lines weight < /dev/null
 for arguments in a "a a a" "--unknown a a" "- -" "--without IFLA_NAM a a" "--label a --label b --label c a a"; do
     succeeds "usage: $arguments" bash -c '"$0" $1 2> usage; [ $? -eq 2 ] && grep -q "^usage: linkdiff" usage' "$linkdiff" "$arguments"
 done
@@ -183,6 +213,9 @@ expect "JSON without numbers and an attribute" 0 "" "$linkjson" --without-number
     <<< "$(sed 's/"seq.*0, "attr/"attr/; s/, {"name": "IFLA_IFNAME[^}]*}//' <<< "$json")"
 expect "JSON of a type" 0 "" "$linkjson" --only newlink a < /dev/null
 expect "JSON of a link" 0 "" "$linkjson" --link lo b < /dev/null
+expect "JSON of a route" 0 "" "$linkjson" --without-numbers --only newroute routes << 'END'
+{"type": "RTM_NEWROUTE", "flags": {"value": 1541, "flags": ["REQUEST", "ACK", "EXCL", "CREATE"]}, "attributes": [{"name": "RTA_DST", "value": "198.51.100.0"}, {"name": "RTA_MULTIPATH", "nested": [{"struct": "rtnexthop", "fields": {"flags": {"value": 0, "flags": []}, "hops": 0, "ifindex": 0}, "nested": [{"name": "RTA_GATEWAY", "value": "192.0.2.2"}]}, {"struct": "rtnexthop", "fields": {"flags": {"value": 0, "flags": []}, "hops": 9, "ifindex": 0}, "nested": [{"name": "RTA_GATEWAY", "value": "192.0.2.3"}]}]}], "header": {"struct": "rtmsg", "family": {"value": 2, "text": "AF_INET"}, "dst_len": 24, "src_len": 0, "tos": 0, "table": {"value": 254, "text": "main"}, "protocol": {"value": 3, "text": "boot"}, "scope": {"value": 0, "text": "universe"}, "type": {"value": 1, "text": "unicast"}, "flags": {"value": 0, "flags": []}}}
+END
 expect "JSON of a cut capture" 2 "cut frame at 48" "$linkjson" cut <<< "$json"
 expect "JSON under a limit" 2 "frame over the limit at 0" "$linkjson" --limit 47 a < /dev/null
 expect "JSON of an odd limit" 2 "$("$LINKSHOW" --limit 15 2>&1)" "$linkjson" --limit 15 a < /dev/null
@@ -347,9 +380,9 @@ expect "a golden file and an invalid message" 2 \
 expect "a golden file without invalid messages" 0 "linkrec: left out the message at 48: refused body" \
     "$linkgold" --legal --update "with space.lines" mixed < /dev/null
 expect "the lines without invalid messages" 0 "" "$linkdiff" --without numbers,indexes,counters "with space.lines" <(cat "$work/a" "$work/b") < /dev/null
-sed 's/format 2/format 1/; s/"lo"/"l2"/' "$work/headed.lines" > "$work/older.lines"
+sed 's/format 3/format 2/; s/"lo"/"l2"/' "$work/headed.lines" > "$work/older.lines"
 succeeds "a golden file of another format version" bash -c '"$0" older.lines a 2> report > diff; [ $? -eq 1 ] &&
-    [ "$(cat report)" = "linkgold: older.lines has lines of format 1, and linkshow writes format 2: --update writes it anew" ]' "$linkgold"
+    [ "$(cat report)" = "linkgold: older.lines has lines of format 2, and linkshow writes format 3: --update writes it anew" ]' "$linkgold"
 succeeds "no linkshow" bash -c 'LINKSHOW=/nowhere/linkshow "$0" a.lines a 2>&1 | grep -q "no program linkshow"' "$linkgold"
 
 # Recording is skipped if it isn't possible here.
@@ -389,7 +422,7 @@ else
         grep -q "^linkgold: /proc/none: no such file" report' "$linkgold"
     succeeds "no namespace" bash -c 'mkdir -p bin; printf "#!/bin/sh\necho unshare: not permitted >&2\nexit 1\n" > bin/unshare; chmod +x bin/unshare
         PATH=$PWD/bin:$PATH "$0" run --netns -- ip link 2> report; [ $? -eq 125 ] && grep -q "^linkrec: no network namespace: unshare: not permitted" report' "$linkrec"
-    succeeds "a golden file is written" bash -c '"$0" --update golden/lo.lines -- ip link show dev lo && head -n 1 golden/lo.lines | grep -qx "# linkcap lines, format 2"' "$linkgold"
+    succeeds "a golden file is written" bash -c '"$0" --update golden/lo.lines -- ip link show dev lo && head -n 1 golden/lo.lines | grep -qx "# linkcap lines, format 3"' "$linkgold"
     succeeds "the same command is equal" bash -c '"$0" golden/lo.lines -- ip link show dev lo && "$0" golden/lo.lines -- ip link show dev lo' "$linkgold"
     succeeds "another command differs" bash -c '"$0" golden/lo.lines -- ip link show > diff; [ $? -eq 1 ] && grep -q "^@@.*RTM_GETLINK" diff' "$linkgold"
     succeeds "a capture is compared" bash -c '"$1" run --netns -o made -- ip link show dev lo && "$0" golden/lo.lines made' "$linkgold" "$linkrec"

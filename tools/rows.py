@@ -2,6 +2,7 @@
 """Writes docs/rows.md, the rows of all tables, from the lists that the interpreter and linkshow are made of.
 
     tools/rows.py            writes the page
+    tools/rows.py --raw      prints the raw attributes that have names, from the independent implementation's tables
     tools/rows.py --check    ends with status 1 if the page differs from the lists, or if a comment of the grammar
                              names another attribute than the list
 
@@ -18,7 +19,7 @@ TOP = os.path.join(os.path.dirname(os.path.abspath(__file__)), "..")
 PAGE = os.path.join(TOP, "docs", "rows.md")
 HEAD = """# The rows of all tables
 
-`tools/rows.py` writes this page from the source: kinds, names and payloads from `src/message_lists.rt` and `src/info_lists.rt` of `link_tables`, the variants of a table's type from its `enum`. A kind that a table doesn't list is a raw attribute, `Other(DefaultNla)`: any payload is accepted, and all 16 bits of the kind are kept. A table has its type, the prefix of its names and their header, then its kinds, each with name and variant, and after a colon its type and, where the type doesn't determine it, the [shape](shapes.md) of its payload. Numbers are little-endian unless it says big-endian. [attributes.md](attributes.md) has what a list, ports and a peer are; *written nested* is a kind that is written with the nested bit. A record is a struct of its name, whose docstring has its bytes.
+`tools/rows.py` writes this page from the source: the lists of `link_tables`, and the variants of each type's `enum`. A kind that a table doesn't list is a raw attribute, `Other(DefaultNla)`: any payload is accepted, and all 16 bits of the kind are kept. A table has its type, the prefix of its names and their header, then its kinds with name and variant; after a colon the type, and the [shape](shapes.md) if the type doesn't determine it. Numbers are little-endian unless it says big-endian. [attributes.md](attributes.md) has what a list, ports and a peer are; *written nested* is a kind that is written with the nested bit. A record is a struct of its name, whose docstring has its bytes.
 """
 # Payloads without a shape
 PAYLOADS = {
@@ -127,9 +128,9 @@ def payload_of(row, variants, tables):
         out = content
     elif not types or not all(f"`{SHAPES.get(value_type)}`" == content for value_type in types):
         out = ", ".join(part for part in (out, content) if part)
-    if re.match("BigEndian|PortRange", style) or (style == "FlagsBySize" and shape == "Exact(2)"):
+    if re.match("BigEndian|PortRange", style) or (row[1] == "IFLA_IPTUN_FLAGS" and shape == "Exact(2)"):
         out += ", big-endian"
-    if style == "FlagsAndMask":
+    if style.startswith("FlagsAndMask"):
         out += ": flags, then their mask"
     return out + (", written nested" if is_nested else "")
 
@@ -283,7 +284,23 @@ def page():
     return "\n".join(out)
 
 
+def raw_rows():
+    """A line for each row of raw attributes, below a line for each table, by the independent implementation's tables."""
+    table = None
+    for line in open(os.path.join(TOP, "tools", "oracle", "raw.tsv"), encoding="utf-8"):
+        row_type, *columns = line.rstrip("\n").split("\t")
+        if row_type != "raw":
+            continue
+        if columns[0] != table:
+            table = columns[0]
+            yield f"- `{table}`"
+        yield f"  - {columns[1]} {columns[2]}: {columns[3]}"
+
+
 def main():
+    if sys.argv[1:] == ["--raw"]:
+        print("\n".join(raw_rows()))
+        return
     text = page()
     if sys.argv[1:] == ["--check"]:
         faults = [*differences("message_lists.rt", "link_message_grammar"), *differences("info_lists.rt", "link_info_grammar")]

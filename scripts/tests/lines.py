@@ -4,8 +4,8 @@
     scripts/tests/lines.py
 
 json.tsv has digests of the JSON of all samples' lines and of all stored results of `show`; it skips lines that are newer
-than json.tsv. filters.tsv has digests of lines that lines_filter filtered. format3.lines has lines of the next format
-version, and format3.json their JSON. The status is 0 if all agree.
+than json.tsv. filters.tsv has digests of lines that lines_filter filtered. format3.lines has lines of format version 3, also
+of options that linkshow doesn't have, and format3.json their JSON. The status is 0 if all agree.
 """
 import hashlib
 import json
@@ -17,6 +17,7 @@ sys.dont_write_bytecode = True
 sys.path += [str(TOP / "bindings/python/linkcap"), str(TOP / "tools/oracle")]
 import lines_filter  # noqa: E402
 import lines_json  # noqa: E402
+import linkshow  # noqa: E402
 import vectors  # noqa: E402
 
 HERE = Path(__file__).resolve().parent
@@ -67,18 +68,25 @@ def filter_faults():
 
 def value_formats():
     """Each attribute's name with the format of its value, by the tables of the independent implementation."""
-    for line in (TOP / "tools/oracle/rows.tsv").read_text().splitlines():
-        line_type, *columns = line.split("\t")
-        if line_type in ("row", "named"):
-            yield columns[2], columns[4].split()[0]
+    for name, style in [*linkshow.ROWS.values(), *linkshow.RAW_ROWS.values()]:
+        if name != "[]":
+            yield name, style.split()[0]
+
+
+def names_with(*formats):
+    return {name for name, style in value_formats() if style in formats}
 
 
 def name_faults():
     names = {name for name, _ in value_formats()}
     if names != lines_filter.NAMES:
         yield "NAMES of lines_filter: %s" % sorted(names ^ lines_filter.NAMES)
-    if {name for name, style in value_formats() if style in ("bytes", "hardware_address")} != lines_json.BYTES:
+    if not lines_filter.COUNTERS | lines_filter.INDEXES <= names:
+        yield "COUNTERS or INDEXES of lines_filter"
+    if names_with("bytes", "hardware_address", "bridge_id") != lines_json.BYTES:
         yield "BYTES of lines_json"
+    if names_with("numbers") != lines_json.NUMBER_LISTS:
+        yield "NUMBER_LISTS of lines_json"
 
 
 def main():

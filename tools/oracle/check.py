@@ -132,8 +132,8 @@ def mutate(rng, capture):
 def check_laws(seed, count):
     """(number of captures, a line for each law that one breaks)."""
     rng, line_texts, violations = random.Random(seed), LineTexts(), []
-    stored = [case.split(" ") for case in vectors.cases("norm")]
-    stored = [(int(limit), bytes.fromhex(capture)) for limit, capture in stored]
+    stored = [case.split(" ") for case in [*vectors.cases("norm"), *vectors.cases("show")]]
+    stored = [(int(limit), bytes.fromhex(capture)) for limit, *_, capture in stored]
     small = [(limit, capture) for limit, capture in stored if 16 < len(capture) < 2000]
     mutations = []
     for _ in range(count):

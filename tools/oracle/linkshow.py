@@ -1,6 +1,7 @@
 #!/usr/bin/env python3
 """Lines of a capture, in the format of lines.md.  Names, formats of values,
-records and texts of numbers are those of rows.tsv; linkoracle.py does the rest.
+records and texts of numbers are those of rows.tsv and raw.tsv; values.py makes
+texts of payloads, and linkoracle.py does the rest.
 
     python3 linkshow.py [--limit N] [--without-numbers] [--only TYPE,..] < CAPTURE
 
@@ -11,242 +12,278 @@ Library:
                                                     and its offset, or None
 """
 import argparse
-import ipaddress
 import os
+import re
 import sys
 
 HERE = os.path.dirname(os.path.abspath(__file__))
 sys.path.insert(0, HERE)
 import linkoracle as o      # noqa: E402
 
-from tables import DATA, FLAGS, NUMBERS, TYPES      # noqa: E402
+from tables import DATA, TYPES, read_data      # noqa: E402
+from values import exact_value, number, record, record_size, value      # noqa: E402
+
+RAW_DATA = read_data("raw.tsv")
+ANY = "*"
 
 
-def kernel_size(shape):
-    """The size of a kernel's attribute, by its shape `exact n`; None if it may have any."""
-    return None if shape == "raw" else int(shape.split(" ")[1])
-
-
-def fields(column):
-    """The fields of a record as (name, size, format), from `name:size` and `name:size:format`."""
-    return [(name, int(size), *(style or ["number"])) for name, size, *style in (f.split(":") for f in column.split(" "))]
+def matching(column):
+    """The set of numbers that a column of raw.tsv fits: None fits any."""
+    first, _, last = column.partition("-")
+    return None if column == ANY else range(int(first), int(last or first) + 1)
 
 
 # (table, kind) -> (name, format of the value)
 ROWS = {(table, int(kind)): (name, style) for table, kind, name, _, style in DATA["row"]}
-# (list of raw attributes, kind) -> (name, format of the value, size)
-NAMED = {(table, int(kind)): (name, style, kernel_size(shape)) for table, kind, name, shape, style in DATA["named"]}
-RECORDS = {name: fields(column) for name, column in DATA["record"]}
+# (table of raw attributes, kind or ANY) -> (name, format of the value)
+RAW_ROWS = {(table, kind if kind == ANY else int(kind)): (name, style) for table, kind, name, style in RAW_DATA["raw"]}
+RAW_TABLES = {table for table, _ in RAW_ROWS}
+# Where a list of raw attributes is in a link message -> its table
+LISTS = dict(RAW_DATA["list"])
+# (types, lowest bits of the flags, first bytes, record, table), each set None if any number fits
+BODIES = [(*map(matching, columns), record_name, table) for *columns, record_name, table in RAW_DATA["body"]]
 
-
-def quote(p):
-    out = ['"']
-    for c in o.drop_nul(p):
-        if c in b'"\\':
-            out.append("\\" + chr(c))
-        elif 32 <= c < 127:
-            out.append(chr(c))
-        else:
-            out.append("\\x%02x" % c)
-    return "".join(out) + '"'
-
-
-def address(p):
-    if len(p) == 4:
-        return str(ipaddress.IPv4Address(p))
-    if p[:12] == bytes(10) + b"\xff\xff":
-        return "::ffff:" + str(ipaddress.IPv4Address(p[12:]))
-    return str(ipaddress.IPv6Address(p))
-
-
-def hex_with_colons(p):
-    return ":".join("%02x" % c for c in p)
-
-
-def flag_names(name, n):
-    names = [t for bit, t in FLAGS[name] if n & bit]
-    for bit, _ in FLAGS[name]:
-        n &= ~bit
-    if n and names:
-        names.append("0x%x" % n)
-    return " (%s)" % " | ".join(names) if names else ""
-
-
-def number(style, p):
-    """A number or a set of flags, with the text or names that its type gives it."""
-    name, _, type_name = style.partition(" ")
-    n = int.from_bytes(p, "big" if name.startswith("big_endian") else "little", signed=name == "signed")
-    if name.endswith("flags"):
-        return "0x%x%s" % (n, flag_names(type_name, n) if type_name else "")
-    assert name in ("number", "big_endian", "signed"), style
-    text = NUMBERS[type_name].get(n) if type_name else None
-    return "%d%s" % (n, " (%s)" % text if text else "")
-
-
-def padded_address(p):
-    """The address in a field of 32 bytes, without the zeros at its end from the 7th byte on."""
-    n = len(p)
-    while n > 6 and p[n - 1] == 0:
-        n -= 1
-    return hex_with_colons(p[:n])
-
-
-def on_or_off(p):
-    return "on" if any(p) else "off"
-
-
-def field(style, p):
-    if style == "padded_address":
-        return padded_address(p)
-    if style == "boolean":
-        return on_or_off(p)
-    return number(style, p)
-
-
-def record(name, p, is_sparse):
-    out, at = [], 0
-    for field_name, size, style in RECORDS[name]:
-        part = p[at:at + size]
-        at += size
-        if is_sparse and not any(part):
-            continue
-        out.append("%s=%s" % (field_name, field(style, part)))
-    assert not any(p[at:]), (name, at, len(p))
-    return " ".join(out)
-
-
-def port_range(p):
-    return "%d %d" % (int.from_bytes(p[:2], "big"), int.from_bytes(p[2:], "big"))
-
-
-def flags_by_size(p):
-    """The value of IFLA_IPTUN_FLAGS, which has 2 bytes under ipip and sit, and 4 under ip6tnl."""
-    return number("flags" if len(p) == 4 else "big_endian_flags", p)
-
-
-VALUES = {
-    "presence": lambda p: "",
-    "bytes": bytes.hex,
-    "hardware_address": hex_with_colons,
-    "text": quote,
-    "address": address,
-    "boolean": on_or_off,
-    "optional_byte": lambda p: str(p[0]) if p else "",
-    "port_range": port_range,
-    "flags_by_size": flags_by_size,
-    "flags_and_mask": lambda p: "%s mask %s" % (number("flags", p[:4]), number("flags", p[4:])),
-}
-
-
-def value(style, p):
-    """The text of a canonical payload, which follows the attribute's name."""
-    name, _, type_name = style.partition(" ")
-    if name in VALUES:
-        return VALUES[name](p)
-    if name in ("fields", "sparse_record"):
-        return record(type_name, p, name == "sparse_record")
-    return number(style, p)
+NESTED, BIG_ENDIAN = 0x8000, 0x4000     # the flag bits of a kind
 
 
 def line(depth, name, text=""):
     return "  " * depth + name + (" " + text if text else "") + "\n"
 
 
-def named_bytes(table, e):
-    """The name and the value of an attribute that the normal text keeps as
-    bytes, with all 16 bits of its kind.
-
-    The name is the kernel's for these 16 bits, or else the kind.  The value is
-    formatted if it has the kernel's size, and else `bytes` and the bytes.
-    """
-    if (table, e.kind) not in NAMED:
-        return "kind 0x%04x" % e.kind, e.payload.hex()
-    name, style, size = NAMED[table, e.kind]
-    if size is None:
-        return name, e.payload.hex()
-    if len(e.payload) != size:
-        return name, ("bytes " + e.payload.hex()).rstrip()
-    return name, value(style, e.payload)
+def word_of(record_name):
+    """The word at the start of a record's line."""
+    return record_name.partition("/")[0]
 
 
-def raw_list_name(table, context, e):
-    """The name in rows.tsv of the list of raw attributes inside an attribute, or None."""
-    kind, port_kind, family = context
-    if table == "link_info":
-        return "data " + kind if o.proper(e.kind) == 2 else "port " + port_kind
-    if table == "link":
-        return "family %d kind %d" % (family, o.proper(e.kind))
+# --------------------------------------------------------------------------
+# Lists of raw attributes
+
+def cut_exactly(b):
+    """The attributes (kind, payload) of a list without anything after them and with padding that is zero, or None."""
+    out, at = [], 0
+    while at < len(b):
+        size = o.u16(b, at) if len(b) - at >= 4 else 0
+        end = at + o.round_up(size)
+        if size < 4 or end > len(b) or any(b[at + size:end]):
+            return None
+        out.append((o.u16(b, at + 2), b[at + 4:at + size]))
+        at = end
+    return out
+
+
+def raw_list(depth, table, b):
+    """The lines of a list of raw attributes, or None if the bytes aren't exactly a list."""
+    attributes = cut_exactly(b)
+    if attributes is None:
+        return None
+    return [text for kind, p in attributes for text in raw_lines(depth, table, kind, p, attributes)]
+
+
+def raw_lines(depth, table, kind, p, attributes=()):
+    """The lines of a raw attribute.  `attributes` are those of its list, one of which may have the type of an encapsulation."""
+    row = None if kind & BIG_ENDIAN else RAW_ROWS.get((table, kind & ~NESTED)) or RAW_ROWS.get((table, ANY))
+    if row is None:
+        return [line(depth, "kind 0x%04x" % kind, p.hex())]
+    name, style = row
+    if name == "[]":
+        name = "[%d]" % (kind & ~NESTED)
+    return payload_lines(depth, name + (" nested" if kind & NESTED else ""), style, p, attributes)
+
+
+def payload_lines(depth, name, style, p, attributes=()):
+    """The lines of a payload by its format, or else `bytes` and the bytes."""
+    style_name, *parameters = style.split(" ")
+    if style_name in BLOCKS:
+        below = BLOCKS[style_name](depth + 1, p, attributes, *parameters)
+        if below is not None:
+            return [line(depth, name), *below]
+        text = None
+    else:
+        text = exact_value(style, p)
+    return [line(depth, name, ("bytes " + p.hex()).rstrip() if text is None else text)]
+
+
+def list_block(depth, p, _, table):
+    return raw_list(depth, table, p)
+
+
+def encapsulation_block(depth, p, attributes, type_kind):
+    """The list of an encapsulation, whose type is that of the first attribute of its list with 2 bytes and a kind."""
+    types = [o.u16(q, 0) for kind, q in attributes if kind & ~NESTED == int(type_kind) and len(q) == 2]
+    table = "encap %d" % types[0] if types else None
+    return raw_list(depth, table, p) if table in RAW_TABLES else None
+
+
+def record_and_list_block(depth, p, _, record_name, table):
+    return record_and_list(depth, record_name, table, p)
+
+
+def records_block(depth, p, _, record_name):
+    size = record_size(record_name)
+    texts = [record(record_name, p[at:at + size], " ") for at in range(0, len(p), size)]
+    return None if None in texts else [line(depth, record_name, text) for text in texts]
+
+
+def next_hops_block(depth, p, _, table):
+    """The next hops of a route: each a length in 2 bytes, a record, and a list up to the length."""
+    out = []
+    while p:
+        size = o.u16(p, 0) if len(p) >= 8 else 0
+        below = raw_list(depth + 1, table, p[8:size]) if 8 <= size <= len(p) else None
+        if below is None:
+            return None
+        out += [line(depth, "rtnexthop", record("rtnexthop", p[2:8], " ")), *below]
+        p = p[size:]
+    return out
+
+
+# Formats of several lines, as functions that return None if they don't take a payload
+BLOCKS = {
+    "list": list_block,
+    "encapsulation": encapsulation_block,
+    "record_and_list": record_and_list_block,
+    "records": records_block,
+    "next_hops": next_hops_block,
+}
+
+
+def record_and_list(depth, record_name, table, b):
+    """The lines of a record, and of the list after it, or None if the bytes aren't exactly these.  The table `-` has none."""
+    size = record_size(record_name)
+    header, below = record(record_name, b[:size], " "), raw_list(depth, table, b[size:])
+    if header is None or below is None or table == "-" and below:
+        return None
+    return [line(depth, word_of(record_name), header), *below]
+
+
+# --------------------------------------------------------------------------
+# Bodies of messages of types other than links
+
+def body_row(kind, flags, body):
+    """The record and the table of the first line `body` of raw.tsv that fits, or None."""
+    numbers = (kind, flags & 1, body[0] if body else None)
+    for *sets, record_name, table in BODIES:
+        if all(fit is None or n in fit for fit, n in zip(sets, numbers)):
+            return record_name, table
     return None
+
+
+def other_body_lines(kind, flags, body):
+    """The lines of a body of another type than links."""
+    row = body_row(kind, flags, body)
+    if row and kind % 4 == 2 and len(body) == 4 < record_size(row[0]):
+        row = ("rtgenmsg", "-")     # the shortest request of all objects
+    shown = record_and_list(1, *row, body) if row else None
+    return [line(1, "body", body.hex())] if shown is None else shown
+
+
+# --------------------------------------------------------------------------
+# Link messages
+
+class Context:
+    """What an attribute's lines depend on: the kinds in force, the address family, and whether its message is a request."""
+
+    def __init__(self, family, is_request):
+        self.kind, self.port_kind = None, None
+        self.family, self.is_request = family, is_request
+
+
+def place_of_list(table, context, e):
+    """Where the list in an attribute is, as in the lines `list` of raw.tsv."""
+    kind = o.proper(e.kind)
+    if table == "link_info":
+        return {2: "data %s" % context.kind, 3: "xstats %s" % context.kind, 5: "port %s" % context.port_kind}.get(kind)
+    if table == "link":
+        return "port_self" if kind == 25 else "family %d kind %d" % (context.family, kind)
+    return table
+
+
+def bytes_lines(depth, table, context, e):
+    """The lines of an attribute that has a row and keeps any bytes: as those of a raw attribute with its table and kind."""
+    kind = o.proper(e.kind)
+    name, style = ROWS[table, kind]
+    if (table, kind) == ("link_info", 3):
+        table = LISTS.get(place_of_list(table, context, e))
+    style = "hardware_address" if style == "hardware_address" else "bytes"
+    return payload_lines(depth, name, RAW_ROWS.get((table, kind), (name, style))[1], e.payload)
 
 
 def entry_lines(depth, table, e, context):
     if e.row.raw:
-        return [line(depth, *named_bytes(table, e))]
+        return raw_lines(depth, table, e.kind, e.payload)
     kind = o.proper(e.kind)
     name, style = ROWS[table, kind]
     if o.is_nested(e):
         inner = e.row.table.name
         if inner == "raw":
-            inner = raw_list_name(table, context, e)
-        return [line(depth, name)] + list_lines(depth + 1, inner, o.kept_entries(e), context[2])
+            inner = LISTS.get(place_of_list(table, context, e))
+        return [line(depth, name)] + list_lines(depth + 1, inner, o.kept_entries(e), context)
     if e.row is o.PEER:
-        return [line(depth, name)] + body_lines(depth + 1, e.content)
-    if e.row.name == "raw" and style != "hardware_address":     # bytes in this context
-        style = "bytes"
-    return [line(depth, name, value(style, e.row.canonical(e.payload)))]
+        return [line(depth, name)] + body_lines(depth + 1, e.content, context.is_request)
+    if e.row.name == "raw":
+        return bytes_lines(depth, table, context, e)
+    payload = e.row.canonical(e.payload)
+    if context.is_request and (table, kind) == ("inet", 1):     # kernels read a request's as attributes
+        return [line(depth, name, "bytes " + payload.hex())]
+    return [line(depth, name, value(style, payload))]
 
 
-def list_lines(depth, table, entries, family):
-    out, kind, port_kind = [], None, None
+def list_lines(depth, table, entries, outer):
+    """The lines of a list.  Its own attributes alone change the kinds in force."""
+    out, context = [], Context(outer.family, outer.is_request)
     for e in entries:
-        out += entry_lines(depth, table, e, (kind, port_kind, family))
+        out += entry_lines(depth, table, e, context)
         if table == "link_info" and e.row.name == "text":
             if o.proper(e.kind) == 1:
-                kind = o.kind_name(e.payload)
+                context.kind = o.kind_name(e.payload)
             else:
-                port_kind = o.kind_name(e.payload)
+                context.port_kind = o.kind_name(e.payload)
     return out
 
 
-def body_lines(depth, body):
+def body_lines(depth, body, is_request):
     layer = o.written_layer(body.layer)
-    head = "family %s type %s index %d flags %s change %s" % (
-        number("number AddressFamily", bytes([body.family])),
-        number("number LinkLayerType", o.p16(layer)), body.index,
-        number("named_flags LinkFlags", o.p32(body.flags)),
-        number("named_flags LinkFlags", o.p32(body.mask)))
-    return [line(depth, "ifinfomsg", head)] + list_lines(depth, "link", body.entries, body.family)
+    header = "family %s type %s index %d flags %s change %s" % (
+        number("number", "AddressFamily", bytes([body.family])),
+        number("number", "LinkLayerType", o.p16(layer)), body.index,
+        number("named_flags", "LinkFlags", o.p32(body.flags)),
+        number("named_flags", "LinkFlags", o.p32(body.mask)))
+    return [line(depth, "ifinfomsg", header)] + list_lines(depth, "link", body.entries, Context(body.family, is_request))
 
+
+# --------------------------------------------------------------------------
+# Messages
 
 def flag_set(kind):
-    """The set of flags that a message's type determines, as the end of its name in rows.tsv."""
+    """The set of flags that a message's type determines, by its name in rows.tsv."""
     if kind == 2:
-        return "Ack"
-    return ("Create", "Delete", "Get", "Create")[kind % 4] if kind >= 16 and kind in TYPES else ""
+        return "NlmFlagsAck"
+    return "NlmFlags" + (("Create", "Delete", "Get", "Create")[kind % 4] if kind >= 16 and kind in TYPES else "")
+
+
+def header_text(kind, flags, sequence, port, numbers):
+    text = "%s flags %s" % (TYPES.get(kind, "type %d" % kind), number("named_flags", flag_set(kind), o.p16(flags)))
+    return text + (" seq %d port %d" % (sequence, port) if numbers else "")
+
+
+def error_lines(kind, body, numbers):
+    """The lines of an error's body, or of the end of a dump."""
+    out, rest = [line(1, "code", number("signed", "", body[:4]))], body[4:]
+    if kind == o.ERROR and len(rest) >= 16:     # the request's header
+        header = header_text(o.u16(rest, 4), o.u16(rest, 6), o.u32(rest, 8), o.u32(rest, 12), numbers)
+        out.append(line(1, "request", "length %d %s" % (o.u32(rest, 0), header)))
+        rest = rest[16:]
+    return out + ([line(1, "rest", rest.hex())] if rest else [])
 
 
 def frame_lines(f, numbers=True):
-    flags = number("named_flags NlmFlags" + flag_set(f.type), o.p16(f.flags))
-    header = "flags " + flags + (" seq %d port %d" % (f.sequence, f.port) if numbers else "")
-    out = [line(0, TYPES.get(f.type, "type %d" % f.type), header)]
+    out = [line(0, header_text(f.type, f.flags, f.sequence, f.port, numbers))]
     if f.link is not None:
-        return out + body_lines(1, f.link)
+        return out + body_lines(1, f.link, bool(f.flags & 1))
     body = f.plain_text()
     if f.type in (o.ERROR, o.DONE):
-        out.append(line(1, "code", str(int.from_bytes(body[:4], "little", signed=True))))
-        rest = body[4:]
-        if f.type == o.ERROR and len(rest) >= 16:   # the request's header
-            kind, size = o.u16(rest, 4), o.u32(rest, 0)
-            request = "length %d %s flags %s" % (size, TYPES.get(kind, "type %d" % kind),
-                                                 number("named_flags NlmFlags" + flag_set(kind), rest[6:8]))
-            request += " seq %d port %d" % (o.u32(rest, 8), o.u32(rest, 12)) if numbers else ""
-            out.append(line(1, "request", request))
-            rest = rest[16:]
-        if rest:
-            out.append(line(1, "rest", rest.hex()))
-    elif body:
-        out.append(line(1, "body", body.hex()))
-    return out
+        return out + error_lines(f.type, body, numbers)
+    return out + (other_body_lines(f.type, f.flags, body) if body else [])
 
 
 def lines(capture, limit=o.DEFAULT_LIMIT, stage="peers", numbers=True, only=None):
@@ -259,10 +296,20 @@ def lines(capture, limit=o.DEFAULT_LIMIT, stage="peers", numbers=True, only=None
                    if only is None or f.type in only), fault
 
 
+def read_type(word):
+    """The type that a word of --only names: a name, with or without its part up to the first `_`, or a number."""
+    names = {name.lower(): kind for kind, name in TYPES.items()}
+    names.update({name.partition("_")[2]: kind for name, kind in list(names.items())})
+    if word.lower() in names:
+        return names[word.lower()]
+    if re.fullmatch("[0-9]{1,5}", word) and int(word) < 65536:
+        return int(word)
+    raise argparse.ArgumentTypeError("no type of messages is called %s" % word)
+
+
 def read_only(argument):
-    """The types of `newlink,setlink,77`; ValueError if one is neither a name nor a number of a type."""
-    names = {name.split("_")[1].lower(): kind for kind, name in TYPES.items()}
-    return {names[w] if w in names else int(w) if w.isdigit() and int(w) < 65536 else int("") for w in argument.split(",")}
+    """The types of `newlink,RTM_SETLINK,77`."""
+    return {read_type(word) for word in argument.split(",")}
 
 
 # --------------------------------------------------------------------------

@@ -1,4 +1,4 @@
-"""Shapes, and the tables of rows.tsv, for linkoracle.py.
+"""Shapes, and the tables of rows.tsv, for linkoracle.py, linkshow.py and values.py.
 
 A row is a shape (docs/shapes.md), a list, a peer, or a choice that depends on
 its context.  A table has a row for each of its kinds (docs/rows.md).
@@ -212,20 +212,20 @@ class Table:
 # --------------------------------------------------------------------------
 # rows.tsv
 
-PATH = os.path.join(os.path.dirname(os.path.abspath(__file__)), "rows.tsv")
+HERE = os.path.dirname(os.path.abspath(__file__))
 
 
-def read_data():
-    """The lines of rows.tsv by their first column, each as its other columns."""
+def read_data(file_name):
+    """The lines of a file by their first column, each as its other columns."""
     lines = {}
-    for line in open(PATH, encoding="utf-8"):
+    for line in open(os.path.join(HERE, file_name), encoding="utf-8"):
         if not line.startswith("#"):
             key, *columns = line.rstrip("\n").split("\t")
             lines.setdefault(key, []).append(columns)
     return lines
 
 
-DATA = read_data()
+DATA = read_data("rows.tsv")
 TABLES = {"raw": Table("raw")}      # of a list of raw attributes
 for _name, *_ in DATA["row"]:
     TABLES.setdefault(_name, Table(_name))

@@ -12,19 +12,25 @@ from typing import Any, Dict, Iterable, Iterator, List, Optional
 
 Json = Dict[str, Any]
 
-# The attributes whose values are bytes in hex, which may look like numbers, in format version 2 of the lines.
+# The attributes whose values are bytes in hex, which may look like numbers, in format version 3 of the lines.
 BYTES = frozenset("""
-    IFLA_ADDRESS IFLA_AF_SPEC IFLA_BOND_AD_ACTOR_SYSTEM IFLA_BOND_AD_INFO IFLA_BOND_ARP_IP_TARGET IFLA_BOND_NS_IP6_TARGET
-    IFLA_BOND_SLAVE_PERM_HWADDR IFLA_BRIDGE_CFM IFLA_BRIDGE_MRP IFLA_BRIDGE_MST IFLA_BRIDGE_VLAN_INFO
-    IFLA_BRIDGE_VLAN_TUNNEL_INFO IFLA_BROADCAST IFLA_BRPORT_BRIDGE_ID IFLA_BRPORT_PAD IFLA_BRPORT_ROOT_ID IFLA_BR_BRIDGE_ID
-    IFLA_BR_GROUP_ADDR IFLA_BR_MCAST_QUERIER_STATE IFLA_BR_PAD IFLA_BR_ROOT_ID IFLA_CAN_BERR_COUNTER IFLA_CAN_BITRATE_CONST
-    IFLA_CAN_BITTIMING IFLA_CAN_BITTIMING_CONST IFLA_CAN_CTRLMODE IFLA_CAN_CTRLMODE_EXT IFLA_CAN_DATA_BITRATE_CONST
-    IFLA_CAN_DATA_BITTIMING IFLA_CAN_DATA_BITTIMING_CONST IFLA_CAN_TDC IFLA_CAN_TERMINATION_CONST IFLA_COST
-    IFLA_GENEVE_PORT_RANGE IFLA_HSR_SUPERVISION_ADDR IFLA_INET6_CACHEINFO IFLA_INET6_CONF IFLA_INET6_ICMP6STATS
-    IFLA_INET6_MCAST IFLA_INET6_STATS IFLA_INET6_TOKEN IFLA_INFO_DATA IFLA_INFO_SLAVE_DATA IFLA_INFO_XSTATS
-    IFLA_MACVLAN_MACADDR IFLA_NETKIT_PEER_INFO IFLA_PERM_ADDRESS IFLA_PHYS_PORT_ID IFLA_PHYS_SWITCH_ID IFLA_PRIORITY
-    IFLA_PROTINFO IFLA_VF_IB_NODE_GUID IFLA_VF_IB_PORT_GUID IFLA_VLAN_EGRESS_QOS IFLA_VLAN_INGRESS_QOS IFLA_WIRELESS
-    VETH_INFO_PEER VXCAN_INFO_PEER""".split())
+    BOND_3AD_STAT_PAD BRIDGE_QUERIER_PAD BRIDGE_VLANDB_GOPTS_PAD BRIDGE_VLANDB_STATS_PAD BRIDGE_XSTATS_PAD FRA_PAD
+    FRA_UNUSED2 FRA_UNUSED3 FRA_UNUSED4 FRA_UNUSED5 IFLA_ADDRESS IFLA_AF_SPEC IFLA_BOND_AD_ACTOR_SYSTEM
+    IFLA_BOND_AD_INFO_PARTNER_MAC IFLA_BOND_SLAVE_PERM_HWADDR IFLA_BRIDGE_CFM_CC_CCM_TX_DMAC
+    IFLA_BRIDGE_CFM_CC_CONFIG_EXP_MAID IFLA_BRIDGE_CFM_MEP_CONFIG_UNICAST_MAC IFLA_BROADCAST IFLA_BRPORT_BRIDGE_ID
+    IFLA_BRPORT_PAD IFLA_BRPORT_ROOT_ID IFLA_BR_BRIDGE_ID IFLA_BR_GROUP_ADDR IFLA_BR_PAD IFLA_BR_ROOT_ID IFLA_COST
+    IFLA_HSR_SUPERVISION_ADDR IFLA_INET6_MCAST IFLA_INFO_DATA IFLA_INFO_SLAVE_DATA IFLA_INFO_XSTATS IFLA_MACVLAN_MACADDR
+    IFLA_NETKIT_PEER_INFO IFLA_PERM_ADDRESS IFLA_PHYS_PORT_ID IFLA_PHYS_SWITCH_ID IFLA_PORT_HOST_UUID
+    IFLA_PORT_INSTANCE_UUID IFLA_PRIORITY IFLA_PROTINFO IFLA_WIRELESS IOAM6_IPTUNNEL_TRACE LWTUNNEL_IP6_PAD
+    LWTUNNEL_IP_OPT_GENEVE_DATA LWTUNNEL_IP_PAD NDA_LLADDR NDTA_PAD NDTPA_PAD NHA_RES_BUCKET_PAD NHA_RES_GROUP_PAD
+    RPL_IPTUNNEL_SRH RTA_MP_ALGO RTA_PAD RTA_PROTOINFO RTA_SESSION SEG6_IPTUNNEL_SRH SEG6_LOCAL_CNT_PAD SEG6_LOCAL_SRH
+    TCA_ACT_COOKIE TCA_ACT_OPTIONS TCA_ACT_PAD TCA_OPTIONS TCA_PAD TCA_STATS_APP TCA_STATS_PAD TCA_XSTATS VETH_INFO_PEER
+    VNIFILTER_ENTRY_STATS_PAD VXCAN_INFO_PEER""".split())
+
+# The attributes whose values are any number of numbers.
+NUMBER_LISTS = frozenset("""
+    IFLA_CAN_BITRATE_CONST IFLA_CAN_DATA_BITRATE_CONST IFLA_CAN_TERMINATION_CONST IFLA_CAN_XL_DATA_BITRATE_CONST
+    TCA_STAB_DATA""".split())
 
 _TOKEN = re.compile(r'[^\s"(]*"(?:[^"\\]|\\.)*"|\([^)]*\)|[^\s"]+')
 _NUMBER = re.compile(r"-?[0-9]+")
@@ -128,17 +134,18 @@ def _attribute_value(name: str, tokens: _Tokens) -> Json:
         return {"fields": int(tokens.take()), "value": _assignments(tokens)}
     if _ASSIGNMENT.match(first):
         return {"value": _assignments(tokens)}
+    if name in NUMBER_LISTS:
+        return {"value": _several(tokens.rest())}
     value = _value(tokens, name in BYTES)
     if tokens.peek() == "mask":
         tokens.take()
         mask = _value(tokens)
         return {**value, "mask": mask["value"], "mask_flags": mask["flags"]}
-    return value if not tokens.peek() else {"value": _several(first, tokens.rest())}
+    return value if not tokens.peek() else {"value": _several([first, *tokens.rest()])}
 
 
-def _several(first: str, others: List[str]) -> Any:
-    """Several numbers as a list, and any other text, such as a label stack, as a string."""
-    words = [first, *others]
+def _several(words: List[str]) -> Any:
+    """Numbers as a list, and any other text, such as a label stack, as a string."""
     return [int(word) for word in words] if all(map(_NUMBER.fullmatch, words)) else " ".join(words)
 
 

@@ -1,6 +1,6 @@
--- The names that lines show for numbers and flags, compared with the typed displays.
-use Rattle.std.specs.Prelude.{◌≡◌, ◌==◌, ◌+◌, ◌&&◌, nat_le, ℕ, List, cond, map}
-use Rattle.std.specs.List.{after_first}
+-- The names that lines show for numbers and flags, compared with the typed displays and with the words of `--only`.
+use Rattle.std.specs.Prelude.{◌≡◌, ℕ, List, Some, map, true}
+use Rattle.std.specs.List.{Contains}
 use Rattle.link_lines_values.specs.Names.{Text, texts_of}
 use Rattle.link_lines_values.specs.declared.flags.TheConstants.{LINK_FLAGS}
 use Rattle.link_lines_values.specs.declared.number_texts.TheConstants.{AMT_MODE, GENEVE_DF, VXLAN_DF, GTP_ROLE}
@@ -9,8 +9,7 @@ use Rattle.link_lines_values.specs.declared.number_texts.TheConstants.{IP_VLAN_M
 use Rattle.link_lines_values.specs.declared.number_texts.TheConstants.{NETKIT_POLICY, NETKIT_SCRUB, STATE, LINK_MODE}
 use Rattle.link_lines_values.specs.declared.number_texts.TheConstants.{IN6_ADDR_GEN_MODE, MCTP_PHYS_BINDING}
 use Rattle.link_lines_values.specs.declared.number_texts.TheConstants.{LINK_LAYER_TYPE, MESSAGE_TYPE}
-use Rattle.linkshow_program.specs.declared.types.TheConstants.{TYPE_WORDS}
-use Rattle.linkshow_program.specs.Types.{message_labels}
+use Rattle.linkshow_program.specs.Types.{is_word_of, named_type}
 use Rattle.link_info_types.specs.AmtTypes.{amt_mode_number, amt_mode_text, listed_amt_modes}
 use Rattle.link_info_types.specs.GeneveTypes.{geneve_df_number, geneve_df_text, listed_geneve_dfs}
 use Rattle.link_info_types.specs.GreTypes.{er_span_dir_number, er_span_dir_text, gre_encap_type_number}
@@ -73,16 +72,8 @@ pub record NumbersAreDisplayed : Type 0 where
       displayed link_layer_type_number link_layer_type_text listed_link_layer_types
   pub link_flags : texts_of (λ name. name.now) LINK_FLAGS.now ≡ map (λ row. (row.1, row.0)) link_flags_table
 
--- A byte in lower case.
-abbrev pub in_lower_case : ℕ → ℕ
-in_lower_case c = cond (nat_le 65 c && nat_le c 90) (c + 32) c
-
--- The words by which linkshow knows message types are the names that lines show, in lower case, without the part up to
--- the first `_`.
-abbrev pub TypesHaveWords : Type 0
-TypesHaveWords =
-    message_labels (λ word. word.now) TYPE_WORDS.now ≡
-    map (λ row. (
-      row.0,
-      map in_lower_case (after_first (λ c. c == 95) row.1),
-    )) (texts_of (λ name. name.now) MESSAGE_TYPE.now)
+-- For each message type that has a name in lines, a word is read as that type if it is the name, or what follows the
+-- name's first `_`; the case of ASCII letters doesn't count.
+pub record TypesHaveNames : Type 0 where
+  pub by_name : (r : Text) (word : List ℕ) → Contains (texts_of (λ name. name.now) MESSAGE_TYPE.now) r →
+      is_word_of r.1 word ≡ true → named_type word ≡ Some r.0

@@ -3,7 +3,13 @@
 #![tactic(auto)]
 
 #[cfg(test)]
+mod bodies;
+#[cfg(test)]
+mod exact;
+#[cfg(test)]
 mod first_bytes;
 pub mod laws;
+#[cfg(test)]
+mod raw;
 #[cfg(test)]
 mod values;

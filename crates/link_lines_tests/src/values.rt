@@ -24,7 +24,7 @@ fn first_wrong(alloc: Global, cases: &[Case]) -> Result<Option<&'static str>, Al
     Ok(None)
 }
 
-const NUMBERS: [Case; 11] = [
+const NUMBERS: [Case; 13] = [
     (ShownBy::Number(STATE), &[6], " 6 (UP)"),
     (ShownBy::Number(STATE), &[9], " 9"),
     (ShownBy::Number(PLAIN), &[1, 2], " 513"),
@@ -49,9 +49,15 @@ const NUMBERS: [Case; 11] = [
         &[0, 0, 1, 0, 0, 0, 0, 3],
         " 1099511627779",
     ),
-    (ShownBy::Signed, &[239, 255, 255, 255], " -17"),
-    (ShownBy::Signed, &[255, 255, 255, 127], " 2147483647"),
-    (ShownBy::Signed, &[0, 0, 0, 128], " -2147483648"),
+    (ShownBy::Signed(PLAIN), &[239, 255, 255, 255], " -17"),
+    (
+        ShownBy::Signed(&[(u32::MAX, b"all")]),
+        &[255, 255, 255, 255],
+        " -1 (all)",
+    ),
+    (ShownBy::Number(PLAIN), &[1, 2, 3], " 197121"),
+    (ShownBy::Signed(PLAIN), &[255, 255, 255, 127], " 2147483647"),
+    (ShownBy::Signed(PLAIN), &[0, 0, 0, 128], " -2147483648"),
 ];
 
 #[test]
@@ -60,16 +66,21 @@ fn numbers_are_shown_with_their_names(rt: HostRuntime) -> Result<(), Fail> {
     Ok(())
 }
 
-const FLAGS_AND_RANGES: [Case; 7] = [
+const FLAGS_AND_RANGES: [Case; 8] = [
     (ShownBy::Flags, &[240, 1, 0, 0], " 0x1f0"),
     (ShownBy::Flags, &[0], " 0x0"),
     (ShownBy::BigEndianFlags, &[32, 1], " 0x2001"),
-    (ShownBy::FlagsBySize, &[1, 239, 205, 171], " 0xabcdef01"),
-    (ShownBy::FlagsBySize, &[1, 2], " 0x102"),
+    (ShownBy::Flags, &[1, 239, 205, 171], " 0xabcdef01"),
+    (ShownBy::Flags, &[255, 255, 255, 255], " 0xffffffff (all)"),
     (
-        ShownBy::FlagsAndMask,
+        ShownBy::FlagsAndMask(PLAIN),
         &[1, 0, 0, 0, 255, 0, 0, 0],
         " 0x1 mask 0xff",
+    ),
+    (
+        ShownBy::FlagsAndMask(LINK_FLAGS),
+        &[1, 0, 0, 0, 255, 255, 255, 255],
+        " 0x1 (Up) mask 0xffffffff (all)",
     ),
     (ShownBy::PortRange, &[128, 0, 238, 72], " 32768 61000"),
 ];
@@ -152,18 +163,17 @@ fn addresses_are_shown_as_rust_prints_them(rt: HostRuntime) -> Result<(), Fail> 
 fn payloads_of_other_sizes_are_shown_as_bytes(rt: HostRuntime) -> Result<(), Fail> {
     for shown in [
         ShownBy::Number(PLAIN),
-        ShownBy::Signed,
+        ShownBy::Signed(PLAIN),
         ShownBy::Flags,
-        ShownBy::FlagsBySize,
         ShownBy::Address,
         ShownBy::PortRange,
-        ShownBy::FlagsAndMask,
+        ShownBy::FlagsAndMask(PLAIN),
         ShownBy::OptionalByte,
         ShownBy::Record(VF_VLAN),
     ] {
         let mut out = Vec::new(rt.alloc());
-        push_value(shown, &[1, 2, 15], &mut out)?;
-        assert!(rt; out.as_slice() == " 01020f".as_bytes());
+        push_value(shown, &[1, 2, 15, 16, 17], &mut out)?;
+        assert!(rt; out.as_slice() == " 01020f1011".as_bytes());
     }
     Ok(())
 }

@@ -1,7 +1,7 @@
 -- Lines determine frames, provided that they determine lists of attributes.
-use Rattle.std.proofs.Common.{◌≡◌, ℕ, ◌≤◌, Bool, true, false, cond, List, [], ◌∷◌, ◌++◌, length, take, drop, get_or, Ok, Err, refl, sym, ap, subst, ◌∙◌, append_assoc, arith, inl, inr}
+use Rattle.std.proofs.Common.{◌≡◌, ℕ, ◌%◌, ◌≤◌, Bool, true, false, cond, List, [], ◌∷◌, ◌++◌, length, take, drop, get_or, Option, Some, None, Ok, Err, refl, sym, ap, subst, ◌∙◌, append_assoc, arith, inl, inr}
 use Rattle.std.specs.Prelude.{◌==◌, nat_le, codes}
-use Rattle.std.proofs.lemmas.Bool.{eqb-true, leb-true, ltb-false, le-leb, ne_eqb}
+use Rattle.std.proofs.lemmas.Bool.{cond_both, eqb-true, leb-true, ltb-false, le-leb, ne_eqb}
 use Rattle.std.proofs.lemmas.Bool.Decides.{eqb_tells}
 use Rattle.std.proofs.lemmas.List.{append_cancel_left, length-drop, length-take}
 use Rattle.netlink_packet_core_grammar.specs.Bytes.{AreBytes}
@@ -14,8 +14,16 @@ use Rattle.link_lines_values.specs.Values.{value_text}
 use Rattle.link_lines_values.proofs.BytesDetermined.{bytes_determined}
 use Rattle.link_lines_values.proofs.NumbersDetermined.{numbers_determined}
 use Rattle.link_lines_values.proofs.OneLine.{values_are_lines}
-use Rattle.link_lines_texts.specs.Frames.{after_code, bytes_line, body_lines, code_lines, frame_lines, header_line, link_lines, request_line, type_text}
-use Rattle.link_lines_texts.specs.Determination.{AreKnown, FramesAreDetermined, IsCanonicalFrame, IsShallow, NumbersAreKnown, StartsFrame}
+use Rattle.link_lines_texts.specs.Frames.{after_code, bytes_line, body_lines, code_lines, frame_lines, has_request_flag, header_line, in_message, link_lines, or_bytes, other_lines, request_line, type_text}
+use Rattle.link_lines_raw.specs.declared.bodies.BodyRow.{BodyRow}
+use Rattle.link_lines_raw.specs.declared.bodies.Header.TheVariants as H
+use Rattle.link_lines_raw.specs.declared.bodies.TheConstants.{BODIES}
+use Rattle.link_lines_raw.specs.Attributes.{record_words}
+use Rattle.link_lines_raw.specs.Bodies.{body_lines as raw_body_lines, first_fitting, header_line as body_header, is_general, record_and_list, row_lines}
+use Rattle.link_lines_raw.specs.Lines.{IsShallow, Line, lines_text}
+use Rattle.link_lines_raw.proofs.BodiesDetermined.{bodies_determined as bodies_are_determined}
+use Rattle.std.proofs.lemmas.Option.{same_Some}
+use Rattle.link_lines_texts.specs.Determination.{AreKnown, FramesAreDetermined, IsCanonicalFrame, NumbersAreKnown, StartsFrame}
 use Rattle.link_lines_texts.proofs.LineCuts.{following, cut_line}
 use Rattle.link_lines_texts.proofs.HeadersDetermined.{flags_part, header_determined, request_determined, type_starts}
 use Rattle.link_lines_texts.proofs.LinksDetermined.{lists_are_determined}
@@ -81,7 +89,7 @@ after_done n p q s t a b h m i j e = bytes_line_determined (codes "rest") p q s 
 abbrev rest_part : Bool → ℕ → List ℕ → List ℕ
 rest_part n m b = after_code n m (drop 4 b)
 
-pub code_lines_are : (n : Bool) (m : ℕ) (b : List ℕ) → 4 ≤ length b → code_lines n m b ≡ codes "  code" ++ (value_text Signed (take 4 b) ++ 10 ∷ rest_part n m b)
+pub code_lines_are : (n : Bool) (m : ℕ) (b : List ℕ) → 4 ≤ length b → code_lines n m b ≡ codes "  code" ++ (value_text (Signed []) (take 4 b) ++ 10 ∷ rest_part n m b)
 unfolding code_lines
 code_lines_are n m b h = rw (le-leb 4 (length b) h)
 
@@ -92,14 +100,14 @@ RequestIsKnown n m p = m ≡ 2 → 20 ≤ length p → AreKnown n (drop 4 p)
 code_determined : (n : Bool) (m : ℕ) → AfterCodeIsDetermined n m → (p q s t : List ℕ) → AreBytes p → AreBytes q → 4 ≤ length p → 4 ≤ length q →
     RequestIsKnown n m p → RequestIsKnown n m q → StartsFrame s → StartsFrame t → code_lines n m p ++ s ≡ code_lines n m q ++ t → (p ≡ q) × (s ≡ t)
 code_determined n m determined p q s t a b l o g h i j e =
-    let x = value_text Signed (take 4 p) in
-    let y = value_text Signed (take 4 q) in
+    let x = value_text (Signed []) (take 4 p) in
+    let y = value_text (Signed []) (take 4 q) in
     let lines = sym (ap (λ z. z ++ s) (code_lines_are n m p l)) ∙ e ∙ ap (λ z. z ++ t) (code_lines_are n m q o) in
     let shown = following x (10 ∷ rest_part n m p) s y (10 ∷ rest_part n m q) t (ap (drop 6) lines) in
-    let c = cut_line x y (rest_part n m p ++ s) (rest_part n m q ++ t) (values_are_lines.line Signed (take 4 p) refl) (values_are_lines.line Signed (take 4 q) refl) shown in
+    let c = cut_line x y (rest_part n m p ++ s) (rest_part n m q ++ t) (values_are_lines.line (Signed []) (take 4 p) refl) (values_are_lines.line (Signed []) (take 4 q) refl) shown in
     let r = determined (drop 4 p) (drop 4 q) s t (AreBytes-drop 4 p a) (AreBytes-drop 4 q b)
     (λ two z. g two (omega (arith, z, length-drop 4 p))) (λ two z. h two (omega (arith, z, length-drop 4 q))) i j c.1 in
-    let code = numbers_determined.signed (take 4 p) (take 4 q) (AreBytes-take 4 p a) (AreBytes-take 4 q b) (omega (arith, length-take 4 p)) (omega (arith, length-take 4 q)) c.0 in
+    let code = numbers_determined.signed [] (take 4 p) (take 4 q) (AreBytes-take 4 p a) (AreBytes-take 4 q b) (omega (arith, length-take 4 p)) (omega (arith, length-take 4 q)) c.0 in
     (both_parts 4 p q code r.0, r.1)
 
 -- ---- a link's body
@@ -114,34 +122,34 @@ canonical_body b a e =
     let r = ruled_is (link_body.accepted b) (link_body.empty_ports b) (link_body.fits b) (link_body.canonical b) b e in
     canonical_link link_peer b a r.0 r.1
 
-link_lines_are : (b : List ℕ) → 16 ≤ length b → link_lines b ≡ link_part 1 false b
+link_lines_are : (request : Bool) (b : List ℕ) → 16 ≤ length b → link_lines request b ≡ link_part 1 (in_message request) b
 unfolding link_lines
-link_lines_are b h = rw (le-leb 16 (length b) h)
+link_lines_are request b h = rw (le-leb 16 (length b) h)
 
 shallow : (s : List ℕ) → StartsFrame s → IsShallow 1 s
 shallow s h r = no_space s (32 ∷ r) h
 
-body_determined : (p q s t : List ℕ) → AreBytes p → AreBytes q → IsCanonicalLink link_peer p → IsCanonicalLink link_peer q → StartsFrame s → StartsFrame t → link_lines p ++ s ≡ link_lines q ++ t → (p ≡ q) × (s ≡ t)
-body_determined p q s t a b h k i j e =
-    let lines = sym (ap (λ z. z ++ s) (link_lines_are p h.size)) ∙ e ∙ ap (λ z. z ++ t) (link_lines_are q k.size) in
-    link_determined link_peer false lists_are_determined 1 p q s t a b h k (shallow s i) (shallow t j) lines
+body_determined : (request : Bool) (p q s t : List ℕ) → AreBytes p → AreBytes q → IsCanonicalLink link_peer p → IsCanonicalLink link_peer q → StartsFrame s → StartsFrame t → link_lines request p ++ s ≡ link_lines request q ++ t → (p ≡ q) × (s ≡ t)
+body_determined request p q s t a b h k i j e =
+    let lines = sym (ap (λ z. z ++ s) (link_lines_are request p h.size)) ∙ e ∙ ap (λ z. z ++ t) (link_lines_are request q k.size) in
+    link_determined link_peer (in_message request) (lists_are_determined request) 1 p q s t a b h k (shallow s i) (shallow t j) lines
 
 -- ---- bodies by their type
 
-abbrev BodiesOfTypeAreDetermined : Bool → ℕ → Type 0
-BodiesOfTypeAreDetermined numbers n = (p q s t : List ℕ) → AreBytes p → AreBytes q → body_text n p ≡ Ok p → body_text n q ≡ Ok q →
+abbrev BodiesOfTypeAreDetermined : Bool → Bool → ℕ → Type 0
+BodiesOfTypeAreDetermined numbers request n = (p q s t : List ℕ) → AreBytes p → AreBytes q → body_text n p ≡ Ok p → body_text n q ≡ Ok q →
     RequestIsKnown numbers n p → RequestIsKnown numbers n q → StartsFrame s → StartsFrame t →
-    body_lines numbers n p ++ s ≡ body_lines numbers n q ++ t → (p ≡ q) × (s ≡ t)
+    body_lines numbers n request p ++ s ≡ body_lines numbers n request q ++ t → (p ≡ q) × (s ≡ t)
 
 noop_is : (p : List ℕ) → body_text 1 p ≡ Ok p → [] ≡ p
 unfolding body_text_under
 noop_is p h = cc
 
-noops_determined : (numbers : Bool) → BodiesOfTypeAreDetermined numbers 1
-unfolding body_lines bytes_line
-noops_determined numbers [] [] s t a b h k f g i j e = (refl, e)
-noops_determined numbers [] (y ∷ q) s t a b h k f g i j e = absurd (let none = noop_is (y ∷ q) k in cc)
-noops_determined numbers (x ∷ p) q s t a b h k f g i j e = absurd (let none = noop_is (x ∷ p) h in cc)
+noops_determined : (numbers request : Bool) → BodiesOfTypeAreDetermined numbers request 1
+unfolding body_lines other_lines raw_body_lines bytes_line
+noops_determined numbers request [] [] s t a b h k f g i j e = (refl, e)
+noops_determined numbers request [] (y ∷ q) s t a b h k f g i j e = absurd (let none = noop_is (y ∷ q) k in cc)
+noops_determined numbers request (x ∷ p) q s t a b h k f g i j e = absurd (let none = noop_is (x ∷ p) h in cc)
 
 code_by : (b : Bool) (p q : List ℕ) → cond b (Err refused) (Ok q) ≡ Ok p → b ≡ false
 code_by true p q h = absurd cc
@@ -159,14 +167,14 @@ done_size : (p : List ℕ) → body_text 3 p ≡ Ok p → 4 ≤ length p
 unfolding body_text_under
 done_size p h = let l = ltb-false (length p) 4 (done_by (length p == 0) _ p (eqb-true (length p) 0) h) in omega (arith, l)
 
-errors_determined : (numbers : Bool) → BodiesOfTypeAreDetermined numbers 2
+errors_determined : (numbers request : Bool) → BodiesOfTypeAreDetermined numbers request 2
 unfolding body_lines
-errors_determined numbers p q s t a b h k f g i j e =
+errors_determined numbers request p q s t a b h k f g i j e =
     code_determined numbers 2 (after_error numbers) p q s t a b (error_size p h) (error_size q k) f g i j e
 
-dones_determined : (numbers : Bool) → BodiesOfTypeAreDetermined numbers 3
+dones_determined : (numbers request : Bool) → BodiesOfTypeAreDetermined numbers request 3
 unfolding body_lines
-dones_determined numbers p q s t a b h k f g i j e =
+dones_determined numbers request p q s t a b h k f g i j e =
     code_determined numbers 3 (after_done numbers) p q s t a b (done_size p h) (done_size q k) f g i j e
 
 -- A body of a type other than 1, 2 and 3.
@@ -174,31 +182,72 @@ text_is : (n : ℕ) (p : List ℕ) → (n ≡ 1 → ⊥) → (n ≡ 2 → ⊥) �
 unfolding body_text_under
 text_is n p a b c = rw (ne_eqb n 1 a, ne_eqb n 2 b, ne_eqb n 3 c)
 
-lines_are : (numbers : Bool) (n : ℕ) (p : List ℕ) → (n ≡ 2 → ⊥) → (n ≡ 3 → ⊥) → body_lines numbers n p ≡ cond (is_link_type n) (link_lines p) (bytes_line (codes "body") p)
+lines_are : (numbers request : Bool) (n : ℕ) (p : List ℕ) → (n ≡ 2 → ⊥) → (n ≡ 3 → ⊥) → body_lines numbers n request p ≡ cond (is_link_type n) (link_lines request p) (other_lines n request p)
 unfolding body_lines
-lines_are numbers n p b c = rw (ne_eqb n 2 b, ne_eqb n 3 c)
+lines_are numbers request n p b c = rw (ne_eqb n 2 b, ne_eqb n 3 c)
 
-other_by : (l : Bool) (p q s t : List ℕ) → AreBytes p → AreBytes q → cond l (ruled_text link_body p) (Ok p) ≡ Ok p → cond l (ruled_text link_body q) (Ok q) ≡ Ok q → StartsFrame s → StartsFrame t →
-    cond l (link_lines p) (bytes_line (codes "body") p) ++ s ≡ cond l (link_lines q) (bytes_line (codes "body") q) ++ t → (p ≡ q) × (s ≡ t)
-other_by true p q s t a b h k i j e = body_determined p q s t a b (canonical_body p a h) (canonical_body q b k) i j e
-other_by false p q s t a b h k i j e = bytes_line_determined (codes "body") p q s t a b i j e
+-- ---- bodies of other messages
 
-others_determined : (numbers : Bool) (n : ℕ) → (n ≡ 1 → ⊥) → (n ≡ 2 → ⊥) → (n ≡ 3 → ⊥) → BodiesOfTypeAreDetermined numbers n
-others_determined numbers n x y z p q s t a b h k f g i j e =
-    let lines = sym (ap (λ l. l ++ s) (lines_are numbers n p y z)) ∙ e ∙ ap (λ l. l ++ t) (lines_are numbers n q y z) in
-    other_by (is_link_type n) p q s t a b (sym (text_is n p x y z) ∙ h) (sym (text_is n q x y z) ∙ k) i j lines
+-- A text that begins with a space is none of what follows a frame's lines.
+abbrev BeginsWithIndent : List ℕ → Type 0
+BeginsWithIndent s = (r : List ℕ) × (s ≡ 32 ∷ r)
 
-bodies_determined : (numbers : Bool) (n : ℕ) → BodiesOfTypeAreDetermined numbers n
-bodies_determined numbers n =
+record_by : (b : Bool) (line : Line) (more lines : List Line) → cond b (Some ((1, line.1) ∷ more)) None ≡ Some lines → BeginsWithIndent (lines_text lines)
+unfolding lines_text
+record_by true line more lines e = subst (λ z. BeginsWithIndent (lines_text z)) (same_Some ((1, line.1) ∷ more) lines e) (_, refl)
+record_by false line more lines e = absurd cc
+
+row_by : (o : Option BodyRow) (n : ℕ) (p : List ℕ) (lines : List Line) → row_lines o n p ≡ Some lines → BeginsWithIndent (lines_text lines)
+row_by None n p lines e = absurd cc
+row_by (Some row) n p lines e =
+    cond_both (is_general n (body_header row.4) p) (record_and_list (body_header H.Rtgenmsg) None p) (record_and_list (body_header row.4) row.5 p)
+    (λ z. z ≡ Some lines → BeginsWithIndent (lines_text lines)) (λ i. record_by _ (1, record_words (body_header H.Rtgenmsg) _) _ lines) (λ i. record_by _ (1, record_words (body_header row.4) _) _ lines) e
+
+-- The lines of a body begin with a space.
+begin : (n : ℕ) (request : Bool) (p : List ℕ) (lines : List Line) → raw_body_lines n request p ≡ Some lines → BeginsWithIndent (lines_text lines)
+unfolding raw_body_lines
+begin n request p lines = row_by (first_fitting BODIES.now n request p) n p lines
+
+-- The lines of a body are not a line of its bytes, nor the start of what follows a frame's lines.
+lines_differ : (n : ℕ) (request : Bool) (p q s t : List ℕ) (lines : List Line) → raw_body_lines n request p ≡ Some lines → StartsFrame t → lines_text lines ++ s ≡ bytes_line (codes "body") q ++ t → ⊥
+unfolding bytes_line
+lines_differ n request p [] s t lines h j e =
+    let b = begin n request p lines h in
+    no_space t (b.0 ++ s) j (sym e ∙ ap (λ z. z ++ s) b.1)
+lines_differ n request p (y ∷ q) s t lines h j e = bodies_are_determined.apart n request p lines s _ h refl e
+
+others_by : (n : ℕ) (request : Bool) (p q s t : List ℕ) (x y : Option (List Line)) → raw_body_lines n request p ≡ x → raw_body_lines n request q ≡ y → AreBytes p → AreBytes q → StartsFrame s → StartsFrame t →
+    or_bytes x p ++ s ≡ or_bytes y q ++ t → (p ≡ q) × (s ≡ t)
+others_by n request p q s t None None h k a b i j e = bytes_line_determined (codes "body") p q s t a b i j e
+others_by n request p q s t (Some x) None h k a b i j e = absurd (lines_differ n request p q s t x h j e)
+others_by n request p q s t None (Some y) h k a b i j e = absurd (lines_differ n request q p t s y k i (sym e))
+others_by n request p q s t (Some x) (Some y) h k a b i j e = bodies_are_determined.determined n request p q x y s t a b h k (shallow s i) (shallow t j) e
+
+other_determined : (n : ℕ) (request : Bool) (p q s t : List ℕ) → AreBytes p → AreBytes q → StartsFrame s → StartsFrame t → other_lines n request p ++ s ≡ other_lines n request q ++ t → (p ≡ q) × (s ≡ t)
+unfolding other_lines
+other_determined n request p q s t = others_by n request p q s t (raw_body_lines n request p) (raw_body_lines n request q) refl refl
+
+other_by : (n : ℕ) (request l : Bool) (p q s t : List ℕ) → AreBytes p → AreBytes q → cond l (ruled_text link_body p) (Ok p) ≡ Ok p → cond l (ruled_text link_body q) (Ok q) ≡ Ok q → StartsFrame s → StartsFrame t →
+    cond l (link_lines request p) (other_lines n request p) ++ s ≡ cond l (link_lines request q) (other_lines n request q) ++ t → (p ≡ q) × (s ≡ t)
+other_by n request true p q s t a b h k i j e = body_determined request p q s t a b (canonical_body p a h) (canonical_body q b k) i j e
+other_by n request false p q s t a b h k i j e = other_determined n request p q s t a b i j e
+
+others_determined : (numbers request : Bool) (n : ℕ) → (n ≡ 1 → ⊥) → (n ≡ 2 → ⊥) → (n ≡ 3 → ⊥) → BodiesOfTypeAreDetermined numbers request n
+others_determined numbers request n x y z p q s t a b h k f g i j e =
+    let lines = sym (ap (λ l. l ++ s) (lines_are numbers request n p y z)) ∙ e ∙ ap (λ l. l ++ t) (lines_are numbers request n q y z) in
+    other_by n request (is_link_type n) p q s t a b (sym (text_is n p x y z) ∙ h) (sym (text_is n q x y z) ∙ k) i j lines
+
+bodies_determined : (numbers request : Bool) (n : ℕ) → BodiesOfTypeAreDetermined numbers request n
+bodies_determined numbers request n =
     elim (eqb_tells n 1) [
-      | inl x ↦ subst (BodiesOfTypeAreDetermined numbers) (sym x.1) (noops_determined numbers)
+      | inl x ↦ subst (BodiesOfTypeAreDetermined numbers request) (sym x.1) (noops_determined numbers request)
       | inr x ↦
           elim (eqb_tells n 2) [
-            | inl y ↦ subst (BodiesOfTypeAreDetermined numbers) (sym y.1) (errors_determined numbers)
+            | inl y ↦ subst (BodiesOfTypeAreDetermined numbers request) (sym y.1) (errors_determined numbers request)
             | inr y ↦
                 elim (eqb_tells n 3) [
-                  | inl z ↦ subst (BodiesOfTypeAreDetermined numbers) (sym z.1) (dones_determined numbers)
-                  | inr z ↦ others_determined numbers n x.1 y.1 z.1
+                  | inl z ↦ subst (BodiesOfTypeAreDetermined numbers request) (sym z.1) (dones_determined numbers request)
+                  | inr z ↦ others_determined numbers request n x.1 y.1 z.1
                 ]
           ]
     ]
@@ -209,24 +258,30 @@ bodies_determined numbers n =
 starts : (numbers : Bool) (f s : List ℕ) → StartsFrame (frame_lines numbers f ++ s)
 unfolding frame_lines header_line
 starts numbers f s =
-    let body = body_lines numbers (u16_at 4 f) (drop 16 f) in
+    let body = body_lines numbers (u16_at 4 f) (has_request_flag f) (drop 16 f) in
     let type = type_text (u16_at 4 f) in
     let parts = append_assoc (header_line numbers f) body s ∙ append_assoc type (flags_part numbers f) (body ++ s) in
     subst StartsFrame (sym parts) (type_starts (u16_at 4 f) (flags_part numbers f ++ (body ++ s)))
+
+same_flag : (f g : List ℕ) → u16_at 6 f ≡ u16_at 6 g → has_request_flag f ≡ has_request_flag g
+unfolding has_request_flag
+same_flag f g e = ap (λ n. n % 2 == 1) e
 
 -- All of a frame but its length is determined, and where its lines end.
 frames_determined : (numbers : Bool) (f g s t : List ℕ) → IsCanonicalFrame f → IsCanonicalFrame g → NumbersAreKnown numbers f → NumbersAreKnown numbers g → StartsFrame s → StartsFrame t →
     frame_lines numbers f ++ s ≡ frame_lines numbers g ++ t → (drop 4 f ≡ drop 4 g) × (s ≡ t)
 unfolding frame_lines
 frames_determined numbers f g s t h k x y i j e =
-    let lines : ℕ → List ℕ → List ℕ = λ n b. body_lines numbers n (drop 16 b) in
-    let same = header_determined numbers f g (lines (u16_at 4 f) f ++ s) (lines (u16_at 4 g) g ++ t) h.bytes k.bytes h.header k.header x.own y.own
-    (following (header_line numbers f) (lines (u16_at 4 f) f) s (header_line numbers g) (lines (u16_at 4 g) g) t e) in
+    let lines : ℕ → Bool → List ℕ → List ℕ = λ n r b. body_lines numbers n r (drop 16 b) in
+    let own_f = lines (u16_at 4 f) (has_request_flag f) f in
+    let own_g = lines (u16_at 4 g) (has_request_flag g) g in
+    let same = header_determined numbers f g (own_f ++ s) (own_g ++ t) h.bytes k.bytes h.header k.header x.own y.own
+    (following (header_line numbers f) own_f s (header_line numbers g) own_g t e) in
     let back = sym same.type in
     let other = subst (λ n. body_text n (drop 16 g) ≡ Ok (drop 16 g)) back k.body in
     let asked : RequestIsKnown numbers (u16_at 4 f) (drop 16 g) = λ two. y.request (back ∙ two) in
-    let rest = same.rest ∙ ap (λ n. lines n g ++ t) back in
-    let r = bodies_determined numbers (u16_at 4 f) (drop 16 f) (drop 16 g) s t (AreBytes-drop 16 f h.bytes) (AreBytes-drop 16 g k.bytes) h.body other x.request asked i j rest in
+    let rest = same.rest ∙ ap (λ n. lines n (has_request_flag g) g ++ t) back ∙ ap (λ r. lines (u16_at 4 f) r g ++ t) (sym (same_flag f g same.flags)) in
+    let r = bodies_determined numbers (has_request_flag f) (u16_at 4 f) (drop 16 f) (drop 16 g) s t (AreBytes-drop 16 f h.bytes) (AreBytes-drop 16 g k.bytes) h.body other x.request asked i j rest in
     (same.bytes r.0, r.1)
 
 pub determined : FramesAreDetermined

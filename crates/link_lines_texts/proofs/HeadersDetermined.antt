@@ -10,7 +10,7 @@ use Rattle.attribute_tables_grammar.specs.Shapes.{number}
 use Rattle.link_lines_values.specs.Flags.{named_flags}
 use Rattle.link_lines_values.specs.Names.{Text, text_in}
 use Rattle.link_lines_values.specs.Laws.{Ends}
-use Rattle.link_lines_names.specs.Names.{is_word}
+use Rattle.link_lines_raw.specs.Names.{is_word}
 use Rattle.link_lines_texts.specs.Frames.{flag_names, header_line, message_types, numbers_text, or_number, request_line, type_text}
 use Rattle.link_lines_texts.specs.Links.{labelled}
 use Rattle.link_lines_texts.specs.Determination.{AreKnown, StartsFrame}
@@ -173,6 +173,7 @@ numbers_determined true f g s t a b h k e =
 -- Two headers with the same line, and what follows it.
 pub record SameHeader (f g s t : List ℕ) : Type 0 where
   pub type : u16_at 4 f ≡ u16_at 4 g
+  pub flags : u16_at 6 f ≡ u16_at 6 g
   pub bytes : drop 16 f ≡ drop 16 g → drop 4 f ≡ drop 4 g
   pub rest : s ≡ t
 
@@ -188,6 +189,7 @@ header_determined n f g s t a b l m i j e =
     let r = numbers_determined n f g s t a b i j x.1 in
     record {
       type = k.0;
+      flags = x.0;
       bytes = λ z. two_further 4 f g a b (omega arith) (omega arith) k.0 (two_further 6 f g a b (omega arith) (omega arith) x.0
           (four_further 8 f g a b (omega arith) (omega arith) r.0 (four_further 12 f g a b (omega arith) (omega arith) r.1 z)));
       rest = r.2;

@@ -1,5 +1,5 @@
 -- The lines of a link's body determine it, in a message and in a peer.
-use Rattle.std.proofs.Common.{◌≡◌, ℕ, ◌+◌, ◌*◌, ◌≤◌, Bool, true, List, [], ◌∷◌, ◌++◌, length, take, drop, get_or, sym, ap, subst, refl, ◌∙◌, arith}
+use Rattle.std.proofs.Common.{◌≡◌, ℕ, ◌+◌, ◌*◌, ◌≤◌, true, List, [], ◌∷◌, ◌++◌, length, take, drop, get_or, sym, ap, subst, refl, ◌∙◌, arith}
 use Rattle.std.specs.Prelude.{nat_le, slice_index}
 use Rattle.std.proofs.lemmas.Bool.{and_parts, cond_both, leb-true}
 use Rattle.std.proofs.lemmas.List.{drop_at, length-append, length-take}
@@ -8,9 +8,11 @@ use Rattle.attribute_tables_grammar.specs.Peers.{Peer}
 use Rattle.link_message_grammar.specs.Body.{body_rule, family, header_text, is_listed, layer_type_text, list_rule_of}
 use Rattle.link_message_grammar.proofs.Parts.{bodies_are_headers_and_attributes}
 use Rattle.link_message_grammar.specs.LinkMessage.{family_of}
+use Rattle.link_lines_texts.specs.declared.format.Scope.{Scope}
 use Rattle.link_lines_texts.specs.Links.{link_header_line}
 use Rattle.link_lines_texts.specs.Lists.{list_lines, of_link}
-use Rattle.link_lines_texts.specs.Determination.{IsCanonical, IsShallow, of_family}
+use Rattle.link_lines_raw.specs.Lines.{IsShallow}
+use Rattle.link_lines_texts.specs.Determination.{IsCanonical, of_family}
 use Rattle.link_lines_texts.proofs.LineCuts.{following}
 use Rattle.link_lines_texts.proofs.LinkHeadersDetermined.{link_header_determined}
 use Rattle.netlink_packet_core_grammar.proofs.Bytes.{AreBytes-drop}
@@ -43,23 +45,23 @@ canonical_link peer b a accepts canonical =
     record { size = size; second = second_is b _ size text; attributes = record { bytes = AreBytes-drop 16 b a; accepted = accepted.1; canonical = kept } }
 
 -- The lists of all families are determined.
-abbrev pub FamiliesDetermined : Peer → Bool → Type 0
-FamiliesDetermined peer in_peer = (level n : ℕ) (p q s t : List ℕ) → IsCanonical (list_rule_of peer (family_of n)) p → IsCanonical (list_rule_of peer (family_of n)) q → IsShallow level s → IsShallow level t →
-    list_lines level (of_family in_peer n) p ++ s ≡ list_lines level (of_family in_peer n) q ++ t → (p ≡ q) × (s ≡ t)
+abbrev pub FamiliesDetermined : Peer → Scope → Type 0
+FamiliesDetermined peer scope = (level n : ℕ) (p q s t : List ℕ) → IsCanonical (list_rule_of peer (family_of n)) p → IsCanonical (list_rule_of peer (family_of n)) q → IsShallow level s → IsShallow level t →
+    list_lines level (of_family scope n) p ++ s ≡ list_lines level (of_family scope n) q ++ t → (p ≡ q) × (s ≡ t)
 
-abbrev list_part : ℕ → Bool → List ℕ → List ℕ
-list_part level in_peer b = list_lines level (of_link in_peer b) (drop 16 b)
+abbrev list_part : ℕ → Scope → List ℕ → List ℕ
+list_part level scope b = list_lines level (of_link scope b) (drop 16 b)
 
 -- The lines of a body with a header.
-abbrev pub link_part : ℕ → Bool → List ℕ → List ℕ
-link_part level in_peer b = link_header_line level b ++ list_part level in_peer b
+abbrev pub link_part : ℕ → Scope → List ℕ → List ℕ
+link_part level scope b = link_header_line level b ++ list_part level scope b
 
-pub link_determined : (peer : Peer) (in_peer : Bool) → FamiliesDetermined peer in_peer → (level : ℕ) (p q s t : List ℕ) → AreBytes p → AreBytes q → IsCanonicalLink peer p → IsCanonicalLink peer q → IsShallow level s → IsShallow level t →
-    link_part level in_peer p ++ s ≡ link_part level in_peer q ++ t → (p ≡ q) × (s ≡ t)
-link_determined peer in_peer lists level p q s t a b h k i j e =
-    let shown = following (link_header_line level p) (list_part level in_peer p) s (link_header_line level q) (list_part level in_peer q) t e in
-    let same = link_header_determined level p q (list_part level in_peer p ++ s) (list_part level in_peer q ++ t) a b h.size k.size shown in
+pub link_determined : (peer : Peer) (scope : Scope) → FamiliesDetermined peer scope → (level : ℕ) (p q s t : List ℕ) → AreBytes p → AreBytes q → IsCanonicalLink peer p → IsCanonicalLink peer q → IsShallow level s → IsShallow level t →
+    link_part level scope p ++ s ≡ link_part level scope q ++ t → (p ≡ q) × (s ≡ t)
+link_determined peer scope lists level p q s t a b h k i j e =
+    let shown = following (link_header_line level p) (list_part level scope p) s (link_header_line level q) (list_part level scope q) t e in
+    let same = link_header_determined level p q (list_part level scope p ++ s) (list_part level scope q ++ t) a b h.size k.size shown in
     let other = subst (λ n. IsCanonical (list_rule_of peer (family_of n)) (drop 16 q)) (sym same.family) k.attributes in
-    let rest = same.rest ∙ ap (λ n. list_lines level (of_family in_peer n) (drop 16 q) ++ t) (sym same.family) in
+    let rest = same.rest ∙ ap (λ n. list_lines level (of_family scope n) (drop 16 q) ++ t) (sym same.family) in
     let r = lists level (slice_index p 0) (drop 16 p) (drop 16 q) s t h.attributes other i j rest in
     (same.bytes (h.second ∙ sym k.second) r.0, r.1)

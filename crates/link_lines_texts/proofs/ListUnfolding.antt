@@ -5,9 +5,10 @@ use Rattle.std.proofs.lemmas.List.{length-drop}
 use Rattle.netlink_packet_core_grammar.specs.Attributes.{Attribute, nla_align, attribute_length, first_attribute, proper_kind}
 use Rattle.netlink_packet_core_grammar.proofs.Attributes.{sized}
 use Rattle.attribute_tables_grammar.specs.Lists.{Context, nothing}
-use Rattle.link_lines_names.specs.Format.{Inside, Inside.Peer, Inside.Nested, known_inside}
+use Rattle.link_lines_texts.specs.Format.{Inside, Inside.Peer, Inside.Nested, known_inside}
 use Rattle.link_lines_texts.specs.declared.attributes.ListTable.{ListTable}
-use Rattle.link_lines_texts.specs.Lists.{inside_lines, inside_list, lines_within, list_inside, list_lines, nested_lines, next_in, next_lines, of_link, attribute_lines, rest_lines, named_attribute_list}
+use Rattle.link_lines_texts.specs.declared.format.Scope.{Scope}
+use Rattle.link_lines_texts.specs.Lists.{in_peer, inside_lines, inside_list, lines_within, list_inside, list_lines, nested_lines, next_in, next_lines, of_link, attribute_lines, rest_lines, named_attribute_list}
 use Rattle.link_lines_texts.specs.AttributeNames.{Name, attribute_name_of}
 use Rattle.link_lines_texts.specs.Laws.{ListsUnfoldByAttributes}
 
@@ -23,18 +24,18 @@ abbrev pub Within : ℕ → Option (ListTable × List ℕ) → Type 0
 Within n None = ⊤
 Within n (Some x) = length x.1 ≤ n
 
-peer_by : (b : Bool) (p : List ℕ) → Within (length p) (cond b (Some (of_link true p, drop 16 p)) None)
-peer_by true p = omega (arith, length-drop 16 p)
-peer_by false p = record {}
+peer_by : (scope : Scope) (b : Bool) (p : List ℕ) → Within (length p) (cond b (Some (of_link (in_peer scope) p, drop 16 p)) None)
+peer_by scope true p = omega (arith, length-drop 16 p)
+peer_by scope false p = record {}
 
-inside_within : (in_peer : Bool) (i : Inside) (p : List ℕ) → Within (length p) (inside_list in_peer i p)
-inside_within in_peer (Nested t) p = omega arith
-inside_within in_peer Peer p = peer_by (nat_le 16 (length p)) p
-inside_within in_peer i p = record {}
+inside_within : (scope : Scope) (i : Inside) (p : List ℕ) → Within (length p) (inside_list scope i p)
+inside_within scope (Nested t) p = omega arith
+inside_within scope Peer p = peer_by scope (nat_le 16 (length p)) p
+inside_within scope i p = record {}
 
 named_attribute_within : (list_table : ListTable) (c : Context) (o : Option Name) (e : Attribute) → Within (length e.payload) (named_attribute_list list_table c o e)
 named_attribute_within list_table c None e = record {}
-named_attribute_within list_table c (Some t) e = inside_within list_table.is_in_peer (known_inside list_table.is_in_peer c t.1) e.payload
+named_attribute_within list_table c (Some t) e = inside_within list_table.scope (known_inside list_table.scope c t.1) e.payload
 
 pub list_within : (list_table : ListTable) (c : Context) (e : Attribute) → Within (length e.payload) (list_inside list_table c e)
 unfolding list_inside

@@ -1,12 +1,12 @@
 -- Lines determine lists, provided that those of named rows determine what the rows hold.
-use Rattle.std.proofs.Common.{◌≡◌, ℕ, ◌+◌, ◌<◌, Bool, true, cond, List, [], ◌∷◌, ◌++◌, length, Option, Some, None, refl, sym, ap, subst, ◌∙◌, append_assoc, arith}
-use Rattle.std.specs.Prelude.{get_or, nat_le}
+use Rattle.std.proofs.Common.{◌≡◌, ℕ, ◌+◌, ◌<◌, Bool, true, false, cond, List, [], ◌∷◌, ◌++◌, length, Option, Some, None, refl, sym, ap, subst, ◌∙◌, append_assoc, append-nil, arith}
+use Rattle.std.specs.Prelude.{◌%◌, bytes_eq, codes, get_or, nat_le}
 use Rattle.std.proofs.lemmas.Bool.{cond_both}
 use Rattle.std.proofs.lemmas.List.{append_cancel_left}
 use Rattle.std.proofs.lemmas.Option.{same_Some}
 use Rattle.netlink_packet_core_grammar.specs.Attributes.{Attribute, first_attribute, list_text, proper_kind}
 use Rattle.netlink_packet_core_grammar.proofs.Attributes.{first_attribute_text}
-use Rattle.link_tables.specs.declared.rows.Held.{Held}
+use Rattle.link_tables.specs.declared.rows.Held.{Held as TableHeld}
 use Rattle.link_tables.specs.declared.rows.Held.TheVariants.{List as HeldList}
 use Rattle.attribute_tables_grammar.specs.Rules.{Rule}
 use Rattle.attribute_tables_grammar.specs.Lists.{Context, Grammar, ListForm, Row, list_rule, nothing, row_of, written_kind}
@@ -15,29 +15,39 @@ use Rattle.link_lines_values.specs.Indents.{indent}
 use Rattle.link_lines_values.specs.Laws.{Ends, IsLine}
 use Rattle.link_lines_values.specs.Values.{value_text}
 use Rattle.link_lines_values.specs.declared.values.ShownBy.TheVariants.{Bytes}
-use Rattle.link_lines_names.specs.Format.{Inside, Inside.Value, Inside.Peer, Inside.Data, Inside.PortData, inside_held, is_inside_on_a_line, known_inside, of_held}
+use Rattle.link_lines_texts.specs.Format.{Inside, Inside.Value, Inside.Settings, Inside.Plain, Inside.Held, Inside.Peer, Inside.Data, Inside.Statistics, Inside.PortData, can_statistics, inside_held, is_inside_on_a_line, known_inside, of_held, statistics_inside}
 use Rattle.link_tables.specs.InForce.{data_under, port_data_under}
-use Rattle.link_lines_names.specs.Names.{Named}
-use Rattle.link_lines_names.specs.Raw.{Raw, named_text, raw_name, raw_payload, raw_text}
+use Rattle.link_lines_raw.specs.declared.raw_tables.RawTable.{RawTable}
+use Rattle.link_lines_raw.specs.Attributes.{after_name, has_nested_bit, named_text, nested_word, plain_bytes, raw_row, raw_text}
+use Rattle.link_lines_raw.specs.Coverage.{determines_raw}
+use Rattle.link_lines_raw.specs.Laws.{IsEncodable}
+use Rattle.link_lines_raw.specs.Lines.{lines_text}
+use Rattle.link_lines_raw.specs.Lists.{raw_below}
+use Rattle.link_lines_raw.specs.Names.{Named}
+use Rattle.link_lines_raw.specs.Rows.{Raw}
+use Rattle.link_tables.specs.declared.table.Table.{Table}
 use Rattle.link_lines_values.proofs.OneLine.{either_line, values_are_lines}
-use Rattle.link_lines_names.proofs.Named.{name_of}
-use Rattle.link_lines_names.proofs.RawDetermined.{raw_attributes_determined}
+use Rattle.link_lines_raw.proofs.RawDetermined.{held_payloads_determined, raw_attributes_determined}
+use Rattle.link_lines_raw.proofs.RawRows.{row_facts}
 use Rattle.link_lines_texts.specs.declared.attributes.ListTable.{ListTable}
 use Rattle.link_lines_texts.specs.Lists.{header_inside, inside_list, inside_text, list_inside, list_lines, nested_lines, next_in, attribute_lines, rest_lines, named_attribute_header, named_attribute_list, named_attribute_text}
-use Rattle.link_lines_texts.specs.Determination.{IsCanonical, IsShallow}
+use Rattle.link_lines_raw.specs.Lines.{IsShallow}
+use Rattle.link_lines_texts.specs.Determination.{IsCanonical}
+use Rattle.link_lines_texts.specs.declared.format.Scope.{Scope}
 use Rattle.link_lines_texts.specs.AttributeNames.{Name, attribute_name_of}
+use Rattle.link_lines_texts.specs.RawTables.{raw_table}
 use Rattle.link_lines_texts.proofs.CanonicalLists.{AllCanonical, CanonicalAttribute, canonical_list}
 use Rattle.link_lines_texts.proofs.ListUnfolding.{steps}
 use Rattle.link_lines_texts.proofs.LineCuts.{IsWord, not_unnamed, space_ends, Starts, cut_line, cut_word, line_shallow, lines_joined, shallower, starts_joined, word_line}
 
 -- The lines below an attribute's line.
-abbrev pub below : ℕ → Bool → Inside → List ℕ → List ℕ
-below level in_peer i p = header_inside level i p ++ nested_lines level (inside_list in_peer i p)
+abbrev pub below : ℕ → Scope → Inside → List ℕ → List ℕ
+below level scope i p = header_inside level i p ++ nested_lines level (inside_list scope i p)
 
 -- An attribute's line and those below it determine its payload.
-abbrev pub InsideDetermined : Bool → Rule → Inside → Type 0
-InsideDetermined in_peer r i = (level : ℕ) (p q s t : List ℕ) → IsCanonical r p → IsCanonical r q → IsShallow level s → IsShallow level t → inside_text i p ≡ inside_text i q →
-    below level in_peer i p ++ s ≡ below level in_peer i q ++ t → (p ≡ q) × (s ≡ t)
+abbrev pub InsideDetermined : Scope → Rule → Inside → Type 0
+InsideDetermined scope r i = (level : ℕ) (p q s t : List ℕ) → IsCanonical r p → IsCanonical r q → IsShallow level s → IsShallow level t → inside_text i p ≡ inside_text i q →
+    below level scope i p ++ s ≡ below level scope i q ++ t → (p ≡ q) × (s ≡ t)
 
 -- The same statement for a list.
 abbrev pub NestedDetermined : Rule → ListTable → Type 0
@@ -45,16 +55,16 @@ NestedDetermined r m = (level : ℕ) (p q s t : List ℕ) → IsCanonical r p �
 
 -- The names of a table are words that begin with an upper-case letter, what follows them is on their line, no two are
 -- equal, and none is that of a raw attribute of another kind.
-pub record NamesDetermined (m : ℕ) : Type 0 where
-  pub word : (k : ℕ) (t : Name) → k < 65536 → attribute_name_of m k ≡ Some t → IsWord t.0
-  pub upper : (k : ℕ) (t : Name) → k < 65536 → attribute_name_of m k ≡ Some t → Starts t.0 × (get_or t.0 0 0 < 97)
-  pub line : (k : ℕ) (t : Name) → attribute_name_of m k ≡ Some t → is_inside_on_a_line t.1 ≡ true
-  pub apart : (k l : ℕ) (t u : Name) → k < 65536 → l < 65536 → attribute_name_of m k ≡ Some t → attribute_name_of m l ≡ Some u → t.0 ≡ u.0 → k ≡ l
-  pub raw : (k l : ℕ) (t : Name) (n : Named Raw) → attribute_name_of m k ≡ Some t → raw_name m l ≡ Some n → t.0 ≡ n.0 → k ≡ l
+pub record NamesDetermined (m : Table) : Type 0 where
+  pub word : (k : ℕ) (t : Name) → k < 65536 → attribute_name_of m.0 k ≡ Some t → IsWord t.0
+  pub upper : (k : ℕ) (t : Name) → k < 65536 → attribute_name_of m.0 k ≡ Some t → Starts t.0 × (get_or t.0 0 0 < 97)
+  pub line : (k : ℕ) (t : Name) → attribute_name_of m.0 k ≡ Some t → is_inside_on_a_line t.1 ≡ true
+  pub apart : (k l : ℕ) (t u : Name) → k < 65536 → l < 65536 → attribute_name_of m.0 k ≡ Some t → attribute_name_of m.0 l ≡ Some u → t.0 ≡ u.0 → k ≡ l
+  pub raw : (k l : ℕ) (t : Name) (n : Named Raw) → attribute_name_of m.0 k ≡ Some t → raw_row (raw_table m) l ≡ Some n → t.0 ≡ n.0 → k ≡ l % 0x4000
 
 -- If a row has a name, what follows the name determines what the row holds.
 pub record RowsDetermined (g : Grammar) (m : ListTable) : Type 0 where
-  pub named_attributes : (c : Context) (k : ℕ) (t : Name) → k < 65536 → attribute_name_of m.table.0 k ≡ Some t → ((g.row c k).is_typed ≡ true) × InsideDetermined m.is_in_peer (g.row c k).rule (known_inside m.is_in_peer c t.1)
+  pub named_attributes : (c : Context) (k : ℕ) (t : Name) → k < 65536 → attribute_name_of m.table.0 k ≡ Some t → ((g.row c k).is_typed ≡ true) × InsideDetermined m.scope (g.row c k).rule (known_inside m.scope c t.1)
   pub next : (c : Context) (e : Attribute) → g.next c e ≡ next_in m.table c e
 
 -- ---- lines by attributes
@@ -76,45 +86,66 @@ by_attributes level m c (e ∷ es) =
 
 -- ---- one line
 
-data_line : (h : Held) → is_inside_on_a_line (of_held h) ≡ true
+data_line : (h : TableHeld) → is_inside_on_a_line (of_held h) ≡ true
 data_line (HeldList form table) = refl
 data_line h = refl
 
-name_line : (o : Option Held) → is_inside_on_a_line (inside_held o) ≡ true
+name_line : (o : Option TableHeld) → is_inside_on_a_line (inside_held o) ≡ true
 name_line None = refl
 name_line (Some h) = data_line h
 
+can_line : determines_raw can_statistics ≡ true
+unfolding can_statistics
+can_line = refl
+
+statistics_line : (o : Option (List ℕ)) → is_inside_on_a_line (statistics_inside o) ≡ true
+statistics_line None = refl
+statistics_line (Some name) = cond_both (bytes_eq name (codes "can")) (Held can_statistics) (Value Bytes) (λ i. is_inside_on_a_line i ≡ true) (λ e. can_line) (λ e. refl)
+
 -- What the names in force determine is on one line.
-known_line : (in_peer : Bool) (c : Context) (i : Inside) → is_inside_on_a_line i ≡ true → is_inside_on_a_line (known_inside in_peer c i) ≡ true
-known_line in_peer c Peer h = cond_both in_peer (Value Bytes) Peer (λ i. is_inside_on_a_line i ≡ true) (λ e. refl) (λ e. refl)
-known_line in_peer c Data h = name_line (data_under c.kind)
-known_line in_peer c PortData h = name_line (port_data_under c.port_kind)
-known_line in_peer c i h = h
+known_line : (scope : Scope) (c : Context) (i : Inside) → is_inside_on_a_line i ≡ true → is_inside_on_a_line (known_inside scope c i) ≡ true
+known_line scope c (Settings v) h = cond_both scope.is_request Plain (Value v) (λ i. is_inside_on_a_line i ≡ true) (λ e. refl) (λ e. h)
+known_line scope c Peer h = cond_both scope.is_in_peer (Value Bytes) Peer (λ i. is_inside_on_a_line i ≡ true) (λ e. refl) (λ e. refl)
+known_line scope c Data h = name_line (data_under c.kind)
+known_line scope c Statistics h = statistics_line c.kind
+known_line scope c PortData h = name_line (port_data_under c.port_kind)
+known_line scope c i h = h
+
+plain_line : (p : List ℕ) → IsLine (plain_bytes p)
+plain_line p = lines_joined (codes " bytes") (bytes_text p) (omega arith, (omega arith, (omega arith, (omega arith, (omega arith, (omega arith, record {})))))) (values_are_lines.line Bytes p refl)
 
 inside_line : (i : Inside) (p : List ℕ) → is_inside_on_a_line i ≡ true → IsLine (inside_text i p)
 inside_line (Value v) p h = values_are_lines.line v p h
+inside_line Plain p h = plain_line p
+inside_line (Held raw) p h = held_payloads_determined.line raw p h
 inside_line Peer p h = either_line (nat_le 16 (length p)) [] (bytes_text p) (record {}) (values_are_lines.line Bytes p refl)
 inside_line i p h = record {}
 
 inside_ends : (i : Inside) (p : List ℕ) → Ends (inside_text i p)
 inside_ends (Value v) p = space_ends (value_text v p) (values_are_lines.space v p)
+inside_ends Plain p = omega arith
+inside_ends (Held raw) p = space_ends (after_name raw [] p) (held_payloads_determined.space raw p)
 inside_ends Peer p = cond_both (nat_le 16 (length p)) [] (bytes_text p) Ends (λ e. record {}) (λ e. space_ends (bytes_text p) (values_are_lines.space Bytes p))
 inside_ends i p = record {}
 
-named_attribute_line : (m : ListTable) (names : NamesDetermined m.table.0) (c : Context) (k : ℕ) (o : Option Name) (e : Attribute) → k < 65536 → attribute_name_of m.table.0 k ≡ o → IsLine (named_attribute_text m c o e)
-named_attribute_line m names c k None e l h = raw_attributes_determined.line m.table.0 e.kind e.payload
+named_attribute_line : (m : ListTable) (names : NamesDetermined m.table) (c : Context) (k : ℕ) (o : Option Name) (e : Attribute) → k < 65536 → attribute_name_of m.table.0 k ≡ o → IsLine (named_attribute_text m c o e)
+named_attribute_line m names c k None e l h = raw_attributes_determined.line (raw_table m.table) e
 named_attribute_line m names c k (Some t) e l h =
-    lines_joined t.0 (inside_text (known_inside m.is_in_peer c t.1) e.payload) (word_line t.0 (names.word k t l h))
-    (inside_line (known_inside m.is_in_peer c t.1) e.payload (known_line m.is_in_peer c t.1 (names.line k t h)))
+    lines_joined t.0 (inside_text (known_inside m.scope c t.1) e.payload) (word_line t.0 (names.word k t l h))
+    (inside_line (known_inside m.scope c t.1) e.payload (known_line m.scope c t.1 (names.line k t h)))
 
-raw_starts : (m k : ℕ) (p : List ℕ) (o : Option (Named Raw)) → raw_name m k ≡ o → Starts (named_text o k p)
-raw_starts m k p None h = omega arith
-raw_starts m k p (Some n) h = starts_joined n.0 (raw_payload n.1 p) (name_of n.0 (raw_attributes_determined.name m k n h)).1.0
+-- What follows the name of a raw attribute.
+abbrev after_row : Named Raw → Attribute → List ℕ
+after_row n e = nested_word e.kind ++ after_name n.1 [] e.payload
 
-named_attribute_starts : (m : ListTable) (names : NamesDetermined m.table.0) (c : Context) (k : ℕ) (o : Option Name) (e : Attribute) → k < 65536 → attribute_name_of m.table.0 k ≡ o → Starts (named_attribute_text m c o e)
+raw_starts : (t : RawTable) (e : Attribute) (o : Option (Named Raw)) → raw_row t e.kind ≡ o → Starts (named_text o [] e)
+raw_starts t e None h = omega arith
+raw_starts t e (Some n) h = starts_joined n.0 (after_row n e) (row_facts t e.kind n h).starts
+
+named_attribute_starts : (m : ListTable) (names : NamesDetermined m.table) (c : Context) (k : ℕ) (o : Option Name) (e : Attribute) → k < 65536 → attribute_name_of m.table.0 k ≡ o → Starts (named_attribute_text m c o e)
 unfolding raw_text
-named_attribute_starts m names c k None e l h = raw_starts m.table.0 e.kind e.payload (raw_name m.table.0 e.kind) refl
-named_attribute_starts m names c k (Some t) e l h = starts_joined t.0 (inside_text (known_inside m.is_in_peer c t.1) e.payload) (names.upper k t l h).0
+named_attribute_starts m names c k None e l h = raw_starts (raw_table m.table) e (raw_row (raw_table m.table) e.kind) refl
+named_attribute_starts m names c k (Some t) e l h = starts_joined t.0 (inside_text (known_inside m.scope c t.1) e.payload) (names.upper k t l h).0
 
 small_kind : (k : ℕ) → proper_kind k < 65536
 small_kind k = omega arith
@@ -128,7 +159,7 @@ lines_are level m c e more =
     let header = named_attribute_header (level + 1) m c (attribute_name_of m.table.0 (proper_kind e.kind)) e in
     append_assoc (indent level) (own ++ 10 ∷ header) more ∙ ap (λ z. indent level ++ z) (append_assoc own (10 ∷ header) more)
 
-lines_over : (level : ℕ) (m : ListTable) (names : NamesDetermined m.table.0) (c : Context) (e : Attribute) (more : List ℕ) → IsShallow (level + 1) (attribute_lines level m c e ++ more)
+lines_over : (level : ℕ) (m : ListTable) (names : NamesDetermined m.table) (c : Context) (e : Attribute) (more : List ℕ) → IsShallow (level + 1) (attribute_lines level m c e ++ more)
 lines_over level m names c e more =
     let attribute_name_row = attribute_name_of m.table.0 (proper_kind e.kind) in
     let own = named_attribute_text m c attribute_name_row e in
@@ -137,7 +168,7 @@ lines_over level m names c e more =
     subst (IsShallow (level + 1)) (sym (lines_are level m c e more)) (line_shallow level (own ++ rest) starts)
 
 -- What follows a line is shallow for the lines below it.
-rest_over : (level : ℕ) (m : ListTable) (names : NamesDetermined m.table.0) (c : Context) (es : List Attribute) (s : List ℕ) → IsShallow level s → IsShallow (level + 1) (lines_of level m c es ++ s)
+rest_over : (level : ℕ) (m : ListTable) (names : NamesDetermined m.table) (c : Context) (es : List Attribute) (s : List ℕ) → IsShallow level s → IsShallow (level + 1) (lines_of level m c es ++ s)
 rest_over level m names c [] s h = shallower level s h
 rest_over level m names c (e ∷ es) s h =
     let inside = nested_lines (level + 1) (list_inside m c e) in
@@ -149,18 +180,20 @@ rest_over level m names c (e ∷ es) s h =
 same_attribute : (e f : Attribute) → e.kind ≡ f.kind → e.payload ≡ f.payload → e ≡ f
 same_attribute e f k p i = record { kind = k i; payload = p i }
 
-proper_twice : (n : ℕ) → proper_kind (proper_kind n) ≡ proper_kind n
-proper_twice n = omega arith
+after_ends : (n : Named Raw) (e : Attribute) (b : Bool) → Ends (cond b (codes " nested") [] ++ after_name n.1 [] e.payload)
+after_ends n e true = omega arith
+after_ends n e false = inside_ends (Held n.1) e.payload
 
 -- No attribute with a row is shown as one without.
-not_raw : (m k l : ℕ) (names : NamesDetermined m) (t : Name) (s p : List ℕ) (o : Option (Named Raw)) → attribute_name_of m (proper_kind k) ≡ Some t → attribute_name_of m (proper_kind l) ≡ None → raw_name m l ≡ o → Ends s → t.0 ++ s ≡ named_text o l p → ⊥
-not_raw m k l names t s p None h none i ends e =
+not_raw : (m : Table) (k : ℕ) (f : Attribute) (names : NamesDetermined m) (t : Name) (s : List ℕ) (o : Option (Named Raw)) → attribute_name_of m.0 (proper_kind k) ≡ Some t → attribute_name_of m.0 (proper_kind f.kind) ≡ None → raw_row (raw_table m) f.kind ≡ o → Ends s →
+    t.0 ++ s ≡ named_text o [] f → ⊥
+not_raw m k f names t s None h none i ends e =
     let upper = names.upper (proper_kind k) t (small_kind k) h in
     not_unnamed t.0 s _ upper.0 upper.1 e
-not_raw m k l names t s p (Some n) h none i ends e =
-    let cut = cut_word t.0 n.0 s (raw_payload n.1 p) (names.word (proper_kind k) t (small_kind k) h) (name_of n.0 (raw_attributes_determined.name m l n i)).0 ends (space_ends _ (raw_attributes_determined.space n.1 p)) e in
-    let kinds : proper_kind k ≡ l = names.raw (proper_kind k) l t n h i cut.0 in
-    let both : Some t ≡ None = sym h ∙ ap (attribute_name_of m) (sym (proper_twice k) ∙ ap proper_kind kinds) ∙ none in
+not_raw m k f names t s (Some n) h none i ends e =
+    let cut = cut_word t.0 n.0 s (after_row n f) (names.word (proper_kind k) t (small_kind k) h) (row_facts (raw_table m) f.kind n i).word ends (after_ends n f (has_nested_bit f.kind)) e in
+    let kinds : proper_kind k ≡ f.kind % 0x4000 = names.raw (proper_kind k) f.kind t n h i cut.0 in
+    let both : Some t ≡ None = sym h ∙ ap (attribute_name_of m.0) kinds ∙ none in
     absurd cc
 
 written_typed : (r : Row) (k : ℕ) → r.is_typed ≡ true → written_kind r k ≡ proper_kind k + cond r.is_nested 0x8000 0
@@ -170,7 +203,13 @@ written_typed r k h = ap (λ t. cond t (proper_kind k + cond r.is_nested 0x8000 
 abbrev named_attribute_below : ℕ → ListTable → Context → Option Name → Attribute → List ℕ
 named_attribute_below level m c o e = named_attribute_header level m c o e ++ nested_lines level (named_attribute_list m c o e)
 
-module _ (g : Grammar) (m : ListTable) (names : NamesDetermined m.table.0) (rows : RowsDetermined g m) where
+no_more : (lines x : List ℕ) → (lines ++ []) ++ x ≡ lines ++ x
+no_more lines x = ap (λ z. z ++ x) (append-nil lines)
+
+encodable : {r : Row} {e : Attribute} → CanonicalAttribute r e → IsEncodable e
+encodable o = record { kind = o.small; payload = o.payload.bytes }
+
+module _ (g : Grammar) (m : ListTable) (names : NamesDetermined m.table) (rows : RowsDetermined g m) where
   same_kinds : (c : Context) (e f : Attribute) → (row_of g c e).is_typed ≡ true → CanonicalAttribute (row_of g c e) e → CanonicalAttribute (row_of g c f) f → proper_kind e.kind ≡ proper_kind f.kind → e.kind ≡ f.kind
   same_kinds c e f typed o u k =
       sym o.kind ∙ written_typed (row_of g c e) e.kind typed ∙ ap (λ n. n + cond (g.row c n).is_nested 0x8000 0) k
@@ -182,7 +221,7 @@ module _ (g : Grammar) (m : ListTable) (names : NamesDetermined m.table.0) (rows
   named_attribute_determined level c e f x y t u h i o v sx sy same under =
       let k = proper_kind e.kind in
       let l = proper_kind f.kind in
-      let known : Name → Inside = λ w. known_inside m.is_in_peer c w.1 in
+      let known : Name → Inside = λ w. known_inside m.scope c w.1 in
       let cut = cut_word t.0 u.0 (inside_text (known t) e.payload) (inside_text (known u) f.payload) (names.word k t (small_kind e.kind) h) (names.word l u (small_kind f.kind) i)
       (inside_ends (known t) e.payload) (inside_ends (known u) f.payload) same in
       let kinds : k ≡ l = names.apart k l t u (small_kind e.kind) (small_kind f.kind) h i cut.0 in
@@ -190,8 +229,8 @@ module _ (g : Grammar) (m : ListTable) (names : NamesDetermined m.table.0) (rows
       let determined = rows.named_attributes c k t (small_kind e.kind) h in
       let canonical_f : IsCanonical (g.row c k).rule f.payload = subst (λ n. IsCanonical (g.row c n).rule f.payload) (sym kinds) v.payload in
       let text : inside_text (known t) e.payload ≡ inside_text (known t) f.payload = cut.1 ∙ ap (λ w. inside_text (known w) f.payload) (sym one) in
-      let lines : below level m.is_in_peer (known t) e.payload ++ x ≡ below level m.is_in_peer (known t) f.payload ++ y =
-      under ∙ ap (λ w. below level m.is_in_peer (known w) f.payload ++ y) (sym one) in
+      let lines : below level m.scope (known t) e.payload ++ x ≡ below level m.scope (known t) f.payload ++ y =
+      under ∙ ap (λ w. below level m.scope (known w) f.payload ++ y) (sym one) in
       let r = determined.1 level e.payload f.payload x y o.payload canonical_f sx sy text lines in
       (same_attribute e f (same_kinds c e f determined.0 o v kinds) r.0, r.1)
 
@@ -200,14 +239,15 @@ module _ (g : Grammar) (m : ListTable) (names : NamesDetermined m.table.0) (rows
       named_attribute_below level m c a e ++ x ≡ named_attribute_below level m c b f ++ y → (e ≡ f) × (x ≡ y)
   unfolding raw_text
   either_determined level c e f x y None None h i o v sx sy same under =
-      let r = raw_attributes_determined.determined m.table.0 e.kind f.kind e.payload f.payload o.small v.small o.payload.bytes v.payload.bytes same in
-      (same_attribute e f r.0 r.1, under)
+      let table = raw_table m.table in
+      raw_attributes_determined.determined level table e f x y (encodable o) (encodable v) sx sy same
+      (sym (no_more (lines_text (raw_below level table e)) x) ∙ under ∙ no_more (lines_text (raw_below level table f)) y)
   either_determined level c e f x y None (Some u) h i o v sx sy same under =
-      absurd (not_raw m.table.0 f.kind e.kind names u (inside_text (known_inside m.is_in_peer c u.1) f.payload) e.payload (raw_name m.table.0 e.kind) i h refl
-      (inside_ends (known_inside m.is_in_peer c u.1) f.payload) (sym same))
+      absurd (not_raw m.table f.kind e names u (inside_text (known_inside m.scope c u.1) f.payload) (raw_row (raw_table m.table) e.kind) i h refl
+      (inside_ends (known_inside m.scope c u.1) f.payload) (sym same))
   either_determined level c e f x y (Some t) None h i o v sx sy same under =
-      absurd (not_raw m.table.0 e.kind f.kind names t (inside_text (known_inside m.is_in_peer c t.1) e.payload) f.payload (raw_name m.table.0 f.kind) h i refl
-      (inside_ends (known_inside m.is_in_peer c t.1) e.payload) same)
+      absurd (not_raw m.table e.kind f names t (inside_text (known_inside m.scope c t.1) e.payload) (raw_row (raw_table m.table) f.kind) h i refl
+      (inside_ends (known_inside m.scope c t.1) e.payload) same)
   either_determined level c e f x y (Some t) (Some u) h i o v sx sy same under = named_attribute_determined level c e f x y t u h i o v sx sy same under
 
   -- Two attributes and what follows them.
@@ -257,7 +297,7 @@ by_start : (level : ℕ) (m : ListTable) (p : List ℕ) (es : List Attribute) �
 by_start level m p es h = steps.start level m p ∙ ap (rest_lines level m nothing) h ∙ by_attributes level m nothing es
 
 -- Lines determine a list if they determine its rows.
-pub lists_determined : (form : ListForm) (g : Grammar) (m : ListTable) → NamesDetermined m.table.0 → RowsDetermined g m → NestedDetermined (list_rule form g) m
+pub lists_determined : (form : ListForm) (g : Grammar) (m : ListTable) → NamesDetermined m.table → RowsDetermined g m → NestedDetermined (list_rule form g) m
 lists_determined form g m names rows level p q s t o u h k same =
     let a = canonical_list form g p o in
     let b = canonical_list form g q u in

@@ -4,14 +4,22 @@ use Rattle.std.specs.Prelude.{option_map}
 use Rattle.link_lines_values.specs.declared.fields.FieldOf.{FieldOf}
 use Rattle.link_lines_values.specs.declared.values.ShownBy.{ShownBy}
 use Rattle.link_lines_values.specs.DenseRows.{find}
-use Rattle.link_lines_names.specs.declared.format.FormatBy.{FormatBy}
-use Rattle.link_lines_names.specs.Format.{inside_of}
-use Rattle.link_lines_names.proofs.Rows as rows
+use Rattle.link_lines_texts.specs.declared.format.FormatBy.{FormatBy}
+use Rattle.link_lines_texts.specs.Format.{inside_of}
+use Rattle.link_lines_raw.proofs.RowsInCode as rows
 use Rattle.link_lines_texts.specs.AttributeNames.{Name, AttributeRow, attribute_rows_of, viewed}
+
+-- Names of numbers, as code has them.
+abbrev Texts : Type 0
+Texts = Bor (List (ℕ × Bor (List ℕ)))
+
+-- The fields of a record, as code has them.
+abbrev Fields : Type 0
+Fields = Bor (List (FieldOf (Bor (List ℕ)) Texts))
 
 -- What follows a name, as code has it.
 abbrev pub Format : Type 0
-Format = FormatBy (ShownBy (Bor (List (ℕ × Bor (List ℕ)))) (Bor (List (FieldOf (Bor (List ℕ))))))
+Format = FormatBy (ShownBy Texts Fields)
 
 -- An entry as code has it.
 abbrev pub Row : Type 0

@@ -1,16 +1,17 @@
 -- Each row has a name and a format that determines it, by computation.
-use Rattle.std.proofs.Common.{◌≡◌, true, [], ◌∷◌, Some, refl}
+use Rattle.std.proofs.Common.{◌≡◌, true, Some, refl}
 use Rattle.std.specs.List.{list_all}
 use Rattle.attribute_tables_grammar.specs.Lists.{any}
 use Rattle.attribute_tables_grammar.specs.Tables.{Payload}
 use Rattle.link_message_grammar.specs.LinkMessage.{unspec, bridge, inet_6, other, link_table}
 use Rattle.link_message_grammar.specs.NestedTables.{resized}
-use Rattle.link_lines_names.specs.Format.{Inside.Nested}
-use Rattle.link_lines_names.specs.Names.{all_named_rows, has_name, names_apart}
-use Rattle.link_lines_names.specs.Raw.{raw_names_of, table_names}
+use Rattle.link_lines_texts.specs.Format.{Inside.Nested}
+use Rattle.link_lines_raw.specs.Names.{all_named_rows, has_name, names_apart}
+use Rattle.link_lines_raw.specs.Tables.{bridge_rows, kind_rows, link_rows as raw_link_rows, raw_rows_of}
 use Rattle.link_lines_texts.specs.Coverage.{has_line, holds_shown, in_each, is_info_kind, raw_names_differ}
 use Rattle.link_lines_texts.specs.Laws.{RowsAreDetermined}
-use Rattle.link_tables.specs.declared.table.TheConstants.{GENEVE, GRE, GRE6, LINK_BRIDGE, LINK_INET6, LINK_INFO, LINK_OTHER, LINK_UNSPEC, VF, XFRM}
+use Rattle.link_lines_texts.specs.declared.raw_tables.TheConstants.{RAW_TABLES}
+use Rattle.link_tables.specs.declared.table.TheConstants.{LINK_BRIDGE, LINK_INET6, LINK_INFO, LINK_OTHER, LINK_UNSPEC}
 use Rattle.link_lines_texts.specs.AttributeNames.{data_names, info_attribute_names, link_rows, link_names, nested_names, family_names, attribute_name_of, attribute_names_of}
 
 unspec_is_determined : holds_shown (Payload.list any (link_table unspec)) (Some (Nested LINK_UNSPEC)) ≡ true
@@ -45,8 +46,8 @@ pub all_are_apart : in_each names_apart ≡ true
 unfolding nested_names link_names family_names link_rows info_attribute_names data_names
 all_are_apart = refl
 
-pub all_raw_apart : list_all raw_names_differ (VF.0 ∷ LINK_UNSPEC.0 ∷ LINK_BRIDGE.0 ∷ LINK_INET6.0 ∷ LINK_OTHER.0 ∷ GENEVE.0 ∷ GRE.0 ∷ GRE6.0 ∷ XFRM.0 ∷ []) ≡ true
-unfolding attribute_names_of nested_names link_names family_names link_rows info_attribute_names data_names raw_names_of table_names
+pub all_raw_apart : list_all raw_names_differ RAW_TABLES.now ≡ true
+unfolding attribute_names_of nested_names link_names family_names link_rows info_attribute_names data_names raw_rows_of raw_link_rows kind_rows bridge_rows
 all_raw_apart = refl
 
 pub determined : RowsAreDetermined

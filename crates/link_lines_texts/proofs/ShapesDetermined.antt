@@ -1,6 +1,6 @@
 -- The text of a format determines the payloads of a shape.
 use Rattle.std.proofs.Common.{◌≡◌, ℕ, zero, suc, ◌-◌, ◌≤◌, Bool, true, false, cond, List, [], ◌∷◌, ◌++◌, length, take, drop, Some, None, refl, sym, ap, subst, ◌∙◌, arith}
-use Rattle.std.specs.Prelude.{◌==◌, ◌&&◌, ◌||◌, nat_le, get_or, map}
+use Rattle.std.specs.Prelude.{◌==◌, ◌&&◌, ◌||◌, not, nat_le, get_or, map}
 use Rattle.std.proofs.lemmas.Bool.{and_parts, eqb-true, leb-true}
 use Rattle.std.proofs.lemmas.List.{drop_all, drop_at, length-append, length-take, length-drop, length-replicate, take_all}
 use Rattle.netlink_packet_core_grammar.specs.Attributes.{zeros}
@@ -8,19 +8,17 @@ use Rattle.netlink_packet_core_grammar.specs.Texts.{without_nul}
 use Rattle.netlink_packet_core_grammar.specs.Booleans.{boolean_of, one_of}
 use Rattle.attribute_tables_grammar.specs.Rules.{shape_rule}
 use Rattle.attribute_tables_grammar.specs.Shapes.{Shape, exact, either, at_most, nonzero_byte, one_byte, boolean_of_four, presence, text, fixed_record, id_and_boolean, resized, number, number_boolean}
-use Rattle.link_lines_values.specs.declared.fields.FieldShown.{FieldShown}
-use Rattle.link_lines_values.specs.declared.fields.FieldShown.TheVariants as F
+use Rattle.link_lines_values.specs.declared.fields.FieldShownBy.TheVariants as F
 use Rattle.link_lines_values.specs.declared.values.ShownBy.TheVariants as V
 use Rattle.link_lines_values.specs.Bytes.{address_text, is_zero}
 use Rattle.link_lines_values.specs.Laws.{AllKnown, HoldsFields, IsKnown}
-use Rattle.link_lines_values.specs.Records.{Field, fields_determine, record_text, total_size}
-use Rattle.link_lines_values.specs.Values.{sized_flags_value}
+use Rattle.link_lines_values.specs.Records.{Field, FieldShown, fields_determine, is_padding, record_text, total_size}
 use Rattle.link_lines_values.proofs.BytesDetermined.{bytes_determined}
 use Rattle.link_lines_values.proofs.NumbersDetermined.{numbers_determined}
 use Rattle.link_lines_values.proofs.RecordsDetermined.{records_determined}
 use Rattle.link_lines_values.proofs.SizesDetermined.{sizes_determined}
 use Rattle.link_lines_values.proofs.ValuesDetermined.{addresses_determined, settings_determined}
-use Rattle.link_lines_texts.specs.Coverage.{canonical_size, is_sized, is_size, is_boolean, is_presence, is_string, is_optional, is_address, is_not_boolean, lacks_booleans, is_setting, has_fields}
+use Rattle.link_lines_texts.specs.Coverage.{canonical_size, is_sized, is_size, is_boolean, is_presence, is_string, is_optional, is_address, is_shown_number, are_shown_numbers, is_setting, has_fields}
 use Rattle.link_lines_texts.specs.Determination.{IsCanonical, ShapesAreDetermined}
 
 abbrev CanonicalPayload : Shape → List ℕ → Type 0
@@ -100,14 +98,15 @@ boolean_sized s h = absurd cc
 
 -- ---- records
 
-never_boolean : (v : FieldShown) (p : List ℕ) → is_not_boolean v ≡ true → IsKnown v p
+never_boolean : (v : FieldShown) (p : List ℕ) → is_shown_number v ≡ true → IsKnown v p
 never_boolean F.Boolean p h = absurd cc
+never_boolean F.Padding p h = absurd cc
 never_boolean v p h = record {}
 
-no_booleans : (fs : List Field) (p : List ℕ) → lacks_booleans fs ≡ true → AllKnown fs p
+no_booleans : (fs : List Field) (p : List ℕ) → are_shown_numbers fs ≡ true → AllKnown fs p
 no_booleans [] p h = record {}
 no_booleans (f ∷ fs) p h =
-    let both = and_parts (is_not_boolean f.2) (lacks_booleans fs) h in
+    let both = and_parts (is_shown_number f.2) (are_shown_numbers fs) h in
     (never_boolean f.2 (take f.1 p) both.0, no_booleans fs (drop f.1 p) both.1)
 
 zeros_are : (n : ℕ) → is_zero (zeros n) ≡ true
@@ -115,7 +114,7 @@ zeros_are zero = refl
 zeros_are (suc n) = zeros_are n
 
 -- A payload that has just the size of its fields.
-whole_record : (s : Shape) (held : List Field) (p : List ℕ) → CanonicalPayload s p → length p ≡ total_size held → lacks_booleans held ≡ true → HoldsFields held p
+whole_record : (s : Shape) (held : List Field) (p : List ℕ) → CanonicalPayload s p → length p ≡ total_size held → are_shown_numbers held ≡ true → HoldsFields held p
 whole_record s held p o l h = record {
   bytes = o.bytes;
   whole = omega (arith, l);
@@ -124,7 +123,7 @@ whole_record s held p o l h = record {
 }
 
 -- A payload in which zeros follow the fields.
-filled_record : (m n : ℕ) (held : List Field) (p : List ℕ) → CanonicalPayload (fixed_record m n) p → total_size held ≡ m → lacks_booleans held ≡ true → HoldsFields held p
+filled_record : (m n : ℕ) (held : List Field) (p : List ℕ) → CanonicalPayload (fixed_record m n) p → total_size held ≡ m → are_shown_numbers held ≡ true → HoldsFields held p
 filled_record m n held p o l h =
     let long = leb-true m (length p) o.accepted in
     let prefix : length (take m p) ≡ m = omega (arith, length-take m p, long) in
@@ -136,27 +135,29 @@ filled_record m n held p o l h =
       known = no_booleans held (take (total_size held) p) h;
     }
 
-either_record : (m n : ℕ) (held : List Field) (p : List ℕ) (t : Bool) → (total_size held == n) ≡ t → CanonicalPayload (fixed_record m n) p → m ≤ n → (t || (total_size held == m)) ≡ true → lacks_booleans held ≡ true → HoldsFields held p
+either_record : (m n : ℕ) (held : List Field) (p : List ℕ) (t : Bool) → (total_size held == n) ≡ t → CanonicalPayload (fixed_record m n) p → m ≤ n → (t || (total_size held == m)) ≡ true → are_shown_numbers held ≡ true → HoldsFields held p
 either_record m n held p true e o l h k =
     let long = leb-true m (length p) o.accepted in
     whole_record (fixed_record m n) held p o (record_length m n p l long o.canonical ∙ sym (eqb-true (total_size held) n e)) k
 either_record m n held p false e o l h k = filled_record m n held p o (eqb-true (total_size held) m h) k
 
-known_setting : (v : FieldShown) (p : List ℕ) → number p ≤ 1 → IsKnown v p
-known_setting F.Boolean p h = h
-known_setting v p h = record {}
+known_setting : (v : FieldShown) (p : List ℕ) → not (is_padding v) ≡ true → number p ≤ 1 → IsKnown v p
+known_setting F.Boolean p e h = h
+known_setting F.Padding p e h = absurd cc
+known_setting v p e h = record {}
 
 -- A number and a boolean of 4 bytes each.
 setting_known : (fs : List Field) (p : List ℕ) → is_setting fs ≡ true → number (drop 4 p) ≤ 1 → length p ≡ 8 → (total_size fs ≡ 8) × AllKnown fs p
 setting_known (f ∷ g ∷ []) p h n l =
-    let first = and_parts (f.1 == 4) (is_not_boolean f.2 && (g.1 == 4)) h in
-    let second = and_parts (is_not_boolean f.2) (g.1 == 4) first.1 in
+    let first = and_parts (f.1 == 4) (is_shown_number f.2 && ((g.1 == 4) && not (is_padding g.2))) h in
+    let second = and_parts (is_shown_number f.2) ((g.1 == 4) && not (is_padding g.2)) first.1 in
+    let third = and_parts (g.1 == 4) (not (is_padding g.2)) second.1 in
     let a = eqb-true f.1 4 first.0 in
-    let b = eqb-true g.1 4 second.1 in
+    let b = eqb-true g.1 4 third.0 in
     let back : length (drop 4 p) ≡ 4 = omega (arith, length-drop 4 p, l) in
     let same : take g.1 (drop f.1 p) ≡ drop 4 p = (λ i. take (b i) (drop (a i) p)) ∙ take_all 4 (drop 4 p) (omega (arith, back)) in
     let small : number (take g.1 (drop f.1 p)) ≤ 1 = subst (λ q. number q ≤ 1) (sym same) n in
-    (omega (arith, a, b), (never_boolean f.2 (take f.1 p) second.0, (known_setting g.2 (take g.1 (drop f.1 p)) small, record {})))
+    (omega (arith, a, b), (never_boolean f.2 (take f.1 p) second.0, (known_setting g.2 (take g.1 (drop f.1 p)) third.1 small, record {})))
 setting_known fs p h n l = absurd cc
 
 setting_record : (held : List Field) (p : List ℕ) → CanonicalPayload id_and_boolean p → is_setting held ≡ true → HoldsFields held p
@@ -177,15 +178,15 @@ setting_record held p o h =
 
 holds : (s : Shape) (held : List Field) (p : List ℕ) → has_fields s held ≡ true → CanonicalPayload s p → HoldsFields held p
 holds (exact n) held p h o =
-    let both = and_parts (total_size held == n) (lacks_booleans held) h in
+    let both = and_parts (total_size held == n) (are_shown_numbers held) h in
     whole_record (exact n) held p o (eqb-true (length p) n o.accepted ∙ sym (eqb-true (total_size held) n both.0)) both.1
 holds (resized n) held p h o =
-    let both = and_parts (total_size held == n) (lacks_booleans held) h in
+    let both = and_parts (total_size held == n) (are_shown_numbers held) h in
     whole_record (resized n) held p o (resized_length n p o.canonical ∙ sym (eqb-true (total_size held) n both.0)) both.1
 holds (fixed_record m n) held p h o =
     let total = total_size held in
-    let both = and_parts (nat_le m n) (((total == n) || (total == m)) && lacks_booleans held) h in
-    let more = and_parts ((total == n) || (total == m)) (lacks_booleans held) both.1 in
+    let both = and_parts (nat_le m n) (((total == n) || (total == m)) && are_shown_numbers held) h in
+    let more = and_parts ((total == n) || (total == m)) (are_shown_numbers held) both.1 in
     either_record m n held p (total == n) refl o (leb-true m n both.0) more.0 more.1
 holds id_and_boolean held p h o = setting_record held p o h
 holds s held p h o = absurd cc
@@ -214,10 +215,6 @@ module _ (s : Shape) where
   by_sizes p q false true a b h k o u e = absurd (sizes_determined q p u.bytes o.bytes (eqb-true (length q) 4 b) (eqb-true (length p) 16 h) (sym e))
   by_sizes p q false false a b h k o u e = addresses_determined.ipv6 p q o.bytes u.bytes (eqb-true (length p) 16 h) (eqb-true (length q) 16 k) e
 
-  flags_by : (p q : List ℕ) (t : Bool) → (length p == 4) ≡ t → (t || (length p == 2)) ≡ true → length p ≡ length q → CanonicalPayload s p → CanonicalPayload s q → sized_flags_value p ≡ sized_flags_value q → p ≡ q
-  flags_by p q true a h l o u e = let four = eqb-true (length p) 4 a in settings_determined.sized_4 p q o.bytes u.bytes four (sym l ∙ four) e
-  flags_by p q false a h l o u e = let two = eqb-true (length p) 2 h in settings_determined.sized_2 p q o.bytes u.bytes two (sym l ∙ two) e
-
 -- ---- bytes that hold no number
 
 strings : (s : Shape) (p q : List ℕ) → is_string s ≡ true → CanonicalPayload s p → CanonicalPayload s q → without_nul p ≡ without_nul q → p ≡ q
@@ -243,13 +240,10 @@ record_determined s sparse fields p q h o u e =
 pub shapes_determined : ShapesAreDetermined
 shapes_determined s (V.Number numbers) p q h o u e = let z = sized s is_size h in numbers_determined.little numbers p q o.bytes u.bytes (same_length s is_size p q z o u) (length_holds s is_size p z o) e
 shapes_determined s (V.BigEndian numbers) p q h o u e = let z = sized s is_size h in numbers_determined.big numbers p q o.bytes u.bytes (same_length s is_size p q z o u) (length_holds s is_size p z o) e
-shapes_determined s V.Signed p q h o u e = let z = sized s (λ n. n == 4) h in numbers_determined.signed p q o.bytes u.bytes (length_is s 4 p z o) (length_is s 4 q z u) e
+shapes_determined s (V.Signed texts) p q h o u e = let z = sized s (λ n. n == 4) h in numbers_determined.signed texts p q o.bytes u.bytes (length_is s 4 p z o) (length_is s 4 q z u) e
 shapes_determined s V.Flags p q h o u e = let z = sized s is_size h in numbers_determined.flags p q o.bytes u.bytes (same_length s is_size p q z o u) (length_holds s is_size p z o) e
 shapes_determined s (V.NamedFlags names) p q h o u e = let z = sized s is_size h in numbers_determined.named_flags names p q o.bytes u.bytes (same_length s is_size p q z o u) (length_holds s is_size p z o) e
 shapes_determined s V.BigEndianFlags p q h o u e = let z = sized s is_size h in settings_determined.big p q o.bytes u.bytes (same_length s is_size p q z o u) (length_holds s is_size p z o) e
-shapes_determined s V.FlagsBySize p q h o u e =
-    let z = sized s (λ n. (n == 4) || (n == 2)) h in
-    flags_by s p q (length p == 4) refl (length_holds s (λ n. (n == 4) || (n == 2)) p z o) (same_length s (λ n. (n == 4) || (n == 2)) p q z o u) o u e
 shapes_determined s V.Boolean p q h o u e =
     settings_determined.boolean p q o.bytes u.bytes (same_length s (λ n. true) p q (boolean_sized s h) o u) (at_most_one s p h o) (at_most_one s q h u) (ap (drop 1) e)
 shapes_determined s V.Presence p q h o u e = presences s p q h o u
@@ -259,6 +253,6 @@ shapes_determined s V.Bytes p q h o u e = bytes_determined.bytes p q o.bytes u.b
 shapes_determined s V.HardwareAddress p q h o u e = bytes_determined.hardware p q o.bytes u.bytes e
 shapes_determined s V.Address p q h o u e = by_sizes s p q (length p == 4) (length q == 4) refl refl (address_size s p h o) (address_size s q h u) o u e
 shapes_determined s V.PortRange p q h o u e = let z = sized s (λ n. n == 4) h in settings_determined.ports p q o.bytes u.bytes (length_is s 4 p z o) (length_is s 4 q z u) e
-shapes_determined s V.FlagsAndMask p q h o u e = let z = sized s (λ n. n == 8) h in settings_determined.masked p q o.bytes u.bytes (length_is s 8 p z o) (length_is s 8 q z u) e
+shapes_determined s (V.FlagsAndMask names) p q h o u e = let z = sized s (λ n. n == 8) h in settings_determined.masked names p q o.bytes u.bytes (length_is s 8 p z o) (length_is s 8 q z u) e
 shapes_determined s (V.Record fields) p q h o u e = record_determined s false fields p q h o u e
 shapes_determined s (V.SparseRecord fields) p q h o u e = record_determined s true fields p q h o u e

@@ -2,9 +2,9 @@
 use Rattle.std.specs.Prelude.{ℕ, ◌-◌, nat_lt, cond, List, [], ◌∷◌, ◌++◌, Option, Some, None, get_or, map}
 use Rattle.link_lines_values.specs.declared.fields.FieldOf.{FieldOf}
 use Rattle.link_lines_values.specs.declared.values.ShownBy.{ShownBy}
-use Rattle.link_lines_names.specs.declared.format.FormatBy.{FormatBy}
-use Rattle.link_lines_names.specs.Format.{Inside, inside_of}
-use Rattle.link_lines_names.specs.Names.{Named, NameRowOf, named_of, rows_in_code}
+use Rattle.link_lines_raw.specs.Names.{Named, NameRowOf, named_of, rows_in_code}
+use Rattle.link_lines_texts.specs.declared.format.FormatBy.{FormatBy}
+use Rattle.link_lines_texts.specs.Format.{Inside, inside_of}
 use Rattle.link_lines_texts.specs.declared.data_names.TheConstants.{AMT_ATTRIBUTE_NAMES, BAREUDP_ATTRIBUTE_NAMES}
 use Rattle.link_lines_texts.specs.declared.data_names.TheConstants.{BATADV_ATTRIBUTE_NAMES, GENEVE_ATTRIBUTE_NAMES}
 use Rattle.link_lines_texts.specs.declared.data_names.TheConstants.{GRE_ATTRIBUTE_NAMES, GRE6_ATTRIBUTE_NAMES}
@@ -43,12 +43,12 @@ abbrev pub AttributeRow : Type 0
 AttributeRow = NameRowOf Inside
 
 -- The name that a value in code represents.
-abbrev pub viewed : {N T R : Type 0} → (N → List ℕ) → (T → List (ℕ × N)) → (R → List (FieldOf N)) →
+abbrev pub viewed : {N T R : Type 0} → (N → List ℕ) → (T → List (ℕ × N)) → (R → List (FieldOf N T)) →
     N × FormatBy (ShownBy T R) → Name
 viewed f g h n = named_of f (inside_of f g h) n
 
 -- The entries that a constant in code represents.
-abbrev pub attribute_rows_of : {N T R : Type 0} → (N → List ℕ) → (T → List (ℕ × N)) → (R → List (FieldOf N)) →
+abbrev pub attribute_rows_of : {N T R : Type 0} → (N → List ℕ) → (T → List (ℕ × N)) → (R → List (FieldOf N T)) →
     List (ℕ × Option (N × FormatBy (ShownBy T R))) → List AttributeRow
 attribute_rows_of f g h ts = rows_in_code f (inside_of f g h) ts
 

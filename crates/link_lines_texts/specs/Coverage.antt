@@ -10,18 +10,22 @@ use Rattle.attribute_tables_grammar.specs.Shapes.{id_and_boolean, resized}
 use Rattle.attribute_tables_grammar.specs.Tables.{Payload, Payload.plain, Payload.peer, Payload.list, Payload.link_info}
 use Rattle.attribute_tables_grammar.specs.Tables.{Table, Table.end, Table.row, Names, Names.others, Names.name}
 use Rattle.attribute_tables_grammar.specs.Tables.{lacks_name}
-use Rattle.link_lines_values.specs.declared.fields.FieldShown.{FieldShown}
-use Rattle.link_lines_values.specs.declared.fields.FieldShown.TheVariants as F
 use Rattle.link_lines_values.specs.declared.values.ShownBy.TheVariants as V
-use Rattle.link_lines_values.specs.Records.{Field, fields_determine, total_size}
+use Rattle.link_lines_values.specs.Records.{Field, FieldShown, fields_determine, is_no_boolean, is_padding}
+use Rattle.link_lines_values.specs.Records.{total_size}
 use Rattle.link_lines_values.specs.Values.{Shown}
 use Rattle.link_tables.specs.declared.kinds.TheConstants.{KINDS, PORT_KINDS}
 use Rattle.link_tables.specs.Names.{held_by_name}
+use Rattle.link_tables.specs.declared.table.Table.{Table as Named}
 use Rattle.link_tables.specs.Tables.{is_link_info}
-use Rattle.link_lines_names.specs.Format.{Inside, Inside.Value, Inside.Peer, Inside.Nested, is_inside_on_a_line}
-use Rattle.link_lines_names.specs.Format.{of_held}
-use Rattle.link_lines_names.specs.Names.{NameRowOf, all_named_rows}
-use Rattle.link_lines_names.specs.Raw.{Raw, raw_names_of}
+use Rattle.link_lines_raw.specs.declared.raw_tables.RawTable.{RawTable}
+use Rattle.link_lines_raw.specs.Attributes.{indexed_row}
+use Rattle.link_lines_raw.specs.Coverage.{determines_raw}
+use Rattle.link_lines_raw.specs.Names.{NameRowOf, all_named_rows}
+use Rattle.link_lines_raw.specs.Rows.{Raw}
+use Rattle.link_lines_raw.specs.Tables.{raw_rows_of}
+use Rattle.link_lines_texts.specs.Format.{Inside, Inside.Value, Inside.Settings, Inside.Held, Inside.Peer}
+use Rattle.link_lines_texts.specs.Format.{Inside.Nested, is_inside_on_a_line, of_held}
 use Rattle.link_lines_texts.specs.AttributeNames.{Name, AttributeRow, data_names, link_names, nested_names}
 use Rattle.link_lines_texts.specs.AttributeNames.{attribute_name_of, attribute_names_of}
 
@@ -50,7 +54,7 @@ is_sized (Some n) f = f n
 
 -- The sizes that numbers have.
 abbrev pub is_size : ℕ → Bool
-is_size n = (n == 1) || ((n == 2) || ((n == 4) || (n == 8)))
+is_size n = (n == 1) || ((n == 2) || ((n == 3) || ((n == 4) || (n == 8))))
 
 -- Whether the canonical payloads of a shape are the numbers 0 and 1.
 abbrev pub is_boolean : Shape → Bool
@@ -80,26 +84,25 @@ is_address (exact n) = (n == 4) || (n == 16)
 is_address (either m n) = (m == 4) && (n == 16)
 is_address s = false
 
--- Whether a field isn't shown as a boolean.
-abbrev pub is_not_boolean : FieldShown → Bool
-is_not_boolean F.Boolean = false
-is_not_boolean v = true
+-- Whether a field is shown, and not as a boolean.
+abbrev pub is_shown_number : FieldShown → Bool
+is_shown_number shown = is_no_boolean shown && not (is_padding shown)
 
--- Whether no field of a record is shown as a boolean.
-abbrev pub lacks_booleans : List Field → Bool
-lacks_booleans [] = true
-lacks_booleans (f ∷ fs) = is_not_boolean f.2 && lacks_booleans fs
+-- Whether each field of a record is shown, and not as a boolean.
+abbrev pub are_shown_numbers : List Field → Bool
+are_shown_numbers fs = list_all (λ f. is_shown_number f.2) fs
 
--- Whether the fields are a number of 4 bytes and a boolean of 4 bytes.
+-- Whether the fields are a number of 4 bytes and another number or a boolean of 4 bytes.
 abbrev pub is_setting : List Field → Bool
-is_setting (f ∷ g ∷ []) = (f.1 == 4) && (is_not_boolean f.2 && (g.1 == 4))
+is_setting (f ∷ g ∷ []) = (f.1 == 4) && (is_shown_number f.2 && ((g.1 == 4) && not (is_padding g.2)))
 is_setting fs = false
 
 -- Whether a canonical payload of the shape holds the fields, followed by zeros only.
 abbrev pub has_fields : Shape → List Field → Bool
-has_fields (exact n) fs = (total_size fs == n) && lacks_booleans fs
-has_fields (resized n) fs = (total_size fs == n) && lacks_booleans fs
-has_fields (fixed_record m n) fs = nat_le m n && (((total_size fs == n) || (total_size fs == m)) && lacks_booleans fs)
+has_fields (exact n) fs = (total_size fs == n) && are_shown_numbers fs
+has_fields (resized n) fs = (total_size fs == n) && are_shown_numbers fs
+has_fields (fixed_record m n) fs =
+    nat_le m n && (((total_size fs == n) || (total_size fs == m)) && are_shown_numbers fs)
 has_fields id_and_boolean fs = is_setting fs
 has_fields s fs = false
 
@@ -107,11 +110,10 @@ has_fields s fs = false
 abbrev pub shape_determines : Shape → Shown → Bool
 shape_determines s (V.Number numbers) = is_sized (canonical_size s) is_size
 shape_determines s (V.BigEndian numbers) = is_sized (canonical_size s) is_size
-shape_determines s V.Signed = is_sized (canonical_size s) (λ n. n == 4)
+shape_determines s (V.Signed numbers) = is_sized (canonical_size s) (λ n. n == 4)
 shape_determines s V.Flags = is_sized (canonical_size s) is_size
 shape_determines s (V.NamedFlags names) = is_sized (canonical_size s) is_size
 shape_determines s V.BigEndianFlags = is_sized (canonical_size s) is_size
-shape_determines s V.FlagsBySize = is_sized (canonical_size s) (λ n. (n == 4) || (n == 2))
 shape_determines s V.Boolean = is_boolean s
 shape_determines s V.Presence = is_presence s
 shape_determines s V.OptionalByte = is_optional s
@@ -120,7 +122,7 @@ shape_determines s V.Bytes = true
 shape_determines s V.HardwareAddress = true
 shape_determines s V.Address = is_address s
 shape_determines s V.PortRange = is_sized (canonical_size s) (λ n. n == 4)
-shape_determines s V.FlagsAndMask = is_sized (canonical_size s) (λ n. n == 8)
+shape_determines s (V.FlagsAndMask names) = is_sized (canonical_size s) (λ n. n == 8)
 shape_determines s (V.Record fields) = fields_determine fields && has_fields s fields
 shape_determines s (V.SparseRecord fields) = fields_determine fields && has_fields s fields
 
@@ -143,9 +145,16 @@ has_line k n = is_inside_on_a_line n.1
 abbrev pub names_differ : List AttributeRow → List (NameRowOf Raw) → Bool
 names_differ ts us = all_named_rows (λ l n. all_named_rows (λ k t. not (bytes_eq n.0 t.0) || (k == l)) ts) us
 
--- Whether the names of raw attributes in a table differ from the names of its rows.
-abbrev pub raw_names_differ : ℕ → Bool
-raw_names_differ m = names_differ (attribute_names_of m) (raw_names_of m)
+-- Whether a row of indexes is missing.
+abbrev pub has_no_indexes : Option Raw → Bool
+has_no_indexes None = true
+has_no_indexes (Some held) = false
+
+-- Whether raw attributes have no indexes as names, and their names differ from those of the rows of the table beside
+-- theirs.
+abbrev pub raw_names_differ : Named × RawTable → Bool
+raw_names_differ pair =
+    has_no_indexes (indexed_row pair.1) && names_differ (attribute_names_of pair.0.0) (raw_rows_of pair.1.0)
 
 -- ---- tables: each row has a name and a format that determines its payload, and each name has a row
 
@@ -172,10 +181,12 @@ abbrev pub kind_inside : List NameRow → List ℕ → Inside
 kind_inside kinds n = of_held (held_by_name kinds n)
 
 abbrev mutual
-  -- Whether what is shown under a payload's name determines the payload: a value, a peer, or the attributes of its
-  -- table.
+  -- Whether what is shown under a payload's name determines the payload: a value, what a raw attribute holds, a peer,
+  -- or the attributes of its table.
   pub holds_shown : Payload → Option Inside → Bool
   holds_shown (plain s) (Some (Value v)) = shape_determines s v
+  holds_shown (plain s) (Some (Settings v)) = shape_determines s v
+  holds_shown (plain s) (Some (Held held)) = determines_raw held
   holds_shown peer (Some Peer) = true
   holds_shown (list form t) (Some (Nested n)) = not (is_link_info n) &&
       (all_named_rows (is_in t) (attribute_names_of n.0) && rows_shown n.0 t)

@@ -9,9 +9,10 @@ use Rattle.link_message_grammar.specs.LinkMessage.{family_of}
 use Rattle.link_capture_grammar.specs.Bodies.{body_text}
 use Rattle.link_lines_values.specs.Values.{Shown, value_text}
 use Rattle.link_lines_texts.specs.Coverage.{shape_determines}
-use Rattle.link_lines_texts.specs.Frames.{frame_lines}
+use Rattle.link_lines_texts.specs.declared.format.Scope.{Scope}
+use Rattle.link_lines_texts.specs.Frames.{frame_lines, in_message}
 use Rattle.link_tables.specs.Tables.{family_table}
-use Rattle.link_lines_values.specs.Indents.{indent}
+use Rattle.link_lines_raw.specs.Lines.{IsShallow}
 use Rattle.link_lines_texts.specs.declared.attributes.ListTable.{ListTable}
 use Rattle.link_lines_texts.specs.Lists.{list_lines}
 
@@ -26,20 +27,17 @@ abbrev pub ShapesAreDetermined : Type 0
 ShapesAreDetermined = (s : Shape) (v : Shown) (p q : List ℕ) → shape_determines s v ≡ true →
     IsCanonical (shape_rule s) p → IsCanonical (shape_rule s) q → value_text v p ≡ value_text v q → p ≡ q
 
--- A text doesn't begin with a line of this level or a deeper one.
-abbrev pub IsShallow : ℕ → List ℕ → Type 0
-IsShallow level s = (r : List ℕ) → s ≡ indent level ++ r → ⊥
-
 -- The table of the attributes of a link of an address family.
-abbrev pub of_family : Bool → ℕ → ListTable
-of_family in_peer n = record { table = family_table n; is_in_peer = in_peer }
+abbrev pub of_family : Scope → ℕ → ListTable
+of_family scope n = record { table = family_table n; scope = scope }
 
--- Canonical lists of a link's attributes, of one address family, are equal if their lines are, whatever shallower lines
--- follow.
+-- Canonical lists of a link's attributes, of one address family, in requests or not, are equal if their lines are,
+-- whatever shallower lines follow.
 abbrev pub ListsAreDetermined : Type 0
-ListsAreDetermined = (level n : ℕ) (p q s t : List ℕ) → IsCanonical (attributes_rule (family_of n)) p →
-    IsCanonical (attributes_rule (family_of n)) q → IsShallow level s → IsShallow level t →
-    list_lines level (of_family false n) p ++ s ≡ list_lines level (of_family false n) q ++ t → (p ≡ q) × (s ≡ t)
+ListsAreDetermined = (is_request : Bool) (level n : ℕ) (p q s t : List ℕ) →
+    IsCanonical (attributes_rule (family_of n)) p → IsCanonical (attributes_rule (family_of n)) q →
+    IsShallow level s → IsShallow level t → list_lines level (of_family (in_message is_request) n) p ++ s
+    ≡ list_lines level (of_family (in_message is_request) n) q ++ t → (p ≡ q) × (s ≡ t)
 
 -- The bytes of a frame without its padding, whose body is canonical.
 pub record IsCanonicalFrame (f : List ℕ) : Type 0 where

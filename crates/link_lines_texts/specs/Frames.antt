@@ -1,6 +1,6 @@
 -- The lines of a message: that of its header, of a link's header, and of its attributes.
-use Rattle.std.specs.Prelude.{ℕ, ◌==◌, ◌||◌, ◌&&◌, nat_le, Bool, true, false, cond, List, [], ◌∷◌, ◌++◌, length, take}
-use Rattle.std.specs.Prelude.{drop, codes, decimal}
+use Rattle.std.specs.Prelude.{ℕ, ◌%◌, ◌==◌, ◌||◌, ◌&&◌, nat_le, Bool, true, false, cond, List, [], ◌∷◌, ◌++◌, length}
+use Rattle.std.specs.Prelude.{take, drop, codes, decimal, Option, Some, None}
 use Rattle.netlink_packet_core_grammar.specs.Numbers.{u16_at, u32_at}
 use Rattle.link_capture_grammar.specs.Bodies.{is_link_type}
 use Rattle.link_lines_values.specs.declared.flags.TheConstants.{MESSAGE_FLAGS, MESSAGE_GET_FLAGS, MESSAGE_CREATE_FLAGS}
@@ -11,6 +11,9 @@ use Rattle.link_lines_values.specs.Bytes.{bytes_text}
 use Rattle.link_lines_values.specs.Flags.{named_flags}
 use Rattle.link_lines_values.specs.Names.{Text, text_in, texts_of}
 use Rattle.link_lines_values.specs.Values.{value_text}
+use Rattle.link_lines_raw.specs.Bodies.{body_lines as raw_body_lines}
+use Rattle.link_lines_raw.specs.Lines.{Line, lines_text}
+use Rattle.link_lines_texts.specs.declared.format.Scope.{Scope}
 use Rattle.link_lines_texts.specs.Links.{labelled, link_header_line}
 use Rattle.link_lines_texts.specs.Lists.{list_lines, of_link}
 
@@ -18,25 +21,23 @@ use Rattle.link_lines_texts.specs.Lists.{list_lines, of_link}
 unfoldable pub message_types : List Text
 message_types = texts_of (λ n. n.now) MESSAGE_TYPE.now
 
--- Whether a type is one of the requests that create or change an object (rtnetlink.h).
-abbrev pub is_create : ℕ → Bool
-is_create t = t == 16 || (t == 19 || (t == 20 || (t == 24 || (t == 28 || t == 32))))
+-- Whether there is a text.
+abbrev pub has_text : List ℕ → Bool
+has_text [] = false
+has_text (c ∷ text) = true
 
--- Whether a type is one of the requests that delete an object (rtnetlink.h).
-abbrev pub is_delete : ℕ → Bool
-is_delete t = t == 17 || (t == 21 || (t == 25 || (t == 29 || t == 33)))
-
--- Whether a type is one of the requests that ask for objects (rtnetlink.h).
-abbrev pub is_get : ℕ → Bool
-is_get t = t == 18 || (t == 22 || (t == 26 || (t == 30 || t == 34)))
+-- The names of the flags of requests of a type, by what they ask for: to create or set, to delete, or to get.
+unfoldable pub request_flag_names : ℕ → List Text
+request_flag_names t =
+    cond (t % 4 == 1) (texts_of (λ n. n.now) MESSAGE_DELETE_FLAGS.now)
+    (cond (t % 4 == 2) (texts_of (λ n. n.now) MESSAGE_GET_FLAGS.now) (texts_of (λ n. n.now) MESSAGE_CREATE_FLAGS.now))
 
 -- The names of the flags that messages of a type have.
 unfoldable pub flag_names : ℕ → List Text
 flag_names t =
     cond (t == 2) (texts_of (λ n. n.now) MESSAGE_ACK_FLAGS.now)
-    (cond (is_create t) (texts_of (λ n. n.now) MESSAGE_CREATE_FLAGS.now)
-    (cond (is_delete t) (texts_of (λ n. n.now) MESSAGE_DELETE_FLAGS.now)
-    (cond (is_get t) (texts_of (λ n. n.now) MESSAGE_GET_FLAGS.now) (texts_of (λ n. n.now) MESSAGE_FLAGS.now))))
+    (cond (nat_le 16 t && has_text (text_in message_types t)) (request_flag_names t)
+    (texts_of (λ n. n.now) MESSAGE_FLAGS.now))
 
 -- A name, or `type` and a number if the name is empty.
 abbrev pub or_number : ℕ → List ℕ → List ℕ
@@ -69,11 +70,15 @@ unfoldable pub bytes_line : List ℕ → List ℕ → List ℕ
 bytes_line name [] = []
 bytes_line name (b ∷ bytes) = codes "  " ++ (name ++ (bytes_text (b ∷ bytes) ++ 10 ∷ []))
 
+-- What a link's attributes are in, in a message that is a request or not.
+abbrev pub in_message : Bool → Scope
+in_message is_request = record { is_in_peer = false; is_request = is_request }
+
 -- The lines of the body of a link message; one without a header, which no normal text has, is shown as bytes.
-unfoldable pub link_lines : List ℕ → List ℕ
-link_lines b =
+unfoldable pub link_lines : Bool → List ℕ → List ℕ
+link_lines is_request b =
     cond (nat_le 16 (length b)) (link_header_line 1 b ++
-    list_lines 1 (of_link false b) (drop 16 b)) (bytes_line (codes "body") b)
+    list_lines 1 (of_link (in_message is_request) b) (drop 16 b)) (bytes_line (codes "body") b)
 
 -- The lines for what follows the code: for an NLMSG_ERROR (netlink.h, struct nlmsgerr) the request's header, if it is
 -- there, and the remaining bytes.
@@ -87,15 +92,28 @@ after_code numbers t r =
 unfoldable pub code_lines : Bool → ℕ → List ℕ → List ℕ
 code_lines numbers t b =
     cond (nat_le 4 (length b)) (codes "  code" ++
-    (value_text Signed (take 4 b) ++ (10 ∷ [] ++ after_code numbers t (drop 4 b))))
+    (value_text (Signed []) (take 4 b) ++ (10 ∷ [] ++ after_code numbers t (drop 4 b))))
     (bytes_line (codes "body") b)
 
--- The lines of a message's body, by the message's type.
-unfoldable pub body_lines : Bool → ℕ → List ℕ → List ℕ
-body_lines numbers t b =
-    cond (is_link_type t) (link_lines b) (cond (t == 2 ||
-    t == 3) (code_lines numbers t b) (bytes_line (codes "body") b))
+-- The lines of a body, or else a line of its bytes.
+abbrev pub or_bytes : Option (List Line) → List ℕ → List ℕ
+or_bytes None b = bytes_line (codes "body") b
+or_bytes (Some lines) b = lines_text lines
+
+-- The lines of the body of a message other than a link.
+unfoldable pub other_lines : ℕ → Bool → List ℕ → List ℕ
+other_lines t is_request b = or_bytes (raw_body_lines t is_request b) b
+
+-- The lines of a message's body, by the message's type and whether it is a request.
+unfoldable pub body_lines : Bool → ℕ → Bool → List ℕ → List ℕ
+body_lines numbers t is_request b =
+    cond (is_link_type t) (link_lines is_request b) (cond (t == 2 ||
+    t == 3) (code_lines numbers t b) (other_lines t is_request b))
+
+-- Whether a frame is a request: the lowest bit of its flags (netlink.h, NLM_F_REQUEST).
+unfoldable pub has_request_flag : List ℕ → Bool
+has_request_flag f = u16_at 6 f % 2 == 1
 
 -- The lines of a frame, given by its bytes without the padding; with sequence and port numbers, or without.
 unfoldable pub frame_lines : Bool → List ℕ → List ℕ
-frame_lines numbers f = header_line numbers f ++ body_lines numbers (u16_at 4 f) (drop 16 f)
+frame_lines numbers f = header_line numbers f ++ body_lines numbers (u16_at 4 f) (has_request_flag f) (drop 16 f)

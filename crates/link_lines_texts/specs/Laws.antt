@@ -1,5 +1,5 @@
 -- The laws of lines, which the functions of `laws` have as contracts.
-use Rattle.std.specs.Prelude.{◌≡◌, ℕ, ◌+◌, ◌^◌, ◌<◌, ◌↔◌, true, false, List, [], ◌∷◌, ◌++◌, length, take, drop, Some}
+use Rattle.std.specs.Prelude.{◌≡◌, ℕ, ◌+◌, ◌^◌, ◌<◌, ◌↔◌, true, false, List, [], ◌++◌, length, take, drop, Some}
 use Rattle.std.specs.Prelude.{None, Ok}
 use Rattle.std.specs.List.{list_all}
 use Rattle.netlink_packet_core_grammar.specs.Attributes.{Attribute, nla_align, first_attribute}
@@ -13,11 +13,12 @@ use Rattle.link_message_grammar.specs.LinkMessage.{unspec, bridge, inet_6, other
 use Rattle.link_lines_texts.specs.Coverage.{has_line, holds_shown, in_each, is_info_kind, raw_names_differ}
 use Rattle.link_lines_texts.specs.declared.attributes.ListTable.{ListTable}
 use Rattle.link_lines_texts.specs.Lists.{list_inside, list_lines, nested_lines, next_in, attribute_lines, rest_lines}
-use Rattle.link_lines_names.specs.Format.{Inside.Nested}
-use Rattle.link_lines_names.specs.Names.{all_named_rows, has_name, names_apart}
+use Rattle.link_lines_texts.specs.Format.{Inside.Nested}
+use Rattle.link_lines_texts.specs.declared.raw_tables.TheConstants.{RAW_TABLES}
+use Rattle.link_lines_raw.specs.Names.{all_named_rows, has_name, names_apart}
 use Rattle.link_lines_texts.specs.AttributeNames.{attribute_names_of}
-use Rattle.link_tables.specs.declared.table.TheConstants.{GENEVE, GRE, GRE6, LINK_BRIDGE, LINK_INET6, LINK_INFO}
-use Rattle.link_tables.specs.declared.table.TheConstants.{LINK_OTHER, LINK_UNSPEC, VF, XFRM}
+use Rattle.link_tables.specs.declared.table.TheConstants.{LINK_BRIDGE, LINK_INET6, LINK_INFO, LINK_OTHER}
+use Rattle.link_tables.specs.declared.table.TheConstants.{LINK_UNSPEC}
 use Rattle.link_capture_numbers.specs.Cleared.{numbers_cleared}
 use Rattle.link_lines_texts.specs.Captures.{Choice, everything, is_frame, lines, shown_lines, text_lines}
 use Rattle.link_lines_texts.specs.Captures.{without_numbers}
@@ -62,8 +63,7 @@ pub record RowsAreDetermined : Type 0 where
   pub on_lines : in_each (all_named_rows has_line) ≡ true
   pub info_named : all_named_rows is_info_kind (attribute_names_of LINK_INFO.0) ≡ true
   pub apart : in_each names_apart ≡ true
-  pub raw : list_all raw_names_differ (VF.0 ∷ LINK_UNSPEC.0 ∷ LINK_BRIDGE.0 ∷ LINK_INET6.0 ∷ LINK_OTHER.0 ∷ GENEVE.0 ∷
-      GRE.0 ∷ GRE6.0 ∷ XFRM.0 ∷ []) ≡ true
+  pub raw : list_all raw_names_differ RAW_TABLES.now ≡ true
 
 -- Two captures have the same lines if and only if they have the same texts; for legal captures, if and only if their
 -- normal texts are equal.

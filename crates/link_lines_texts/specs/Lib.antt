@@ -1,3 +1,5 @@
+pub mod Format
+pub mod RawTables
 pub mod Captures
 pub mod Coverage
 pub mod Frames

@@ -1,9 +1,9 @@
 -- The line of a link's header, in a message and in a peer.
-use Rattle.std.specs.Prelude.{ℕ, ◌==◌, cond, List, [], ◌∷◌, ◌++◌, codes, decimal, slice_index}
+use Rattle.std.specs.Prelude.{ℕ, List, [], ◌∷◌, ◌++◌, codes, decimal, slice_index}
 use Rattle.netlink_packet_core_grammar.specs.Numbers.{u16_at, u32_at}
 use Rattle.link_lines_values.specs.declared.flags.TheConstants.{LINK_FLAGS}
 use Rattle.link_lines_values.specs.declared.number_texts.TheConstants.{ADDRESS_FAMILY, LINK_LAYER_TYPE}
-use Rattle.link_lines_values.specs.Flags.{named_flags}
+use Rattle.link_lines_values.specs.Flags.{word_flags}
 use Rattle.link_lines_values.specs.Indents.{indent}
 use Rattle.link_lines_values.specs.Names.{Text, named_number, texts_of}
 
@@ -33,8 +33,8 @@ link_numbers b =
 -- A link's flags and change mask, and the end of the line.
 unfoldable pub link_flags : List ℕ → List ℕ
 link_flags b =
-    labelled (codes " flags ") (named_flags link_flag_names (u32_at 8 b)) ++
-    (labelled (codes " change ") (named_flags link_flag_names (u32_at 12 b)) ++ 10 ∷ [])
+    labelled (codes " flags ") (word_flags link_flag_names (u32_at 8 b)) ++
+    (labelled (codes " change ") (word_flags link_flag_names (u32_at 12 b)) ++ 10 ∷ [])
 
 -- The line of a link's header at a level.
 abbrev pub link_header_line : ℕ → List ℕ → List ℕ

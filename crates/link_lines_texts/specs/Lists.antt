@@ -1,6 +1,7 @@
 -- The lines of a list of attributes: one for each attribute, followed by those of the list that it holds, one level
--- deeper; a peer's line is followed by that of its header and those of its attributes.
-use Rattle.std.specs.Prelude.{ℕ, zero, suc, ◌+◌, ◌==◌, nat_le, Bool, true, cond, List, [], ◌∷◌, ◌++◌, length, drop}
+-- deeper; a peer's line is followed by that of its header and those of its attributes, and a raw attribute's by those
+-- of what it holds.
+use Rattle.std.specs.Prelude.{ℕ, zero, suc, ◌+◌, nat_le, true, cond, List, [], ◌∷◌, ◌++◌, length, drop}
 use Rattle.std.specs.Prelude.{Option, Some, None, slice_index}
 use Rattle.netlink_packet_core_grammar.specs.Attributes.{Attribute, proper_kind, first_attribute}
 use Rattle.attribute_tables_grammar.specs.Lists.{Context, nothing}
@@ -8,60 +9,68 @@ use Rattle.attribute_tables_grammar.specs.Tables.{info_next}
 use Rattle.link_lines_values.specs.Bytes.{bytes_text}
 use Rattle.link_lines_values.specs.Indents.{indent}
 use Rattle.link_lines_values.specs.Values.{value_text}
-use Rattle.link_lines_names.specs.Format.{Inside, Inside.Value, Inside.Peer, Inside.Nested, known_inside}
-use Rattle.link_lines_names.specs.Raw.{raw_text}
+use Rattle.link_lines_raw.specs.Attributes.{after_name, plain_bytes, raw_text}
+use Rattle.link_lines_raw.specs.Lines.{lines_text}
+use Rattle.link_lines_raw.specs.Lists.{held_lines, raw_below}
 use Rattle.link_lines_texts.specs.declared.attributes.ListTable.{ListTable}
+use Rattle.link_lines_texts.specs.declared.format.Scope.{Scope}
+use Rattle.link_lines_texts.specs.Format.{Inside, Inside.Value, Inside.Plain, Inside.Held, Inside.Peer, Inside.Nested}
+use Rattle.link_lines_texts.specs.Format.{known_inside}
 use Rattle.link_lines_texts.specs.Links.{link_header_line}
 use Rattle.link_tables.specs.declared.table.Table.{Table}
 use Rattle.link_tables.specs.Tables.{family_table, is_link_info}
 use Rattle.link_lines_texts.specs.AttributeNames.{Name, attribute_name_of}
+use Rattle.link_lines_texts.specs.RawTables.{raw_table}
 
 -- The kinds in force after an attribute, which only those of link info change.
 abbrev pub next_in : Table → Context → Attribute → Context
 next_in table c e = cond (is_link_info table) (info_next c (proper_kind e.kind) e.payload) c
 
 -- The table of a link's attributes, in a message or in a peer.
-abbrev pub of_link : Bool → List ℕ → ListTable
-of_link in_peer b = record { table = family_table (slice_index b 0); is_in_peer = in_peer }
+abbrev pub of_link : Scope → List ℕ → ListTable
+of_link scope b = record { table = family_table (slice_index b 0); scope = scope }
 
--- The text on an attribute's line, after its name: a value; a peer without a header, which no normal text has, is shown
--- as bytes.
+-- The text on an attribute's line, after its name: a value; bytes; or what a raw attribute holds, if it is on the line.
+-- A peer without a header, which no normal text has, is shown as bytes.
 abbrev pub inside_text : Inside → List ℕ → List ℕ
 inside_text (Value shown) p = value_text shown p
+inside_text Plain p = plain_bytes p
+inside_text (Held raw) p = after_name raw [] p
 inside_text Peer p = cond (nat_le 16 (length p)) [] (bytes_text p)
 inside_text inside p = []
 
--- The line below an attribute's line: for a peer, that of its header.
+-- The lines below an attribute's line, but not those of a list with a table: for a peer, that of its header; those of
+-- what a raw attribute holds.
 abbrev pub header_inside : ℕ → Inside → List ℕ → List ℕ
 header_inside level Peer p = cond (nat_le 16 (length p)) (link_header_line level p) []
+header_inside level (Held raw) p = lines_text (held_lines level raw p)
 header_inside level inside p = []
 
+-- What the attributes of a peer are in.
+abbrev pub in_peer : Scope → Scope
+in_peer scope = record { is_in_peer = true; is_request = scope.is_request }
+
 -- The list of a peer's attributes, with its table; none without a header.
-abbrev pub peer_list : List ℕ → Option (ListTable × List ℕ)
-peer_list p = cond (nat_le 16 (length p)) (Some (of_link true p, drop 16 p)) None
+abbrev pub peer_list : Scope → List ℕ → Option (ListTable × List ℕ)
+peer_list scope p = cond (nat_le 16 (length p)) (Some (of_link (in_peer scope) p, drop 16 p)) None
 
--- The table of the list that an attribute holds, if it holds one.
-abbrev pub inside_table : Inside → Option Table
-inside_table (Nested t) = Some t
-inside_table inside = None
-
--- The list that an attribute holds, with its table.
-abbrev pub inside_list : Bool → Inside → List ℕ → Option (ListTable × List ℕ)
-inside_list in_peer (Nested t) p = Some (record { table = t; is_in_peer = in_peer }, p)
-inside_list in_peer Peer p = peer_list p
-inside_list in_peer inside p = None
+-- The list with a table that an attribute holds, and the table.
+abbrev pub inside_list : Scope → Inside → List ℕ → Option (ListTable × List ℕ)
+inside_list scope (Nested t) p = Some (record { table = t; scope = scope }, p)
+inside_list scope Peer p = peer_list scope p
+inside_list scope inside p = None
 
 -- The text of an attribute: under its name, or as a raw one if it has no row.
 abbrev pub named_attribute_text : ListTable → Context → Option Name → Attribute → List ℕ
-named_attribute_text m c None e = raw_text m.table.0 e.kind e.payload
-named_attribute_text m c (Some t) e = t.0 ++ inside_text (known_inside m.is_in_peer c t.1) e.payload
+named_attribute_text m c None e = raw_text (raw_table m.table) [] e
+named_attribute_text m c (Some t) e = t.0 ++ inside_text (known_inside m.scope c t.1) e.payload
 
--- The line of a peer's header below an attribute's line; nothing for other attributes.
+-- The lines below an attribute's line, but not those of a list with a table.
 abbrev pub named_attribute_header : ℕ → ListTable → Context → Option Name → Attribute → List ℕ
-named_attribute_header level m c None e = []
-named_attribute_header level m c (Some t) e = header_inside level (known_inside m.is_in_peer c t.1) e.payload
+named_attribute_header level m c None e = lines_text (raw_below level (raw_table m.table) e)
+named_attribute_header level m c (Some t) e = header_inside level (known_inside m.scope c t.1) e.payload
 
--- The line of an attribute, and that of a peer's header below it.
+-- The line of an attribute, and those below it, but not those of a list with a table.
 unfoldable pub attribute_lines : ℕ → ListTable → Context → Attribute → List ℕ
 attribute_lines level m c e =
     let attribute_name_row = attribute_name_of m.table.0 (proper_kind e.kind) in
@@ -71,7 +80,7 @@ attribute_lines level m c e =
 -- The list in an attribute whose name has been looked up.
 abbrev pub named_attribute_list : ListTable → Context → Option Name → Attribute → Option (ListTable × List ℕ)
 named_attribute_list m c None e = None
-named_attribute_list m c (Some t) e = inside_list m.is_in_peer (known_inside m.is_in_peer c t.1) e.payload
+named_attribute_list m c (Some t) e = inside_list m.scope (known_inside m.scope c t.1) e.payload
 
 -- The list in an attribute, if it holds one.
 unfoldable pub list_inside : ListTable → Context → Attribute → Option (ListTable × List ℕ)

@@ -6,8 +6,8 @@ ghost use Rattle.link_lines_texts.specs.AttributeNames.{data_names, info_attribu
 ghost use Rattle.link_tables.specs.declared.table.TheConstants.{LINK_INFO, LINK_UNSPEC};
 ghost use Rattle.link_lines_texts.specs.AttributeNames.{attribute_rows_of, attribute_name_of, attribute_names_of, viewed};
 
+use crate::format::Format;
 use crate::{data_names, message_names};
-use link_lines_names::Format;
 use link_lines_values::look_up;
 use link_tables::Table;
 use link_tables::table::{AMT, LINK_INFO, LINK_UNSPEC};
@@ -45,6 +45,15 @@ macro_rules! list_names {
     };
 }
 
+/// The entries of a list of settings, from the lines of its macro in `link_tables`. Those of a
+/// request are shown as bytes.
+#[macro_export]
+macro_rules! setting_names {
+    ($($kind:literal, $name:literal, $shape:expr, $shown:expr;)*) => {
+        [$($crate::attribute_name_row!($kind -> $name, Settings($shown)),)*]
+    };
+}
+
 /// The entries of the rows that depend on the address family of a link: those of IFLA_PROTINFO and
 /// IFLA_AF_SPEC, the kinds 12 and 26. The other kinds get an entry without a name, so that the rows
 /// stay dense.
@@ -65,6 +74,10 @@ macro_rules! family_names {
 macro_rules! family_name_row {
     (12 $($attribute_rows_of:tt)*) => {
         $crate::attribute_name_row!(12 $($attribute_rows_of)*)
+    };
+    // The attributes of families without a table of their own.
+    (26, $name:literal, $shown:expr) => {
+        $crate::attribute_name_row!(26 -> $name, Raw(FAMILY_SPECIFIC))
     };
     (26 $($attribute_rows_of:tt)*) => {
         $crate::attribute_name_row!(26 $($attribute_rows_of)*)

@@ -4,34 +4,36 @@
 //! need neither list kinds nor measures.
 
 ghost use Rattle.std.specs.Prelude.{◌≡◌, ◌<◌, ◌≤◌, ◌+◌, ◌^◌, ◌++◌, ◌∷◌, [], true, length, replicate, option_map, IfOk, OnOk};
+ghost use Rattle.link_interpreter.specs.Sameness.{attribute_of};
+ghost use Rattle.link_lines_raw.specs.Attributes.{plain_bytes};
 ghost use Rattle.link_lines_values.specs.Indents.{indent};
-ghost use Rattle.link_lines_names.specs.Format.{Inside, Inside.Peer, inside_of, known_inside};
-ghost use Rattle.link_lines_names.specs.Views.{attribute_of};
-ghost use Rattle.link_lines_texts.specs.Lists.{header_inside, inside_list, inside_table, inside_text, list_inside};
+ghost use Rattle.link_lines_texts.specs.Format.{Inside, Inside.Peer, inside_of, known_inside};
+ghost use Rattle.link_lines_texts.specs.Lists.{header_inside, inside_list, inside_text, list_inside};
 ghost use Rattle.link_lines_texts.specs.Lists.{list_lines, next_in, attribute_lines, peer_list};
 ghost use Rattle.link_tables.specs.InForce.{in_force};
 
 use crate::attribute_names::attribute_name_of;
+use crate::format::{CAN_STATISTICS, Format, FormatBy, Scope, known_format};
 use crate::laws::lists_unfold_by_attributes;
 use crate::links::push_link_header;
+use crate::raw_tables::raw_table;
 use link_interpreter::{Attribute, KIND_BOUND, first_attribute};
-use link_lines_names::{Format, FormatBy, known_format, push_raw};
+use link_lines_raw::{RawBy, push_held, push_raw};
 use link_lines_values::{push_bytes, push_indent, push_value};
 use link_tables::table::LINK_INFO;
 use link_tables::{InForce, LINK_HEADER_LEN, NO_KINDS, Table, family_table, next_force};
 use std::alloc::AllocError;
 
-/// The table of a list of attributes, and whether the list belongs to a peer.
+/// The table of a list of attributes, and what the list is in.
 #[derive(Clone, Copy)]
 pub(crate) struct ListTable {
     pub(crate) table: Table,
-    pub(crate) is_in_peer: bool,
+    pub(crate) scope: Scope,
 }
 
 /// Returns the kinds in force after an attribute of a table. Only link info changes them.
 fn force_after<'a>(table: Table, force: InForce<'a>, attribute: Attribute<'a>) -> InForce<'a>
-    ensures { in_force result ≡ next_in table (in_force force.entry)
-        (attribute_of attribute.entry.kind attribute.entry.payload) }
+    ensures { in_force result ≡ next_in table (in_force force.entry) (attribute_of attribute.entry) }
 {
     if table.is_link_info() {
         next_force(force, attribute.kind % KIND_BOUND, attribute.payload)
@@ -40,100 +42,86 @@ fn force_after<'a>(table: Table, force: InForce<'a>, attribute: Attribute<'a>) -
     }
 }
 
-/// Appends what follows an attribute's name on the same line.
-fn push_after_name(format: Format, payload: &[u8], out: &mut Vec<u8>) -> Result<(), AllocError>
-    ensures ok { OnOk result (out.new.items ≡ out.old.items
-        ++ inside_text (inside_of (λ b. b.now) (λ t. t.now) (λ r. r.now) format.entry) payload.now) }
+/// Appends the word `bytes` and the bytes in hex.
+fn push_plain_bytes(bytes: &[u8], out: &mut Vec<u8>) -> Result<(), AllocError>
+    ensures ok { OnOk result (out.new.items ≡ out.old.items ++ plain_bytes bytes.now) }
 {
-    match format {
-        FormatBy::Value(shown) => push_value(shown, payload, out),
-        FormatBy::Peer if payload.len() < LINK_HEADER_LEN => push_bytes(payload, out),
-        _ => Ok(()),
-    }
+    out.extend_from_slice(b" bytes")?;
+    push_bytes(bytes, out)
 }
 
-/// Appends the line of a peer's header, below the line with the peer's name, and returns the list
-/// of the peer's attributes. A peer without a header, which no normal text has, is shown as bytes
-/// on the line of its name: then nothing is appended, and there is no list.
-fn open_peer<'a>(
-    level: usize,
-    payload: &'a [u8],
-    out: &mut Vec<u8>,
-) -> Result<Option<(ListTable, &'a [u8])>, AllocError>
-    ensures ok { OnOk result (out.new.items ≡ out.old.items ++ header_inside level Inside.Peer payload.now) }
-    ensures list { IfOk result (λ found. option_map (λ f. (f.0, f.1.now)) found ≡ peer_list payload.now) }
+/// Appends the end of the line with a peer's name, and the line of the peer's header. A peer
+/// without a header, which no normal text has, is shown as bytes on the line of its name.
+fn push_peer(level: usize, payload: &[u8], out: &mut Vec<u8>) -> Result<(), AllocError>
+    ensures ok { OnOk result (out.new.items ≡ out.old.items ++ (inside_text Inside.Peer payload.now
+        ++ 10 ∷ header_inside level Inside.Peer payload.now)) }
 {
     if payload.len() < LINK_HEADER_LEN {
-        return Ok(None);
+        push_bytes(payload, out)?;
+        return out.extend_from_slice(b"\n");
     }
-    push_link_header(level, payload, out)?;
-    let list_table = ListTable {
-        table: family_table(payload[0]),
-        is_in_peer: true,
-    };
-    Ok(Some((list_table, &payload[LINK_HEADER_LEN..])))
+    out.extend_from_slice(b"\n")?;
+    push_link_header(level, payload, out)
 }
 
-/// Returns the table of the list that is shown below a name, if there is such a list.
-fn table_of_format(format: Format) -> Option<Table>
-    ensures { result ≡ inside_table (inside_of (λ b. b.now) (λ t. t.now) (λ r. r.now) format.entry) }
+/// Appends what follows an attribute's name on the same line, the line's end, and the lines below,
+/// at `level`, but not those of a list with a table.
+#[tactic(auto, unfolding(crate::specs::Format::can_statistics))]
+fn push_payload(
+    level: usize,
+    format: Format,
+    payload: &[u8],
+    out: &mut Vec<u8>,
+) -> Result<(), AllocError>
+    requires { level + length payload.now < 2 ^ 63 }
+    ensures ok { OnOk result (out.new.items ≡ out.old.items
+        ++ (inside_text (inside_of (λ b. b.now) (λ t. t.now) (λ r. r.now) format.entry) payload.now
+        ++ 10 ∷ header_inside level (inside_of (λ b. b.now) (λ t. t.now) (λ r. r.now) format.entry) payload.now)) }
 {
     match format {
-        FormatBy::List(_, table) => Some(table),
-        FormatBy::LinkInfo => Some(LINK_INFO),
-        _ => None,
+        FormatBy::Raw(table) => return push_held(level, RawBy::List(table), payload, out),
+        FormatBy::CanStatistics => return push_held(level, CAN_STATISTICS, payload, out),
+        FormatBy::Peer => return push_peer(level, payload, out),
+        FormatBy::Value(shown) => push_value(shown, payload, out)?,
+        FormatBy::Plain => push_plain_bytes(payload, out)?,
+        _ => {}
     }
+    out.extend_from_slice(b"\n")
 }
 
-/// Appends the line that comes between an attribute's line and those of its list, which only a peer
-/// has, and returns that list if the attribute holds one.
-fn open_list<'a>(
-    level: usize,
-    is_in_peer: bool,
-    format: Format,
-    payload: &'a [u8],
-    out: &mut Vec<u8>,
-) -> Result<Option<(ListTable, &'a [u8])>, AllocError>
-    ensures ok { OnOk result (out.new.items ≡ out.old.items
-        ++ header_inside level (inside_of (λ b. b.now) (λ t. t.now) (λ r. r.now) format.entry) payload.now) }
-    ensures list { IfOk result (λ found. option_map (λ f. (f.0, f.1.now)) found
-        ≡ inside_list is_in_peer (inside_of (λ b. b.now) (λ t. t.now) (λ r. r.now) format.entry) payload.now) }
+/// Returns the list of a peer's attributes, with its table; none without a header.
+fn peer_list<'a>(scope: Scope, payload: &'a [u8]) -> Option<(ListTable, &'a [u8])>
+    ensures { option_map (λ f. (f.0, f.1.now)) result ≡ peer_list scope payload.now }
 {
-    if let FormatBy::Peer = format {
-        return open_peer(level, payload, out);
+    if payload.len() < LINK_HEADER_LEN {
+        return None;
     }
-    let Some(table) = table_of_format(format) else {
-        return Ok(None);
+    let list_table = ListTable {
+        table: family_table(payload[0]),
+        scope: Scope {
+            is_in_peer: true,
+            is_request: scope.is_request,
+        },
     };
-    let list_table = ListTable { table, is_in_peer };
-    Ok(Some((list_table, payload)))
+    Some((list_table, &payload[LINK_HEADER_LEN..]))
 }
 
-/// Appends an attribute that has a name: its line, and the line of a peer's header below it.
-/// Returns the list that it holds, if any.
-fn push_named<'a>(
-    level: usize,
-    is_in_peer: bool,
-    name: &[u8],
-    format: Format,
-    payload: &'a [u8],
-    out: &mut Vec<u8>,
-) -> Result<Option<(ListTable, &'a [u8])>, AllocError>
-    requires { level < 2 ^ 63 }
-    ensures ok { OnOk result (out.new.items ≡ out.old.items ++ (name.now
-        ++ (inside_text (inside_of (λ b. b.now) (λ t. t.now) (λ r. r.now) format.entry) payload.now
-        ++ 10 ∷ header_inside (level + 1) (inside_of (λ b. b.now) (λ t. t.now) (λ r. r.now) format.entry) payload.now))) }
-    ensures list { IfOk result (λ found. option_map (λ f. (f.0, f.1.now)) found
-        ≡ inside_list is_in_peer (inside_of (λ b. b.now) (λ t. t.now) (λ r. r.now) format.entry) payload.now) }
+/// Returns the list with a table that is shown below a name, if there is one.
+fn list_of<'a>(scope: Scope, format: Format, payload: &'a [u8]) -> Option<(ListTable, &'a [u8])>
+    ensures { option_map (λ f. (f.0, f.1.now)) result
+        ≡ inside_list scope (inside_of (λ b. b.now) (λ t. t.now) (λ r. r.now) format.entry) payload.now }
 {
-    out.extend_from_slice(name)?;
-    push_after_name(format, payload, out)?;
-    out.extend_from_slice(b"\n")?;
-    open_list(level + 1, is_in_peer, format, payload, out)
+    let table = match format {
+        FormatBy::Peer => return peer_list(scope, payload),
+        FormatBy::List(_, table) => table,
+        FormatBy::LinkInfo => LINK_INFO,
+        _ => return None,
+    };
+    Some((ListTable { table, scope }, payload))
 }
 
-/// Appends the line of an attribute, and that of a peer's header below it, but not those of its
-/// list. Returns that list, if the attribute holds one.
+/// Appends the line of an attribute, and the lines below it, but not those of a list with a table.
+/// Returns that list, if the attribute holds one.
 #[tactic(auto, unfolding(crate::specs::Lists::attribute_lines, crate::specs::Lists::list_inside))]
 fn push_attribute<'a>(
     level: usize,
@@ -142,30 +130,22 @@ fn push_attribute<'a>(
     attribute: Attribute<'a>,
     out: &mut Vec<u8>,
 ) -> Result<Option<(ListTable, &'a [u8])>, AllocError>
-    requires { level < 2 ^ 63 }
+    requires { level + length attribute.payload.now + 1 < 2 ^ 63 }
     ensures ok { OnOk result (out.new.items ≡ out.old.items
-        ++ attribute_lines level list_table (in_force force.entry)
-        (attribute_of attribute.entry.kind attribute.entry.payload)) }
+        ++ attribute_lines level list_table (in_force force.entry) (attribute_of attribute.entry)) }
     ensures list { IfOk result (λ found. option_map (λ f. (f.0, f.1.now)) found
-        ≡ list_inside list_table (in_force force.entry)
-        (attribute_of attribute.entry.kind attribute.entry.payload)) }
+        ≡ list_inside list_table (in_force force.entry) (attribute_of attribute.entry)) }
 {
     push_indent(level, out)?;
     let Some((name, format)) = attribute_name_of(list_table.table, attribute.kind % KIND_BOUND)
     else {
-        push_raw(list_table.table, attribute.kind, attribute.payload, out)?;
-        out.extend_from_slice(b"\n")?;
+        push_raw(level + 1, raw_table(list_table.table), attribute, out)?;
         return Ok(None);
     };
-    let format = known_format(list_table.is_in_peer, force, format);
-    push_named(
-        level,
-        list_table.is_in_peer,
-        name,
-        format,
-        attribute.payload,
-        out,
-    )
+    let format = known_format(list_table.scope, force, format);
+    out.extend_from_slice(name)?;
+    push_payload(level + 1, format, attribute.payload, out)?;
+    Ok(list_of(list_table.scope, format, attribute.payload))
 }
 
 /// Appends the lines of a list of attributes of a table, indented for this level.

@@ -1,11 +1,11 @@
 //! The names of attributes in the data of links and of ports.
 
 use crate::attribute_names::AttributeRow;
+use crate::format::FormatBy::{List, Peer, Value};
 use crate::list_names;
-use link_lines_names::FormatBy::{List, Peer, Value};
 use link_lines_values::ShownBy::{
-    Address, BigEndian, BigEndianFlags, Boolean, Flags, FlagsAndMask, FlagsBySize, HardwareAddress,
-    Number, OptionalByte, PortRange, Presence, Signed, Text,
+    Address, BigEndian, BigEndianFlags, Boolean, Flags, FlagsAndMask, HardwareAddress, Number,
+    OptionalByte, PortRange, Presence, Signed, Text,
 };
 use link_lines_values::{
     AMT_MODE, ER_SPAN_DIR, ETHERNET_PROTOCOL, GENEVE_DF, GRE_ENCAP_TYPE, GTP_ROLE, IP_VLAN_MODE,

@@ -1,51 +1,77 @@
 //! The lines of messages.
 
-ghost use Rattle.std.specs.Prelude.{◌≡◌, ◌<◌, ◌≤◌, ◌^◌, ◌++◌, true, false, length, drop, decimal, OnOk, IfSome, IfNone};
+ghost use Rattle.std.specs.Prelude.{◌≡◌, ◌<◌, ◌≤◌, ◌+◌, ◌^◌, ◌++◌, true, false, length, drop, decimal, OnOk, IfSome, IfNone};
 ghost use Rattle.netlink_packet_core_grammar.specs.Attributes.{nla_align};
 ghost use Rattle.netlink_packet_core.specs.Frames.{frame_length};
-ghost use Rattle.link_lines_values.specs.Names.{texts_of};
-ghost use Rattle.link_lines_texts.specs.Frames.{type_text, flag_names, numbers_text, header_line, request_line};
+ghost use Rattle.link_lines_values.specs.Names.{text_in, texts_of};
+ghost use Rattle.link_lines_texts.specs.Frames.{type_text, flag_names, has_text, request_flag_names, message_types, numbers_text};
+ghost use Rattle.link_lines_texts.specs.Frames.{has_request_flag, header_line, request_line};
 ghost use Rattle.link_lines_texts.specs.Frames.{link_lines, bytes_line, after_code, code_lines};
-ghost use Rattle.link_lines_texts.specs.Frames.{body_lines, frame_lines};
+ghost use Rattle.link_lines_texts.specs.Frames.{body_lines, frame_lines, other_lines};
 
 use crate::attributes::{ListTable, push_list};
+use crate::format::Scope;
 use crate::links::{push_labelled_decimal, push_labelled_flags, push_link_header};
-use link_capture_grammar::link_types::{RTM_DELLINK, RTM_GETLINK, RTM_NEWLINK, RTM_SETLINK};
+use link_capture_grammar::link_types::{RTM_NEWLINK, RTM_SETLINK};
+use link_lines_raw::push_body as push_raw_body;
 use link_lines_values::{
     FlagNames, MESSAGE_ACK_FLAGS, MESSAGE_CREATE_FLAGS, MESSAGE_DELETE_FLAGS, MESSAGE_FLAGS,
-    MESSAGE_GET_FLAGS, MESSAGE_TYPE, ShownBy, push_bytes, push_decimal, push_name, push_value,
+    MESSAGE_GET_FLAGS, MESSAGE_TYPE, PLAIN, ShownBy, find_text, push_bytes, push_decimal,
+    push_value,
 };
 use link_tables::{LINK_HEADER_LEN, family_table};
-use netlink_packet_core::{NETLINK_HEADER_LEN, NLMSG_DONE, NLMSG_ERROR, NetlinkBuffer, nla_align};
+use netlink_packet_core::{
+    NETLINK_HEADER_LEN, NLM_F_REQUEST, NLMSG_DONE, NLMSG_ERROR, NetlinkBuffer, nla_align,
+};
 use std::alloc::AllocError;
 
 /// The size in bytes of the code at the start of the body of an NLMSG_DONE or NLMSG_ERROR.
 const CODE_LEN: usize = 4;
+
+/// Returns the name of a message type; empty if it has none. The constant has a function of its
+/// own, since the prover spells it out in each function that names it.
+#[tactic(auto, unfolding(crate::specs::Frames::message_types))]
+fn type_name(message_type: u16) -> &'static [u8]
+    ensures { result.now ≡ text_in message_types message_type }
+{
+    find_text(MESSAGE_TYPE, message_type as u64)
+}
+
+/// Returns the names of the flags of requests of a type, by what they ask for (rtnetlink.h:
+/// RTM_NEW*, RTM_DEL*, RTM_GET*, RTM_SET*).
+#[tactic(auto, unfolding(crate::specs::Frames::request_flag_names))]
+fn request_flag_names(message_type: u16) -> FlagNames
+    ensures { texts_of (λ b. b.now) result.now ≡ request_flag_names message_type }
+{
+    match message_type % 4 {
+        1 => MESSAGE_DELETE_FLAGS,
+        2 => MESSAGE_GET_FLAGS,
+        _ => MESSAGE_CREATE_FLAGS,
+    }
+}
 
 /// Returns the names of the flags that messages of a type have.
 #[tactic(auto, unfolding(crate::specs::Frames::flag_names))]
 fn flag_names(message_type: u16) -> FlagNames
     ensures { texts_of (λ b. b.now) result.now ≡ flag_names message_type }
 {
-    // rtnetlink.h: RTM_NEWADDR 20, RTM_DELADDR 21, RTM_GETADDR 22, RTM_NEWROUTE 24, ..
-    match message_type {
-        NLMSG_ERROR => MESSAGE_ACK_FLAGS,
-        RTM_NEWLINK | RTM_SETLINK | 20 | 24 | 28 | 32 => MESSAGE_CREATE_FLAGS,
-        RTM_DELLINK | 21 | 25 | 29 | 33 => MESSAGE_DELETE_FLAGS,
-        RTM_GETLINK | 22 | 26 | 30 | 34 => MESSAGE_GET_FLAGS,
-        _ => MESSAGE_FLAGS,
+    if message_type == NLMSG_ERROR {
+        MESSAGE_ACK_FLAGS
+    } else if message_type >= RTM_NEWLINK && !type_name(message_type).is_empty() {
+        request_flag_names(message_type)
+    } else {
+        MESSAGE_FLAGS
     }
 }
 
 /// Appends the name of a message type, or `type` and its number if it has no name.
-#[tactic(auto, unfolding(crate::specs::Frames::type_text, crate::specs::Frames::message_types))]
+#[tactic(auto, unfolding(crate::specs::Frames::type_text))]
 fn push_type(message_type: u16, out: &mut Vec<u8>) -> Result<(), AllocError>
     ensures ok { OnOk result (out.new.items ≡ out.old.items ++ type_text message_type) }
 {
-    let size = out.len();
-    push_name(MESSAGE_TYPE, message_type as u64, out)?;
-    if out.len() > size {
-        return Ok(());
+    let name = type_name(message_type);
+    if !name.is_empty() {
+        return out.extend_from_slice(name);
     }
     out.extend_from_slice(b"type ")?;
     push_decimal(message_type as u64, out)
@@ -114,8 +140,8 @@ fn push_bytes_line(name: &[u8], bytes: &[u8], out: &mut Vec<u8>) -> Result<(), A
 
 /// Appends the lines of the body of a link message.
 #[tactic(auto, unfolding(crate::specs::Frames::link_lines))]
-fn push_link(body: &[u8], out: &mut Vec<u8>) -> Result<(), AllocError>
-    ensures ok { OnOk result (out.new.items ≡ out.old.items ++ link_lines body.now) }
+fn push_link(is_request: bool, body: &[u8], out: &mut Vec<u8>) -> Result<(), AllocError>
+    ensures ok { OnOk result (out.new.items ≡ out.old.items ++ link_lines is_request body.now) }
 {
     if body.len() < LINK_HEADER_LEN {
         return push_bytes_line(b"body", body, out);
@@ -123,7 +149,10 @@ fn push_link(body: &[u8], out: &mut Vec<u8>) -> Result<(), AllocError>
     push_link_header(1, body, out)?;
     let list_table = ListTable {
         table: family_table(body[0]),
-        is_in_peer: false,
+        scope: Scope {
+            is_in_peer: false,
+            is_request,
+        },
     };
     push_list(1, list_table, &body[LINK_HEADER_LEN..], out)
 }
@@ -161,9 +190,26 @@ fn push_code(
     }
     let (code, rest) = body.split_at(CODE_LEN);
     out.extend_from_slice(b"  code")?;
-    push_value(ShownBy::Signed, code, out)?;
+    push_value(ShownBy::Signed(PLAIN), code, out)?;
     out.extend_from_slice(b"\n")?;
     push_after_code(numbers, message_type, rest, out)
+}
+
+/// Appends the lines of the body of a message other than a link, by its row, or else its bytes.
+#[tactic(auto, unfolding(crate::specs::Frames::other_lines))]
+fn push_other(
+    message_type: u16,
+    is_request: bool,
+    body: &[u8],
+    out: &mut Vec<u8>,
+) -> Result<(), AllocError>
+    requires { length body.now + 1 < 2 ^ 63 }
+    ensures ok { OnOk result (out.new.items ≡ out.old.items ++ other_lines message_type is_request body.now) }
+{
+    if push_raw_body(message_type, is_request, body, out)? {
+        return Ok(());
+    }
+    push_bytes_line(b"body", body, out)
 }
 
 /// Appends the lines of a message's body, by the message's type.
@@ -171,16 +217,28 @@ fn push_code(
 fn push_body(
     numbers: bool,
     message_type: u16,
+    is_request: bool,
     body: &[u8],
     out: &mut Vec<u8>,
 ) -> Result<(), AllocError>
-    ensures ok { OnOk result (out.new.items ≡ out.old.items ++ body_lines numbers message_type body.now) }
+    requires { length body.now + 1 < 2 ^ 63 }
+    ensures ok { OnOk result (out.new.items
+        ≡ out.old.items ++ body_lines numbers message_type is_request body.now) }
 {
     match message_type {
         NLMSG_ERROR | NLMSG_DONE => push_code(numbers, message_type, body, out),
-        RTM_NEWLINK..=RTM_SETLINK => push_link(body, out),
-        _ => push_bytes_line(b"body", body, out),
+        RTM_NEWLINK..=RTM_SETLINK => push_link(is_request, body, out),
+        _ => push_other(message_type, is_request, body, out),
     }
+}
+
+/// Returns whether a frame is a request.
+#[tactic(auto, unfolding(crate::specs::Frames::has_request_flag))]
+fn has_request_flag(frame: &[u8]) -> bool
+    requires { 16 ≤ length frame.now }
+    ensures { result ≡ has_request_flag frame.now }
+{
+    NetlinkBuffer::new(frame).flags() & NLM_F_REQUEST != 0
 }
 
 /// Appends the lines of a frame, given by its bytes without the padding. Its sequence and port
@@ -197,5 +255,11 @@ pub fn push_frame(frame: &[u8], numbers: bool, out: &mut Vec<u8>) -> Result<(), 
 {
     push_header(numbers, frame, out)?;
     let message_type = NetlinkBuffer::new(frame).message_type();
-    push_body(numbers, message_type, &frame[NETLINK_HEADER_LEN..], out)
+    push_body(
+        numbers,
+        message_type,
+        has_request_flag(frame),
+        &frame[NETLINK_HEADER_LEN..],
+        out,
+    )
 }

@@ -1,14 +1,14 @@
 //! The header of a link, in a message and in a peer.
 
 ghost use Rattle.std.specs.Prelude.{◌≡◌, ◌<◌, ◌≤◌, ◌^◌, ◌++◌, length, decimal, OnOk};
-ghost use Rattle.link_lines_values.specs.Flags.{named_flags};
+ghost use Rattle.link_lines_values.specs.Flags.{named_flags, word_flags};
 ghost use Rattle.link_lines_values.specs.Indents.{indent};
 ghost use Rattle.link_lines_values.specs.Names.{named_number, texts_of};
 ghost use Rattle.link_lines_texts.specs.Links.{labelled, link_flag_names, link_flags, link_header_line, link_numbers};
 
 use link_lines_values::{
     ADDRESS_FAMILY, FlagName, LINK_FLAGS, LINK_LAYER_TYPE, NumberText, push_decimal, push_flags,
-    push_indent, push_number,
+    push_indent, push_number, push_word_flags,
 };
 use netlink_packet_core_attributes::view::{read_u16, read_u32};
 use std::alloc::AllocError;
@@ -65,13 +65,27 @@ fn push_link_numbers(body: &[u8], out: &mut Vec<u8>) -> Result<(), AllocError>
     push_labelled_decimal(b" index ", read_u32(body, 4), out)
 }
 
+/// Appends a label and flags of 4 bytes, or ` (all)` for all bits.
+fn push_labelled_word_flags(
+    label: &[u8],
+    names: &[FlagName],
+    flags: u32,
+    out: &mut Vec<u8>,
+) -> Result<(), AllocError>
+    ensures ok { OnOk result (out.new.items
+        ≡ out.old.items ++ labelled label.now (word_flags (texts_of (λ b. b.now) names.now) flags)) }
+{
+    out.extend_from_slice(label)?;
+    push_word_flags(names, flags, out)
+}
+
 /// Appends a label and a link's flags.
 #[tactic(auto, unfolding(crate::specs::Links::link_flag_names))]
 fn push_labelled_link_flags(label: &[u8], flags: u32, out: &mut Vec<u8>) -> Result<(), AllocError>
     ensures ok { OnOk result (out.new.items
-        ≡ out.old.items ++ labelled label.now (named_flags link_flag_names flags)) }
+        ≡ out.old.items ++ labelled label.now (word_flags link_flag_names flags)) }
 {
-    push_labelled_flags(label, LINK_FLAGS, flags, out)
+    push_labelled_word_flags(label, LINK_FLAGS, flags, out)
 }
 
 /// Appends the flags and the change mask of a link, and ends the line.

@@ -1,11 +1,12 @@
 //! The names of attributes of link messages, of their nested lists, and of link info.
 
 use crate::attribute_names::AttributeRow;
-use crate::{family_names, list_names};
-use link_lines_names::FormatBy::{Data, LinkInfo, List, PortData, Value};
+use crate::format::FormatBy::{Data, LinkInfo, List, PortData, Raw, Settings, Statistics, Value};
+use crate::{family_names, list_names, setting_names};
+use link_lines_raw::raw_tables::FAMILY_SPECIFIC;
 use link_lines_values::ShownBy::{
-    Address, Bytes, Flags, HardwareAddress, NamedFlags, Number, Record as Fields, Signed,
-    SparseRecord, Text,
+    Address, Flags, HardwareAddress, NamedFlags, Number, Record as Fields, Signed, SparseRecord,
+    Text,
 };
 use link_lines_values::{
     CACHEINFO, ICMP6_STATS, IN6_ADDR_GEN_MODE, IP6_STATS, IPV4_DEVCONF, IPV6_DEVCONF,
@@ -14,8 +15,8 @@ use link_lines_values::{
 };
 use link_tables::Form::{Any, OfKindOne, Ports};
 use link_tables::table::{
-    BRIDGE_PORT, BRIDGE_SPECIFIC, DEVLINK_PORT, DPLL_PIN, INET, INET6, INET6_PROTOCOL, MCTP, PROPS,
-    PROTOCOL_DOWN_REASON, RAW, SPECIFIC, VF, VF_INFOS, VF_PORTS, VF_STATS, VF_VLANS, XDP,
+    BRIDGE_PORT, BRIDGE_SPECIFIC, DEVLINK_PORT, DPLL_PIN, INET, INET6, INET6_PROTOCOL, MCTP, PORT,
+    PROPS, PROTOCOL_DOWN_REASON, SPECIFIC, VF, VF_INFOS, VF_PORTS, VF_STATS, VF_VLANS, XDP,
 };
 use link_tables::{
     devlink_port, dpll_pin, inet, inet6, link, link_bridge, link_inet6, link_other, link_unspec,
@@ -37,7 +38,7 @@ pub const DPLL_PIN_ATTRIBUTE_NAMES: &[AttributeRow] = &dpll_pin!(list_names);
 
 pub const MCTP_ATTRIBUTE_NAMES: &[AttributeRow] = &mctp!(list_names);
 
-pub const AF_INET_ATTRIBUTE_NAMES: &[AttributeRow] = &inet!(list_names);
+pub const AF_INET_ATTRIBUTE_NAMES: &[AttributeRow] = &inet!(setting_names);
 
 pub const AF_INET6_ATTRIBUTE_NAMES: &[AttributeRow] = &inet6!(list_names);
 
@@ -78,7 +79,7 @@ pub const OTHER_FAMILY_NAMES: &[AttributeRow] = &link_other!(family_names);
 pub const INFO_ATTRIBUTE_NAMES: &[AttributeRow] = &[
     (1, Some((b"IFLA_INFO_KIND", Value(Text)))),
     (2, Some((b"IFLA_INFO_DATA", Data))),
-    (3, Some((b"IFLA_INFO_XSTATS", Value(Bytes)))),
+    (3, Some((b"IFLA_INFO_XSTATS", Statistics))),
     (4, Some((b"IFLA_INFO_SLAVE_KIND", Value(Text)))),
     (5, Some((b"IFLA_INFO_SLAVE_DATA", PortData))),
 ];

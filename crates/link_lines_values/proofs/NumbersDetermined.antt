@@ -2,7 +2,7 @@
 use Rattle.std.proofs.Common.{◌≡◌, ℕ, zero, suc, ◌+◌, ◌-◌, ◌*◌, ◌/◌, ◌%◌, ◌^◌, ◌<◌, ◌≤◌, Bool, true, false, List, [], ◌∷◌, ◌++◌, length, drop, refl, sym, ap, subst, ◌∙◌, append_assoc, arith}
 use Rattle.std.proofs.lemmas.List.{append_cancel_left, reverse-append, reverse-reverse, length-reverse}
 use Rattle.std.proofs.lemmas.Bool.{cond_both}
-use Rattle.std.specs.Prelude.{◌==◌, ◌||◌, cond, nat_lt, reverse}
+use Rattle.std.specs.Prelude.{◌==◌, ◌||◌, codes, cond, nat_lt, reverse}
 use Rattle.std.specs.List.{AllByRecursion}
 use Rattle.std.specs.Fmt.{decimal, digit_glyph, digits, digits_onto}
 use Rattle.std.proofs.lemmas.Fmt.{digits_is_IsNumeral, decimal_is_IsNumeral, decimal_injective}
@@ -12,9 +12,10 @@ use Rattle.netlink_packet_core_grammar.specs.Bytes.{AreBytes}
 use Rattle.attribute_tables_grammar.specs.Shapes.{number}
 use Rattle.link_lines_values.specs.Bytes.{bytes_text}
 use Rattle.link_lines_values.specs.Digits.{big_endian, hex_number, is_number, signed_text}
-use Rattle.link_lines_values.specs.Flags.{listed, named_flags, nameless, names_set}
+use Rattle.link_lines_values.specs.Flags.{listed, named_flags, nameless, names_set, word_flags}
 use Rattle.link_lines_values.specs.Laws.{DigitsAreDetermined, Ends, NumbersAreDetermined}
-use Rattle.link_lines_values.specs.Names.{Text, bracketed, named_number, text_in}
+use Rattle.link_lines_values.specs.Names.{Text, bracketed, named_number, named_signed, text_in}
+use Rattle.link_lines_values.specs.Values.{named_flags_value}
 use Rattle.netlink_packet_core_grammar.proofs.Bytes.{AreBytes-append}
 
 -- ---- digits end before a smaller byte
@@ -71,16 +72,16 @@ pub following : (a x s b y t : List ℕ) → (a ++ x) ++ s ≡ (b ++ y) ++ t →
 following a x s b y t e = sym (append_assoc a x s) ∙ e ∙ append_assoc b y t
 
 -- A number that determines its name is determined together with it.
-with_name : (bound : ℕ) (text name : ℕ → List ℕ) → Determines bound text → ((n : ℕ) (s : List ℕ) → Ends s → Ends (name n ++ s)) → Determines bound (λ n. text n ++ name n)
+pub with_name : (bound : ℕ) (text name : ℕ → List ℕ) → Determines bound text → ((n : ℕ) (s : List ℕ) → Ends s → Ends (name n ++ s)) → Determines bound (λ n. text n ++ name n)
 with_name bound text name determined ends m n s t p q k l e =
     let r = determined m n (name m ++ s) (name n ++ t) p q (ends m s k) (ends n t l) (following (text m) (name m) s (text n) (name n) t e) in
     (r.0, append_cancel_left (name m) s t (r.1 ∙ ap (λ n. name n ++ t) (sym r.0)))
 
-bracket_ends : (name s : List ℕ) → Ends s → Ends (bracketed name ++ s)
+pub bracket_ends : (name s : List ℕ) → Ends s → Ends (bracketed name ++ s)
 bracket_ends [] s h = h
 bracket_ends (c ∷ name) s h = omega arith
 
-listed_ends : (names : List (List ℕ)) (rest : ℕ) (s : List ℕ) → Ends s → Ends (listed names rest ++ s)
+pub listed_ends : (names : List (List ℕ)) (rest : ℕ) (s : List ℕ) → Ends s → Ends (listed names rest ++ s)
 listed_ends [] rest s h = h
 listed_ends (name ∷ names) rest s h = omega arith
 
@@ -89,6 +90,23 @@ named_determined texts = with_name (2 ^ 64) decimal (λ n. bracketed (text_in te
 
 pub flags_determined : (names : List Text) → Determines (2 ^ 64) (named_flags names)
 flags_determined names = with_name (2 ^ 64) hex_number (λ n. listed (names_set names n) (nameless names n)) hex_determined (λ n. listed_ends (names_set names n) (nameless names n))
+
+all_ends : (t : Bool) (names : List (List ℕ)) (rest : ℕ) (s : List ℕ) → Ends s → Ends (cond t (codes " (all)") (listed names rest) ++ s)
+all_ends true names rest s h = omega arith
+all_ends false names rest s h = listed_ends names rest s h
+
+pub word_determined : (names : List Text) → Determines (2 ^ 64) (word_flags names)
+word_determined names =
+    with_name (2 ^ 64) hex_number (λ n. cond (n == 4294967295) (codes " (all)") (listed (names_set names n) (nameless names n))) hex_determined
+    (λ n. all_ends (n == 4294967295) (names_set names n) (nameless names n))
+
+-- Flags of a size that determines whether they may be shown as all.
+abbrev pub flags_of : Bool → List Text → ℕ → List ℕ
+flags_of is_word names n = cond is_word (word_flags names n) (named_flags names n)
+
+pub flags_of_determined : (is_word : Bool) (names : List Text) → Determines (2 ^ 64) (flags_of is_word names)
+flags_of_determined true names = word_determined names
+flags_of_determined false names = flags_determined names
 
 -- ---- numbers of bytes
 
@@ -131,11 +149,11 @@ highest_first = record {
       sym (reverse-reverse p) ∙ ap reverse (number_determined (reverse p) (reverse q) (reversed_bytes p a) (reversed_bytes q b) (length-reverse p ∙ l ∙ sym (length-reverse q)) e) ∙ reverse-reverse q;
 }
 
-pub sized : (n : ℕ) → ((n == 1) || ((n == 2) || ((n == 4) || (n == 8)))) ≡ true → n ≤ 8
+pub sized : (n : ℕ) → ((n == 1) || ((n == 2) || ((n == 3) || ((n == 4) || (n == 8))))) ≡ true → n ≤ 8
 sized n h = grind (arith, nat_tests)
 
 pub same_size : (p q : List ℕ) → length p ≡ length q → is_number p ≡ true → is_number q ≡ true
-same_size p q l h = ap (λ n. (n == 1) || ((n == 2) || ((n == 4) || (n == 8)))) (sym l) ∙ h
+same_size p q l h = ap (λ n. (n == 1) || ((n == 2) || ((n == 3) || ((n == 4) || (n == 8))))) (sym l) ∙ h
 
 module _ (value : List ℕ → ℕ) (reads : Reads value) (text : ℕ → List ℕ) (determined : Determines (2 ^ 64) text) where
   -- Bytes are determined by their number, and so is what follows it.
@@ -156,39 +174,51 @@ module _ (value : List ℕ → ℕ) (reads : Reads value) (text : ℕ → List �
 -- ---- numbers with a sign
 
 -- No digits begin with a minus.
-no_minus : (ds s t : List ℕ) → Digits ds → 0 < length ds → ds ++ s ≡ 45 ∷ t → ⊥
+pub no_minus : (ds s t : List ℕ) → Digits ds → 0 < length ds → ds ++ s ≡ 45 ∷ t → ⊥
 no_minus [] s t h l e = omega arith
 no_minus (x ∷ ds) s t h l e = let first : x ≡ 45 = cc in omega (arith, h.0)
 
-decimal_is_some : (n : ℕ) → n < 2 ^ 64 → 0 < length (decimal n)
+pub decimal_is_some : (n : ℕ) → n < 2 ^ 64 → 0 < length (decimal n)
 decimal_is_some n h = (decimal_is_IsNumeral n h).0.0
 
-signed_by : (m n : ℕ) (a b : Bool) → nat_lt m 2147483648 ≡ a → nat_lt n 2147483648 ≡ b → (s t : List ℕ) → m < 4294967296 → n < 4294967296 → Ends s → Ends t →
-    cond a (decimal m) (45 ∷ decimal (4294967296 - m)) ++ s ≡ cond b (decimal n) (45 ∷ decimal (4294967296 - n)) ++ t → (m ≡ n) × (s ≡ t)
-signed_by m n true true h k s t p q i j e = decimal_determined m n s t (omega arith) (omega arith) i j e
-signed_by m n true false h k s t p q i j e = absurd (no_minus (decimal m) s (decimal (4294967296 - n) ++ t) (high 10 m) (decimal_is_some m (omega arith)) e)
-signed_by m n false true h k s t p q i j e = absurd (no_minus (decimal n) t (decimal (4294967296 - m) ++ s) (high 10 n) (decimal_is_some n (omega arith)) (sym e))
-signed_by m n false false h k s t p q i j e =
-    let r = decimal_determined (4294967296 - m) (4294967296 - n) s t (omega arith) (omega arith) i j (ap (drop 1) e) in
+pub signed_at : (half m n : ℕ) (a b : Bool) → nat_lt m half ≡ a → nat_lt n half ≡ b → half ≤ 2147483648 → (s t : List ℕ) → m < half + half → n < half + half → Ends s → Ends t →
+    cond a (decimal m) (45 ∷ decimal (half + half - m)) ++ s ≡ cond b (decimal n) (45 ∷ decimal (half + half - n)) ++ t → (m ≡ n) × (s ≡ t)
+signed_at half m n true true h k l s t p q i j e = decimal_determined m n s t (omega arith) (omega arith) i j e
+signed_at half m n true false h k l s t p q i j e = absurd (no_minus (decimal m) s (decimal (half + half - n) ++ t) (high 10 m) (decimal_is_some m (omega arith)) e)
+signed_at half m n false true h k l s t p q i j e = absurd (no_minus (decimal n) t (decimal (half + half - m) ++ s) (high 10 n) (decimal_is_some n (omega arith)) (sym e))
+signed_at half m n false false h k l s t p q i j e =
+    let r = decimal_determined (half + half - m) (half + half - n) s t (omega arith) (omega arith) i j (ap (drop 1) e) in
     (omega (arith, r.0), r.1)
 
 pub signed_determined : Determines 4294967296 signed_text
-signed_determined m n s t p q i j e = signed_by m n _ _ refl refl s t p q i j e
+signed_determined m n s t p q i j e = signed_at 2147483648 m n _ _ refl refl (omega arith) s t p q i j e
 
 pub four : (p : List ℕ) → AreBytes p → length p ≡ 4 → number p < 4294967296
 four p a l = omega (arith, bounded 4 p a (omega arith))
 
-signed : (p q : List ℕ) → AreBytes p → AreBytes q → length p ≡ 4 → length q ≡ 4 →
-    cond (length p == 4) (32 ∷ signed_text (number p)) (bytes_text p) ≡ cond (length q == 4) (32 ∷ signed_text (number q)) (bytes_text q) → p ≡ q
-signed p q a b l k e = number_determined p q a b (l ∙ sym k) (signed_determined (number p) (number q) [] [] (four p a l) (four q b k) (record {}) (record {}) (ap (λ z. drop 1 z ++ []) (rw (l, k) at e))).0
+named_signed_determined : (texts : List Text) → Determines 4294967296 (named_signed texts)
+named_signed_determined texts = with_name 4294967296 signed_text (λ n. bracketed (text_in texts n)) signed_determined (λ n. bracket_ends (text_in texts n))
+
+signed : (texts : List Text) (p q : List ℕ) → AreBytes p → AreBytes q → length p ≡ 4 → length q ≡ 4 →
+    cond (length p == 4) (32 ∷ named_signed texts (number p)) (bytes_text p) ≡ cond (length q == 4) (32 ∷ named_signed texts (number q)) (bytes_text q) → p ≡ q
+signed texts p q a b l k e =
+    number_determined p q a b (l ∙ sym k) (named_signed_determined texts (number p) (number q) [] [] (four p a l) (four q b k) (record {}) (record {}) (ap (λ z. drop 1 z ++ []) (rw (l, k) at e))).0
+
+-- ---- sets of flags
+
+flags : (names : List Text) (p q : List ℕ) → AreBytes p → AreBytes q → length p ≡ length q → is_number p ≡ true →
+    named_flags_value names p ≡ named_flags_value names q → p ≡ q
+flags names p q a b l h e =
+    sized_number number lowest_first (flags_of (length p == 4) names) (flags_of_determined (length p == 4) names) p q a b l h
+    (e ∙ ap (λ k. cond (is_number q) (32 ∷ flags_of (k == 4) names (number q)) (bytes_text q)) (sym l))
 
 pub numbers_determined : NumbersAreDetermined
 numbers_determined = record {
   little = λ texts. sized_number number lowest_first (named_number texts) (named_determined texts);
   big = λ texts. sized_number big_endian highest_first (named_number texts) (named_determined texts);
   signed = signed;
-  flags = sized_number number lowest_first hex_number hex_determined;
-  named_flags = λ names. sized_number number lowest_first (named_flags names) (flags_determined names);
+  flags = flags [];
+  named_flags = flags;
 }
 
 pub digits_are : DigitsAreDetermined

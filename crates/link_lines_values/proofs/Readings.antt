@@ -3,11 +3,16 @@ use Rattle.std.proofs.Common.{Bool, true, eq-eqb, lt-ltb, ◌+◌, ◌<◌, ◌/
 use Rattle.std.specs.Fmt.{decimal, digits}
 use Rattle.std.specs.Int.{from_le_bytes, from_be_bytes}
 use Rattle.attribute_tables_grammar.specs.Shapes.{number}
-use Rattle.link_lines_values.specs.Digits.{big_endian, is_number, hex_number}
+use Rattle.link_lines_values.specs.Digits.{big_endian, is_number}
+use Rattle.link_lines_values.specs.Flags.{word_flags}
+use Rattle.link_lines_values.specs.Names.{Text}
 use Rattle.link_lines_values.specs.Values.{flags_and_mask_value}
 
 pub low_2 : (a b : ℕ) → from_le_bytes w16 (a ∷ b ∷ []) ≡ number (a ∷ b ∷ [])
 low_2 a b = omega arith
+
+pub low_3 : (a b c : ℕ) → from_le_bytes w32 (a ∷ b ∷ c ∷ 0 ∷ []) ≡ number (a ∷ b ∷ c ∷ [])
+low_3 a b c = omega arith
 
 pub low_4 : (a b c d : ℕ) → from_le_bytes w32 (a ∷ b ∷ c ∷ d ∷ []) ≡ number (a ∷ b ∷ c ∷ d ∷ [])
 low_4 a b c d = omega arith
@@ -17,6 +22,9 @@ low_8 a b c d e f g h = omega arith
 
 pub high_2 : (a b : ℕ) → from_be_bytes w16 (a ∷ b ∷ []) ≡ big_endian (a ∷ b ∷ [])
 high_2 a b = omega arith
+
+pub high_3 : (a b c : ℕ) → from_be_bytes w32 (0 ∷ a ∷ b ∷ c ∷ []) ≡ big_endian (a ∷ b ∷ c ∷ [])
+high_3 a b c = omega arith
 
 pub high_4 : (a b c d : ℕ) → from_be_bytes w32 (a ∷ b ∷ c ∷ d ∷ []) ≡ big_endian (a ∷ b ∷ c ∷ d ∷ [])
 high_4 a b c d = omega arith
@@ -28,15 +36,15 @@ pub eight_bytes : (p : List ℕ) (n : ℕ) → length p ≡ 8 → n ≡ from_le_
 eight_bytes (a ∷ b ∷ c ∷ d ∷ e ∷ f ∷ g ∷ h ∷ []) n len from = ap Some (from ∙ low_8 a b c d e f g h)
 eight_bytes p n len from = absurd (omega arith)
 
-pub mask_bytes : (p : List ℕ) (flags mask : ℕ) → length p ≡ 8 → flags ≡ from_le_bytes w32 (get_or p 0 0 ∷ get_or p 1 0 ∷ get_or p 2 0 ∷ get_or p 3 0 ∷ []) → mask ≡ from_le_bytes w32 (get_or p 4 0 ∷ get_or p 5 0 ∷ get_or p 6 0 ∷ get_or p 7 0 ∷ []) → 32 ∷ (hex_number flags ++ (codes " mask " ++ hex_number mask)) ≡ flags_and_mask_value p
-mask_bytes (a ∷ b ∷ c ∷ d ∷ e ∷ f ∷ g ∷ h ∷ []) flags mask len from into =
-    ap (λ x. 32 ∷ (hex_number x ++ (codes " mask " ++ hex_number mask))) (from ∙ low_4 a b c d)
-    ∙ ap (λ x. 32 ∷ (hex_number (number (a ∷ b ∷ c ∷ d ∷ [])) ++ (codes " mask " ++ hex_number x))) (into ∙ low_4 e f g h)
-mask_bytes p flags mask len from into = absurd (omega arith)
+pub mask_bytes : (names : List Text) (p : List ℕ) (flags mask : ℕ) → length p ≡ 8 → flags ≡ from_le_bytes w32 (get_or p 0 0 ∷ get_or p 1 0 ∷ get_or p 2 0 ∷ get_or p 3 0 ∷ []) → mask ≡ from_le_bytes w32 (get_or p 4 0 ∷ get_or p 5 0 ∷ get_or p 6 0 ∷ get_or p 7 0 ∷ []) → 32 ∷ (word_flags names flags ++ (codes " mask " ++ word_flags names mask)) ≡ flags_and_mask_value names p
+mask_bytes names (a ∷ b ∷ c ∷ d ∷ e ∷ f ∷ g ∷ h ∷ []) flags mask len from into =
+    ap (λ x. 32 ∷ (word_flags names x ++ (codes " mask " ++ word_flags names mask))) (from ∙ low_4 a b c d)
+    ∙ ap (λ x. 32 ∷ (word_flags names (number (a ∷ b ∷ c ∷ d ∷ [])) ++ (codes " mask " ++ word_flags names x))) (into ∙ low_4 e f g h)
+mask_bytes names p flags mask len from into = absurd (omega arith)
 
-pub ruleset low_first = (low_2, low_4, low_8)
+pub ruleset low_first = (low_2, low_3, low_4, low_8)
 
-pub ruleset high_first = (high_2, high_4, high_8)
+pub ruleset high_first = (high_2, high_3, high_4, high_8)
 
 digit_by : (b c : Bool) (n m : ℕ) (more : List ℕ) → b ≡ true → c ≡ true → m ≡ n → cond b (cond c (48 + m) (87 + m) ∷ []) more ≡ (48 + n) ∷ []
 digit_by true true n m more h k e = ap (λ z. (48 + z) ∷ []) e

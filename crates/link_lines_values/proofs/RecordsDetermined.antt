@@ -1,22 +1,27 @@
 -- The text of a record determines it.
-use Rattle.std.proofs.Common.{◌≡◌, ℕ, zero, suc, ◌+◌, ◌*◌, ◌/◌, ◌%◌, ◌≤◌, Bool, true, false, List, [], ◌∷◌, ◌++◌, length, take, drop, refl, sym, ap, ◌∙◌, arith, append_assoc}
+use Rattle.std.proofs.Common.{◌≡◌, ℕ, zero, suc, ◌+◌, ◌*◌, ◌/◌, ◌%◌, ◌^◌, ◌<◌, ◌≤◌, Bool, true, false, List, [], ◌∷◌, ◌++◌, length, take, drop, refl, sym, ap, subst, ◌∙◌, arith, append_assoc}
 use Rattle.std.proofs.lemmas.List.{append_cancel_left}
-use Rattle.std.specs.Prelude.{◌==◌, ◌&&◌, cond, flat_map, bytes_eq, max, nat_le, not}
-use Rattle.std.specs.Fmt.{decimal}
+use Rattle.std.specs.Prelude.{◌==◌, ◌||◌, bytes_eq, cond, flat_map, max, nat_le, not}
+use Rattle.std.specs.Char.{digit_value}
+use Rattle.std.specs.Fmt.{digits}
+use Rattle.std.specs.List.{AllByRecursion}
+use Rattle.std.specs.Str.Parse.{AllDigits, IsNumeral, digits_value}
+use Rattle.std.proofs.lemmas.Fmt.{digits_is_IsNumeral}
 use Rattle.std.proofs.lemmas.Bool.{and_from, and_parts, eqb-true, le-leb, not-true, true≢false}
 use Rattle.std.proofs.lemmas.Bool.Decides.{nat_tests}
 use Rattle.std.proofs.lemmas.List.{length-take, length-drop}
 use Rattle.std.proofs.lemmas.Slice.Eq.{bytes_eq-Decides}
 use Rattle.netlink_packet_core_grammar.specs.Bytes.{AreBytes}
 use Rattle.attribute_tables_grammar.specs.Shapes.{number}
-use Rattle.link_lines_values.specs.declared.fields.FieldShown.{FieldShown}
-use Rattle.link_lines_values.specs.declared.fields.FieldShown.TheVariants as S
-use Rattle.link_lines_values.specs.Bytes.{colon_byte, colons, count_without_zeros, hex_text, is_zero, padded_address}
-use Rattle.link_lines_values.specs.Digits.{big_endian, is_number}
-use Rattle.link_lines_values.specs.Laws.{AllKnown, Ends, IsKnown, RecordsAreDetermined}
-use Rattle.link_lines_values.specs.Records.{Field, field_text, field_value, fields_text, has_size, lacks, names_apart, no_equals, record_text, sizes_known, total_size}
-use Rattle.link_lines_values.proofs.BytesDetermined.{colons_are_determined}
-use Rattle.link_lines_values.proofs.NumbersDetermined.{Digits, Reads, cut, decimal_determined, four, high_glyph, highest_first, lowest_first, number_and_rest, number_determined, same_size, signed_determined, sized}
+use Rattle.link_lines_values.specs.declared.fields.FieldShownBy.TheVariants as S
+use Rattle.link_lines_values.specs.Bytes.{colon_byte, colons, count_without_zeros, escaped, hex_text, is_zero, padded_address, padded_text}
+use Rattle.link_lines_values.specs.Digits.{big_endian, is_number, signed_by}
+use Rattle.link_lines_values.specs.Names.{Text, bracketed, named_number, text_in}
+use Rattle.link_lines_values.specs.Laws.{AllKnown, Ends, FieldsAreDetermined, IsKnown, RecordsAreDetermined}
+use Rattle.link_lines_values.specs.Records.{Field, FieldShown, field_text, field_value, fields_text, half_of, has_no_booleans, has_size, has_zero_padding, is_hidden, is_no_boolean, is_padding, is_signed_size, lacks, names_apart, no_equals, record_text, sizes_known, total_size}
+use Rattle.link_lines_values.proofs.BytesDetermined.{colons_are_determined, escaped_determined}
+use Rattle.link_lines_values.proofs.GroupsDetermined.{group_determined}
+use Rattle.link_lines_values.proofs.NumbersDetermined.{Determines, Digits, Reads, bounded, bracket_ends, cut, flags_of, flags_of_determined, four, high, high_glyph, highest_first, lowest_first, named_determined, number_and_rest, number_determined, same_size, signed_at, sized, with_name}
 use Rattle.link_lines_values.proofs.ValuesDetermined.{both_parts, boolean_determined}
 use Rattle.link_lines_values.proofs.Zeros.{all_zero, zero_number}
 use Rattle.netlink_packet_core_grammar.proofs.Bytes.{AreBytes-drop, AreBytes-take}
@@ -59,48 +64,146 @@ address_determined p q s t a b l h k e =
 
 -- ---- a field
 
+zeros_same : (p q : List ℕ) → AreBytes p → AreBytes q → length p ≡ length q → is_zero p ≡ true → is_zero q ≡ true → p ≡ q
+zeros_same p q a b l h k = number_determined p q a b l (zero_number p h ∙ sym (zero_number q k))
+
 -- A number of a size that numbers have.
-number_field : (value : List ℕ → ℕ) → Reads value → (p q s t : List ℕ) → AreBytes p → AreBytes q → length p ≡ length q → is_number p ≡ true → Ends s → Ends t →
-    cond (is_number p) (decimal (value p)) (hex_text p) ++ s ≡ cond (is_number q) (decimal (value q)) (hex_text q) ++ t → (p ≡ q) × (s ≡ t)
-number_field value reads p q s t a b l h m n e =
+number_field : (value : List ℕ → ℕ) → Reads value → (text : ℕ → List ℕ) → Determines (2 ^ 64) text → (p q s t : List ℕ) → AreBytes p → AreBytes q → length p ≡ length q → is_number p ≡ true → Ends s → Ends t →
+    cond (is_number p) (text (value p)) (hex_text p) ++ s ≡ cond (is_number q) (text (value q)) (hex_text q) ++ t → (p ≡ q) × (s ≡ t)
+number_field value reads text determined p q s t a b l h m n e =
     let k = same_size p q l h in
-    number_and_rest value reads decimal decimal_determined p q s t a b (sized (length p) h) l m n (rw (h, k) at e)
+    number_and_rest value reads text determined p q s t a b (sized (length p) h) l m n (rw (h, k) at e)
+
+signed_half_by : (size : ℕ) (a b : Bool) → (size == 1) ≡ a → (size == 2) ≡ b → (a || (b || (size == 4))) ≡ true →
+    (256 ^ size ≡ cond a 128 (cond b 32768 2147483648) + cond a 128 (cond b 32768 2147483648)) × (cond a 128 (cond b 32768 2147483648) ≤ 2147483648)
+signed_half_by size true b h k l = (ap (λ n. 256 ^ n) (eqb-true size 1 h), omega arith)
+signed_half_by size false true h k l = (ap (λ n. 256 ^ n) (eqb-true size 2 k), omega arith)
+signed_half_by size false false h k l = (ap (λ n. 256 ^ n) (eqb-true size 4 l), omega arith)
+
+signed_half : (size : ℕ) → is_signed_size size ≡ true → (256 ^ size ≡ half_of size + half_of size) × (half_of size ≤ 2147483648)
+signed_half size h = signed_half_by size _ _ refl refl h
+
+-- A number with a sign, of a size that such numbers have.
+signed_field : (p q s t : List ℕ) → AreBytes p → AreBytes q → length p ≡ length q → is_signed_size (length p) ≡ true → Ends s → Ends t →
+    cond (is_signed_size (length p)) (signed_by (half_of (length p)) (number p)) (hex_text p) ++ s ≡ cond (is_signed_size (length q)) (signed_by (half_of (length q)) (number q)) (hex_text q) ++ t → (p ≡ q) × (s ≡ t)
+signed_field p q s t a b l h m n e =
+    let size = length p in
+    let both = signed_half size h in
+    let low_p : number p < half_of size + half_of size = subst (λ x. number p < x) both.0 (bounded size p a (omega arith)) in
+    let low_q : number q < half_of size + half_of size = subst (λ x. number q < x) both.0 (bounded size q b (omega (arith, l))) in
+    let r = signed_at (half_of size) (number p) (number q) _ _ refl refl both.1 s t low_p low_q m n (rw (sym l, h) at e) in
+    (number_determined p q a b l r.0, r.1)
+
+-- A set of flags of a size that numbers have.
+flags_field : (names : List Text) (p q s t : List ℕ) → AreBytes p → AreBytes q → length p ≡ length q → is_number p ≡ true → Ends s → Ends t →
+    field_value (S.Flags names) p ++ s ≡ field_value (S.Flags names) q ++ t → (p ≡ q) × (s ≡ t)
+flags_field names p q s t a b l h m n e =
+    number_field number lowest_first (flags_of (length p == 4) names) (flags_of_determined (length p == 4) names) p q s t a b l h m n
+    (e ∙ ap (λ k. cond (is_number q) (flags_of (k == 4) names (number q)) (hex_text q) ++ t) (sym l))
+
+-- A text without the NULs at its end.
+text_determined : (p q s t : List ℕ) → AreBytes p → AreBytes q → length p ≡ length q → padded_text p ++ s ≡ padded_text q ++ t → (p ≡ q) × (s ≡ t)
+text_determined p q s t a b l e =
+    let i = count_without_zeros p in
+    let j = count_without_zeros q in
+    let text = flat_map escaped (take i p) in
+    let other = flat_map escaped (take j q) in
+    let r = escaped_determined (take i p) (take j q) s t (AreBytes-take i p a) (AreBytes-take j q b) (sym (append_assoc text (34 ∷ []) s) ∙ ap (drop 1) e ∙ append_assoc other (34 ∷ []) t) in
+    (number_determined p q a b l (sym (trimmed p i (omega arith)) ∙ ap number r.0 ∙ trimmed q j (omega arith)), r.1)
+
+-- ---- a handle
+
+-- No hex digit is a colon.
+abbrev Plain : List ℕ → Type 0
+Plain s = AllByRecursion (λ c. c ≡ 58 → ⊥) s
+
+no_colon : (c : ℕ) → digit_value c < 16 → c ≡ 58 → ⊥
+no_colon c h k = let other : digit_value 58 < 16 = subst (λ x. digit_value x < 16) k h in absurd (omega (arith, other))
+
+digits_plain : (s : List ℕ) → AllDigits 16 s → Plain s
+digits_plain [] h = record {}
+digits_plain (c ∷ s) h = (no_colon c h.0, digits_plain s h.1)
+
+cut_colon : (a b s t : List ℕ) → Plain a → Plain b → a ++ 58 ∷ s ≡ b ++ 58 ∷ t → (a ≡ b) × (s ≡ t)
+cut_colon [] [] s t h k e = (refl, ap (drop 1) e)
+cut_colon [] (y ∷ b) s t h k e = let first : y ≡ 58 = cc in absurd (k.0 first)
+cut_colon (x ∷ a) [] s t h k e = let first : x ≡ 58 = cc in absurd (h.0 first)
+cut_colon (x ∷ a) (y ∷ b) s t h k e =
+    let rest = cut_colon a b s t h.1 k.1 (ap (drop 1) e) in
+    (cc, rest.1)
+
+half_read : (n : ℕ) → n < 65536 → IsNumeral 16 (digits 16 false n) × (digits_value 16 (digits 16 false n) ≡ n)
+half_read n h = digits_is_IsNumeral 16 false (omega arith) (omega arith) n (omega arith)
+
+handle_determined : Determines 4294967296 (λ n. digits 16 false (n / 65536) ++ 58 ∷ digits 16 false (n % 65536))
+handle_determined m n s t p q k l e =
+    let upper_m = half_read (m / 65536) (omega arith) in
+    let upper_n = half_read (n / 65536) (omega arith) in
+    let lower_m = half_read (m % 65536) (omega arith) in
+    let lower_n = half_read (n % 65536) (omega arith) in
+    let high_m = digits 16 false (m / 65536) in
+    let high_n = digits 16 false (n / 65536) in
+    let low_m = digits 16 false (m % 65536) in
+    let low_n = digits 16 false (n % 65536) in
+    let first = cut_colon high_m high_n (low_m ++ s) (low_n ++ t) (digits_plain high_m upper_m.0.1) (digits_plain high_n upper_n.0.1)
+    (sym (append_assoc high_m (58 ∷ low_m) s) ∙ e ∙ append_assoc high_n (58 ∷ low_n) t) in
+    let after = cut low_m low_n s t (high 16 (m % 65536)) (high 16 (n % 65536)) k l first.1 in
+    let upper : m / 65536 ≡ n / 65536 = sym upper_m.1 ∙ ap (digits_value 16) first.0 ∙ upper_n.1 in
+    let lower : m % 65536 ≡ n % 65536 = sym lower_m.1 ∙ ap (digits_value 16) after.0 ∙ lower_n.1 in
+    (omega (arith, upper, lower), after.1)
+
+handle_field : (texts : List Text) (p q s t : List ℕ) → AreBytes p → AreBytes q → length p ≡ 4 → length q ≡ 4 → Ends s → Ends t →
+    field_value (S.Handle texts) p ++ s ≡ field_value (S.Handle texts) q ++ t → (p ≡ q) × (s ≡ t)
+handle_field texts p q s t a b k o m n e =
+    let named = with_name 4294967296 (λ n. digits 16 false (n / 65536) ++ 58 ∷ digits 16 false (n % 65536)) (λ n. bracketed (text_in texts n)) handle_determined (λ n. bracket_ends (text_in texts n)) in
+    let r = named (number p) (number q) s t (four p a k) (four q b o) m n (rw (k, o) at e) in
+    (number_determined p q a b (k ∙ sym o) r.0, r.1)
 
 pub field_determined : (v : FieldShown) (p q s t : List ℕ) → AreBytes p → AreBytes q → length p ≡ length q → has_size v (length p) ≡ true → IsKnown v p → IsKnown v q → Ends s → Ends t →
     field_value v p ++ s ≡ field_value v q ++ t → (p ≡ q) × (s ≡ t)
-field_determined S.Number p q s t a b l h i j m n e = number_field number lowest_first p q s t a b l h m n e
-field_determined S.Signed p q s t a b l h i j m n e =
-    let k : length p ≡ 4 = eqb-true (length p) 4 h in
-    let o : length q ≡ 4 = sym l ∙ k in
-    let r = signed_determined (number p) (number q) s t (four p a k) (four q b o) m n (rw (k, o) at e) in
-    (number_determined p q a b l r.0, r.1)
-field_determined S.BigEndian p q s t a b l h i j m n e = number_field big_endian highest_first p q s t a b l h m n e
+field_determined (S.Number texts) p q s t a b l h i j m n e = number_field number lowest_first (named_number texts) (named_determined texts) p q s t a b l h m n e
+field_determined S.Signed p q s t a b l h i j m n e = signed_field p q s t a b l h m n e
+field_determined (S.BigEndian texts) p q s t a b l h i j m n e = number_field big_endian highest_first (named_number texts) (named_determined texts) p q s t a b l h m n e
+field_determined (S.Flags names) p q s t a b l h i j m n e = flags_field names p q s t a b l h m n e
 field_determined S.Address p q s t a b l h i j m n e = address_determined p q s t a b l m n e
 field_determined S.Boolean p q s t a b l h i j m n e = boolean_determined p q s t a b l i j e
+field_determined (S.Handle texts) p q s t a b l h i j m n e = handle_field texts p q s t a b (eqb-true (length p) 4 h) (sym l ∙ eqb-true (length p) 4 h) m n e
+field_determined S.Text p q s t a b l h i j m n e = text_determined p q s t a b l e
+field_determined (S.Group texts) p q s t a b l h i j m n e =
+    let k = eqb-true (length p) 18 h in
+    let o = sym l ∙ k in
+    group_determined texts p q s t a b k o m n (rw (k, o) at e)
+field_determined S.Padding p q s t a b l h i j m n e = (zeros_same p q a b l i j, e)
 
 -- ---- fields, one after the other
 
-ends_after : (t : Bool) (f : Field) (p r : List ℕ) → Ends r → Ends (cond t [] (field_text f p) ++ r)
-ends_after true f p r h = h
-ends_after false f p r h = omega arith
+module _ (separator : ℕ) where
+  pub ends_after : (t : Bool) (f : Field) (p r : List ℕ) → Ends r → Ends (cond t [] (field_text separator f p) ++ r)
+  ends_after true f p r h = h
+  ends_after false f p r h = omega arith
 
-fields_end : (sparse : Bool) (fs : List Field) (p : List ℕ) → Ends (fields_text sparse fs p)
-fields_end sparse [] p = record {}
-fields_end sparse (f ∷ fs) p = ends_after (sparse && is_zero (take f.1 p)) f (take f.1 p) _ (fields_end sparse fs (drop f.1 p))
+  fields_end : (sparse : Bool) (fs : List Field) (p : List ℕ) → Ends (fields_text separator sparse fs p)
+  fields_end sparse [] p = record {}
+  fields_end sparse (f ∷ fs) p = ends_after (is_hidden sparse f.2 (take f.1 p)) f (take f.1 p) _ (fields_end sparse fs (drop f.1 p))
 
-no_items : (p q : List ℕ) → length p ≡ 0 → length q ≡ 0 → p ≡ q
+  -- Two texts of one field determine its value, and what follows them.
+  shown_field : (f : Field) (p q s t : List ℕ) → AreBytes p → AreBytes q → length p ≡ length q → has_size f.2 (length p) ≡ true → IsKnown f.2 p → IsKnown f.2 q → Ends s → Ends t →
+      field_text separator f p ++ s ≡ field_text separator f q ++ t → (p ≡ q) × (s ≡ t)
+  shown_field f p q s t a b l h i j m n e =
+      let name = f.0 in
+      let x = separator ∷ field_value f.2 p in
+      let y = separator ∷ field_value f.2 q in
+      let following : x ++ s ≡ y ++ t = append_cancel_left name _ _ (sym (append_assoc name x s) ∙ ap (drop 1) e ∙ append_assoc name y t) in
+      field_determined f.2 p q s t a b l h i j m n (ap (drop 1) following)
+
+pub no_items : (p q : List ℕ) → length p ≡ 0 → length q ≡ 0 → p ≡ q
 no_items [] [] h k = refl
 no_items p q h k = absurd (omega arith)
 
--- Two texts of one field determine its value, and what follows them.
-shown_field : (f : Field) (p q s t : List ℕ) → AreBytes p → AreBytes q → length p ≡ length q → has_size f.2 (length p) ≡ true → IsKnown f.2 p → IsKnown f.2 q → Ends s → Ends t →
-    field_text f p ++ s ≡ field_text f q ++ t → (p ≡ q) × (s ≡ t)
-shown_field f p q s t a b l h i j m n e =
-    let name = f.0 in
-    let x = 61 ∷ field_value f.2 p in
-    let y = 61 ∷ field_value f.2 q in
-    let following : x ++ s ≡ y ++ t = append_cancel_left name _ _ (sym (append_assoc name x s) ∙ ap (drop 1) e ∙ append_assoc name y t) in
-    field_determined f.2 p q s t a b l h i j m n (ap (drop 1) following)
+-- A field that isn't shown is zero.
+hidden_zero : (sparse : Bool) (v : FieldShown) (p : List ℕ) → IsKnown v p → is_hidden sparse v p ≡ true → is_zero p ≡ true
+hidden_zero sparse S.Padding p i h = i
+hidden_zero sparse v p i h = (and_parts sparse (is_zero p) h).1
 
 -- ---- names before a sign of equality
 
@@ -113,34 +216,34 @@ cut_name (x ∷ a) (y ∷ b) s t h k e =
     cc
 
 -- No field that is shown has a name that isn't in the record.
-absent_by : (n : List ℕ) (f : Field) (rest r : List ℕ) (p : List ℕ) (t : Bool) → no_equals n ≡ true → no_equals f.0 ≡ true → not (bytes_eq f.0 n) ≡ true → (rest ≡ 32 ∷ (n ++ 61 ∷ r) → ⊥) →
-    cond t [] (field_text f p) ++ rest ≡ 32 ∷ (n ++ 61 ∷ r) → ⊥
+pub absent_by : (n : List ℕ) (f : Field) (rest r : List ℕ) (p : List ℕ) (t : Bool) → no_equals n ≡ true → no_equals f.0 ≡ true → (f.0 ≡ n → ⊥) → (rest ≡ 32 ∷ (n ++ 61 ∷ r) → ⊥) →
+    cond t [] (field_text 61 f p) ++ rest ≡ 32 ∷ (n ++ 61 ∷ r) → ⊥
 absent_by n f rest r p true h k m other e = other e
 absent_by n f rest r p false h k m other e =
     let name = f.0 in
     let same : name ≡ n = cut_name name n _ r k h (sym (append_assoc name (61 ∷ field_value f.2 p) rest) ∙ ap (drop 1) e) in
-    true≢false (sym ((bytes_eq-Decides name n).1 same) ∙ not-true (bytes_eq name n) m)
+    m same
 
-absent : (sparse : Bool) (n : List ℕ) (fs : List Field) (p r : List ℕ) → no_equals n ≡ true → lacks n fs ≡ true → names_apart fs ≡ true → fields_text sparse fs p ≡ 32 ∷ (n ++ 61 ∷ r) → ⊥
+absent : (sparse : Bool) (n : List ℕ) (fs : List Field) (p r : List ℕ) → no_equals n ≡ true → lacks n fs ≡ true → names_apart fs ≡ true → fields_text 61 sparse fs p ≡ 32 ∷ (n ++ 61 ∷ r) → ⊥
 absent sparse n [] p r h k m e = absurd cc
 absent sparse n (f ∷ fs) p r h k m e =
     let named = and_parts (no_equals f.0) _ m in
     let lacking = and_parts _ (lacks n fs) k in
-    absent_by n f (fields_text sparse fs (drop f.1 p)) r (take f.1 p) (sparse && is_zero (take f.1 p)) h named.0 lacking.0 (absent sparse n fs (drop f.1 p) r h lacking.1 (and_parts _ _ named.1).1) e
+    absent_by n f (fields_text 61 sparse fs (drop f.1 p)) r (take f.1 p) (is_hidden sparse f.2 (take f.1 p)) h named.0 (λ same. true≢false (sym ((bytes_eq-Decides f.0 n).1 same) ∙ not-true (bytes_eq f.0 n) lacking.0)) (absent sparse n fs (drop f.1 p) r h lacking.1 (and_parts _ _ named.1).1) e
 
 -- ---- records in which the fields that are zero may be left out
 
 -- Two texts of a field that may be left out, each with what follows it.
-sparse_field : (f : Field) (p q s t : List ℕ) (c d : Bool) → (c ≡ true → is_zero p ≡ true) → (d ≡ true → is_zero q ≡ true) → AreBytes p → AreBytes q → length p ≡ length q → has_size f.2 (length p) ≡ true → IsKnown f.2 p → IsKnown f.2 q → Ends s → Ends t →
+pub sparse_field : (f : Field) (p q s t : List ℕ) (c d : Bool) → (c ≡ true → is_zero p ≡ true) → (d ≡ true → is_zero q ≡ true) → AreBytes p → AreBytes q → length p ≡ length q → has_size f.2 (length p) ≡ true → IsKnown f.2 p → IsKnown f.2 q → Ends s → Ends t →
     ((r : List ℕ) → s ≡ 32 ∷ (f.0 ++ 61 ∷ r) → ⊥) → ((r : List ℕ) → t ≡ 32 ∷ (f.0 ++ 61 ∷ r) → ⊥) →
-    cond c [] (field_text f p) ++ s ≡ cond d [] (field_text f q) ++ t → (p ≡ q) × (s ≡ t)
-sparse_field f p q s t true true h k a b l z i j m n u v e = (number_determined p q a b l (zero_number p (h refl) ∙ sym (zero_number q (k refl))), e)
+    cond c [] (field_text 61 f p) ++ s ≡ cond d [] (field_text 61 f q) ++ t → (p ≡ q) × (s ≡ t)
+sparse_field f p q s t true true h k a b l z i j m n u v e = (zeros_same p q a b l (h refl) (k refl), e)
 sparse_field f p q s t true false h k a b l z i j m n u v e = absurd (u (field_value f.2 q ++ t) (e ∙ ap (λ x. 32 ∷ x) (append_assoc f.0 (61 ∷ field_value f.2 q) t)))
 sparse_field f p q s t false true h k a b l z i j m n u v e = absurd (v (field_value f.2 p ++ s) (sym e ∙ ap (λ x. 32 ∷ x) (append_assoc f.0 (61 ∷ field_value f.2 p) s)))
-sparse_field f p q s t false false h k a b l z i j m n u v e = shown_field f p q s t a b l z i j m n e
+sparse_field f p q s t false false h k a b l z i j m n u v e = shown_field 61 f p q s t a b l z i j m n e
 
 pub fields_determined : (sparse : Bool) (fs : List Field) (p q : List ℕ) → AreBytes p → AreBytes q → length p ≡ total_size fs → length q ≡ total_size fs → sizes_known fs ≡ true → names_apart fs ≡ true → AllKnown fs p → AllKnown fs q →
-    fields_text sparse fs p ≡ fields_text sparse fs q → p ≡ q
+    fields_text 61 sparse fs p ≡ fields_text 61 sparse fs q → p ≡ q
 fields_determined sparse [] p q a b l k z u i j e = no_items p q l k
 fields_determined sparse (f ∷ fs) p q a b l k z u i j e =
     let n = f.1 in
@@ -149,9 +252,9 @@ fields_determined sparse (f ∷ fs) p q a b l k z u i j e =
     let sizes = and_parts (has_size f.2 n) (sizes_known fs) z in
     let named = and_parts (no_equals f.0) _ u in
     let others = and_parts (lacks f.0 fs) _ named.1 in
-    let r = sparse_field f (take n p) (take n q) (fields_text sparse fs (drop n p)) (fields_text sparse fs (drop n q)) (sparse && is_zero (take n p)) (sparse && is_zero (take n q))
-    (λ y. (and_parts sparse _ y).1) (λ y. (and_parts sparse _ y).1) (AreBytes-take n p a) (AreBytes-take n q b) (prefix_p ∙ sym prefix_q)
-    (ap (has_size f.2) prefix_p ∙ sizes.0) i.0 j.0 (fields_end sparse fs _) (fields_end sparse fs _)
+    let r = sparse_field f (take n p) (take n q) (fields_text 61 sparse fs (drop n p)) (fields_text 61 sparse fs (drop n q)) (is_hidden sparse f.2 (take n p)) (is_hidden sparse f.2 (take n q))
+    (hidden_zero sparse f.2 (take n p) i.0) (hidden_zero sparse f.2 (take n q) j.0) (AreBytes-take n p a) (AreBytes-take n q b) (prefix_p ∙ sym prefix_q)
+    (ap (has_size f.2) prefix_p ∙ sizes.0) i.0 j.0 (fields_end 61 sparse fs _) (fields_end 61 sparse fs _)
     (λ r. absent sparse f.0 fs (drop n p) r named.0 others.0 others.1) (λ r. absent sparse f.0 fs (drop n q) r named.0 others.0 others.1) e in
     both_parts n p q r.0 (fields_determined sparse fs (drop n p) (drop n q) (AreBytes-drop n p a) (AreBytes-drop n q b) (omega (arith, length-drop n p)) (omega (arith, length-drop n q)) sizes.1 others.1 i.1 j.1 r.1)
 
@@ -166,3 +269,42 @@ records_determined sparse fs p q t h k l e =
     tells.0 tells.1 h.known k.known (rw (whole_p, whole_q) at e) in
     let back = number_determined (drop n p) (drop n q) (AreBytes-drop n p h.bytes) (AreBytes-drop n q k.bytes) (omega (arith, length-drop n p, length-drop n q)) (zero_number _ h.zeros ∙ sym (zero_number _ k.zeros)) in
     both_parts n p q prefix back
+
+-- ---- records of which all fields but padding are shown
+
+-- Two texts of a field, which are both left out if it is padding.
+plain_field : (separator : ℕ) (f : Field) (p q s t : List ℕ) (c : Bool) → (c ≡ true → is_zero p ≡ true) → (c ≡ true → is_zero q ≡ true) → AreBytes p → AreBytes q → length p ≡ length q → has_size f.2 (length p) ≡ true → IsKnown f.2 p → IsKnown f.2 q → Ends s → Ends t →
+    cond c [] (field_text separator f p) ++ s ≡ cond c [] (field_text separator f q) ++ t → (p ≡ q) × (s ≡ t)
+plain_field separator f p q s t true h k a b l z i j m n e = (zeros_same p q a b l (h refl) (k refl), e)
+plain_field separator f p q s t false h k a b l z i j m n e = shown_field separator f p q s t a b l z i j m n e
+
+plain_fields : (separator : ℕ) (fs : List Field) (p q : List ℕ) → AreBytes p → AreBytes q → length p ≡ total_size fs → length q ≡ total_size fs → sizes_known fs ≡ true → AllKnown fs p → AllKnown fs q →
+    fields_text separator false fs p ≡ fields_text separator false fs q → p ≡ q
+plain_fields separator [] p q a b l k z i j e = no_items p q l k
+plain_fields separator (f ∷ fs) p q a b l k z i j e =
+    let n = f.1 in
+    let prefix_p : length (take n p) ≡ n = omega (arith, length-take n p) in
+    let prefix_q : length (take n q) ≡ n = omega (arith, length-take n q) in
+    let sizes = and_parts (has_size f.2 n) (sizes_known fs) z in
+    let r = plain_field separator f (take n p) (take n q) (fields_text separator false fs (drop n p)) (fields_text separator false fs (drop n q)) (is_padding f.2 || false)
+    (hidden_zero false f.2 (take n p) i.0) (hidden_zero false f.2 (take n q) j.0) (AreBytes-take n p a) (AreBytes-take n q b) (prefix_p ∙ sym prefix_q)
+    (ap (has_size f.2) prefix_p ∙ sizes.0) i.0 j.0 (fields_end separator false fs _) (fields_end separator false fs _) e in
+    both_parts n p q r.0 (plain_fields separator fs (drop n p) (drop n q) (AreBytes-drop n p a) (AreBytes-drop n q b) (omega (arith, length-drop n p)) (omega (arith, length-drop n q)) sizes.1 i.1 j.1 r.1)
+
+known_field : (v : FieldShown) (p : List ℕ) → is_no_boolean v ≡ true → (not (is_padding v) || is_zero p) ≡ true → IsKnown v p
+known_field S.Boolean p h k = absurd cc
+known_field S.Padding p h k = k
+known_field v p h k = record {}
+
+all_known : (fs : List Field) (p : List ℕ) → has_no_booleans fs ≡ true → has_zero_padding fs p ≡ true → AllKnown fs p
+all_known [] p h k = record {}
+all_known (f ∷ fs) p h k =
+    let shown = and_parts (is_no_boolean f.2) (has_no_booleans fs) h in
+    let zero = and_parts (not (is_padding f.2) || is_zero (take f.1 p)) (has_zero_padding fs (drop f.1 p)) k in
+    (known_field f.2 (take f.1 p) shown.0 zero.0, all_known fs (drop f.1 p) shown.1 zero.1)
+
+pub plain_determined : FieldsAreDetermined
+plain_determined separator fs p q z h a b i j e =
+    let one = and_parts (length p == total_size fs) (has_zero_padding fs p) i in
+    let two = and_parts (length q == total_size fs) (has_zero_padding fs q) j in
+    plain_fields separator fs p q a b (eqb-true (length p) (total_size fs) one.0) (eqb-true (length q) (total_size fs) two.0) z (all_known fs p h one.1) (all_known fs q h two.1) e

@@ -13,11 +13,13 @@ use Rattle.std.proofs.lemmas.Bool.Decides.{nat_tests}
 use Rattle.attribute_tables_grammar.specs.Shapes.{number}
 use Rattle.link_lines_values.specs.Bytes.{address_text, is_zero, boolean_text}
 use Rattle.link_lines_values.specs.Digits.{big_endian, hex_number}
-use Rattle.link_lines_values.specs.Values.{flags_and_mask_value, optional_byte_value, port_range_value, sized_flags_value}
+use Rattle.link_lines_values.specs.Flags.{word_flags}
+use Rattle.link_lines_values.specs.Names.{Text}
+use Rattle.link_lines_values.specs.Values.{flags_and_mask_value, optional_byte_value, port_range_value}
 use Rattle.link_lines_values.specs.Laws.{AddressesAreDetermined, Ends, SettingsAreDetermined}
 use Rattle.std.specs.Fmt.{decimal}
 use Rattle.std.proofs.lemmas.List.{append_cancel_left, take-append-drop, length-take, length-drop}
-use Rattle.link_lines_values.proofs.NumbersDetermined.{Reads, Determines, decimal_determined, hex_determined, highest_first, lowest_first, number_only, number_and_rest, number_determined, sized_number}
+use Rattle.link_lines_values.proofs.NumbersDetermined.{Reads, Determines, decimal_determined, hex_determined, highest_first, lowest_first, number_only, number_and_rest, number_determined, sized_number, word_determined}
 use Rattle.link_lines_values.proofs.Zeros.{zero_by_number}
 use Rattle.netlink_packet_core_grammar.proofs.Bytes.{AreBytes-drop, AreBytes-take}
 
@@ -83,12 +85,6 @@ both_parts n p q h k = sym (take-append-drop n p) ∙ (λ t. h t ++ k t) ∙ tak
 
 -- ---- sets of flags, and two numbers
 
-sized_4 : (p q : List ℕ) → AreBytes p → AreBytes q → length p ≡ 4 → length q ≡ 4 → sized_flags_value p ≡ sized_flags_value q → p ≡ q
-sized_4 p q a b l k e = number_only number lowest_first hex_number hex_determined p q a b (omega arith) (l ∙ sym k) (rw (l, k) at e)
-
-sized_2 : (p q : List ℕ) → AreBytes p → AreBytes q → length p ≡ 2 → length q ≡ 2 → sized_flags_value p ≡ sized_flags_value q → p ≡ q
-sized_2 p q a b l k e = number_only big_endian highest_first hex_number hex_determined p q a b (omega arith) (l ∙ sym k) (rw (l, k) at e)
-
 -- The numbers of two halves, with text between them that ends the first.
 halves_determined : (value : List ℕ → ℕ) → Reads value → (text : ℕ → List ℕ) → Determines (2 ^ 64) text → (between : List ℕ) → ((s : List ℕ) → Ends (between ++ s)) →
     (n : ℕ) (p q : List ℕ) → n ≤ 8 → AreBytes p → AreBytes q → length p ≡ n + n → length q ≡ n + n →
@@ -100,8 +96,8 @@ halves_determined value reads text determined between ends n p q w a b l k e =
     (ap (λ z. 32 ∷ z) (append_cancel_left between _ _ first.1)) in
     both_parts n p q first.0 second
 
-masked : (p q : List ℕ) → AreBytes p → AreBytes q → length p ≡ 8 → length q ≡ 8 → flags_and_mask_value p ≡ flags_and_mask_value q → p ≡ q
-masked p q a b l k e = halves_determined number lowest_first hex_number hex_determined (codes " mask ") (λ s. omega arith) 4 p q (omega arith) a b l k (rw (l, k) at e)
+masked : (names : List Text) (p q : List ℕ) → AreBytes p → AreBytes q → length p ≡ 8 → length q ≡ 8 → flags_and_mask_value names p ≡ flags_and_mask_value names q → p ≡ q
+masked names p q a b l k e = halves_determined number lowest_first (word_flags names) (word_determined names) (codes " mask ") (λ s. omega arith) 4 p q (omega arith) a b l k (rw (l, k) at e)
 
 ports : (p q : List ℕ) → AreBytes p → AreBytes q → length p ≡ 4 → length q ≡ 4 → port_range_value p ≡ port_range_value q → p ≡ q
 ports p q a b l k e = halves_determined big_endian highest_first decimal decimal_determined (codes " ") (λ s. omega arith) 2 p q (omega arith) a b l k (rw (l, k) at e)
@@ -135,4 +131,4 @@ boolean : (p q : List ℕ) → AreBytes p → AreBytes q → length p ≡ length
 boolean p q a b l h k e = (boolean_determined p q [] [] a b l h k (ap (λ x. x ++ []) e)).0
 
 pub settings_determined : SettingsAreDetermined
-settings_determined = record { big = sized_number big_endian highest_first hex_number hex_determined; sized_4 = sized_4; sized_2 = sized_2; masked = masked; optional = optional; ports = ports; boolean = boolean }
+settings_determined = record { big = sized_number big_endian highest_first hex_number hex_determined; masked = masked; optional = optional; ports = ports; boolean = boolean }

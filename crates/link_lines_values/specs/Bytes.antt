@@ -53,6 +53,10 @@ escaped byte =
 abbrev pub quoted : List ℕ → List ℕ
 quoted bytes = 34 ∷ (flat_map escaped (without_nul bytes) ++ 34 ∷ [])
 
+-- A text in quotes, without the NULs at its end.
+abbrev pub padded_text : List ℕ → List ℕ
+padded_text bytes = 34 ∷ (flat_map escaped (take (count_without_zeros bytes) bytes) ++ 34 ∷ [])
+
 -- The word `on` if a byte isn't zero, else `off`.
 abbrev pub boolean_text : List ℕ → List ℕ
 boolean_text bytes = cond (is_zero bytes) (codes "off") (codes "on")

@@ -1,6 +1,6 @@
 -- Numbers as digits, and bytes as numbers.
-use Rattle.std.specs.Prelude.{ℕ, ◌-◌, ◌/◌, ◌%◌, ◌==◌, ◌||◌, Bool, false, List, [], ◌∷◌, ◌++◌, codes, cond, length}
-use Rattle.std.specs.Prelude.{nat_lt, reverse}
+use Rattle.std.specs.Prelude.{ℕ, ◌+◌, ◌-◌, ◌/◌, ◌%◌, ◌==◌, ◌||◌, Bool, false, List, [], ◌∷◌, ◌++◌, codes, cond}
+use Rattle.std.specs.Prelude.{length, nat_lt, reverse}
 use Rattle.std.specs.Fmt.{decimal, digits, digit_glyph}
 use Rattle.attribute_tables_grammar.specs.Shapes.{number}
 
@@ -8,9 +8,11 @@ use Rattle.attribute_tables_grammar.specs.Shapes.{number}
 abbrev pub big_endian : List ℕ → ℕ
 big_endian bytes = number (reverse bytes)
 
--- Whether bytes have the size of a number: 1, 2, 4 or 8.
+-- Whether bytes have the size of a number: 1, 2, 3, 4 or 8.
 abbrev pub is_number : List ℕ → Bool
-is_number bytes = (length bytes == 1) || ((length bytes == 2) || ((length bytes == 4) || (length bytes == 8)))
+is_number bytes =
+    (length bytes == 1) ||
+    ((length bytes == 2) || ((length bytes == 3) || ((length bytes == 4) || (length bytes == 8))))
 
 -- A byte as two hex digits.
 abbrev pub hex_byte : ℕ → List ℕ
@@ -24,6 +26,10 @@ hex_number n = codes "0x" ++ digits 16 false n
 abbrev pub four_digits : ℕ → List ℕ
 four_digits n = codes "0x" ++ (hex_byte (n / 256) ++ hex_byte (n % 256))
 
--- A number of 4 bytes with its sign: from 2147483648 on it is the number minus 4294967296.
+-- A number with its sign: from half on it is the number minus twice the half.
+abbrev pub signed_by : ℕ → ℕ → List ℕ
+signed_by half n = cond (nat_lt n half) (decimal n) (45 ∷ decimal (half + half - n))
+
+-- A number of 4 bytes with its sign.
 abbrev pub signed_text : ℕ → List ℕ
-signed_text n = cond (nat_lt n 2147483648) (decimal n) (45 ∷ decimal (4294967296 - n))
+signed_text n = signed_by 2147483648 n

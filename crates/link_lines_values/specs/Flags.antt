@@ -1,5 +1,7 @@
 -- Sets of flags, and the names of their bits.
 use Rattle.std.specs.Prelude.{ℕ, ◌-◌, ◌==◌, bit_and, Bool, true, false, List, [], ◌∷◌, ◌++◌, codes, cond}
+use Rattle.std.specs.Prelude.{length}
+use Rattle.attribute_tables_grammar.specs.Shapes.{number}
 use Rattle.link_lines_values.specs.Digits.{hex_number}
 use Rattle.link_lines_values.specs.Names.{Text}
 
@@ -39,3 +41,12 @@ listed names rest = cond (has_none names) [] (opened names ++ (nameless_text res
 -- Flags as in `0x1003 (Up | Broadcast | Multicast)`.
 abbrev pub named_flags : List Text → ℕ → List ℕ
 named_flags names n = hex_number n ++ listed (names_set names n) (nameless names n)
+
+-- Flags of 4 bytes: as others, or as `0xffffffff (all)` if all bits are set.
+abbrev pub word_flags : List Text → ℕ → List ℕ
+word_flags names n =
+    hex_number n ++ cond (n == 4294967295) (codes " (all)") (listed (names_set names n) (nameless names n))
+
+-- The little-endian flags of some bytes, with the names of their bits.
+abbrev pub flags_text : List Text → List ℕ → List ℕ
+flags_text names p = cond (length p == 4) (word_flags names (number p)) (named_flags names (number p))

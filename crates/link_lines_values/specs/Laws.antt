@@ -1,20 +1,23 @@
 -- What a text determines of the bytes that it shows, which the functions of `laws` have as contracts.
-use Rattle.std.specs.Prelude.{◌≡◌, ℕ, ◌^◌, ◌<◌, ◌≤◌, Bool, true, List, [], ◌∷◌, ◌++◌, ⊤, codes, length, take, drop}
+use Rattle.std.specs.Prelude.{◌≡◌, ℕ, ◌^◌, ◌<◌, ◌≤◌, Bool, true, false, List, [], ◌∷◌, ◌++◌, ⊤, codes}
+use Rattle.std.specs.Prelude.{length, take, drop}
 use Rattle.std.specs.Fmt.{decimal}
 use Rattle.std.specs.List.{AllByRecursion}
 use Rattle.attribute_tables_grammar.specs.Shapes.{number}
 use Rattle.netlink_packet_core_grammar.specs.Bytes.{AreBytes}
 use Rattle.netlink_packet_core_grammar.specs.Texts.{without_nul}
-use Rattle.link_lines_values.specs.declared.fields.FieldShown.{FieldShown}
-use Rattle.link_lines_values.specs.declared.fields.FieldShown.TheVariants as S
+use Rattle.link_lines_values.specs.declared.fields.FieldShownBy.TheVariants as S
 use Rattle.link_lines_values.specs.Bytes.{address_text, bytes_text, hardware_text, is_zero, quoted, boolean_text}
 use Rattle.link_lines_values.specs.Digits.{hex_number, is_number}
 use Rattle.link_lines_values.specs.Names.{Text}
-use Rattle.link_lines_values.specs.Records.{Field, fields_determine, record_text, total_size}
-use Rattle.link_lines_values.specs.Values.{Shown, is_shown_on_a_line, determines_sized, value_text, number_value}
+use Rattle.link_lines_values.specs.Records.{Field, FieldShown, counters_determine, counters_text, fields_determine}
+use Rattle.link_lines_values.specs.Records.{fields_text, has_no_booleans, is_counters, is_record, record_text}
+use Rattle.link_lines_values.specs.Records.{nonzero_text, sizes_known, total_size}
+use Rattle.link_lines_values.specs.Values.{Shown, are_fields_on_a_line, is_shown_on_a_line, determines_sized}
+use Rattle.link_lines_values.specs.Values.{value_text, number_value}
 use Rattle.link_lines_values.specs.Values.{big_endian_value, signed_value, flags_value, named_flags_value}
 use Rattle.link_lines_values.specs.Values.{big_endian_flags_value, flags_and_mask_value, optional_byte_value}
-use Rattle.link_lines_values.specs.Values.{port_range_value, sized_flags_value}
+use Rattle.link_lines_values.specs.Values.{port_range_value}
 
 -- A text is empty, or begins with a byte below the digits: a space, a bracket, a newline.
 abbrev pub Ends : List ℕ → Type 0
@@ -55,8 +58,8 @@ pub record NumbersAreDetermined : Type 0 where
       number_value texts p ≡ number_value texts q → p ≡ q
   pub big : (texts : List Text) (p q : List ℕ) → AreBytes p → AreBytes q → length p ≡ length q → is_number p ≡ true →
       big_endian_value texts p ≡ big_endian_value texts q → p ≡ q
-  pub signed : (p q : List ℕ) → AreBytes p → AreBytes q → length p ≡ 4 → length q ≡ 4 →
-      signed_value p ≡ signed_value q → p ≡ q
+  pub signed : (texts : List Text) (p q : List ℕ) → AreBytes p → AreBytes q → length p ≡ 4 → length q ≡ 4 →
+      signed_value texts p ≡ signed_value texts q → p ≡ q
   pub flags : (p q : List ℕ) → AreBytes p → AreBytes q → length p ≡ length q → is_number p ≡ true →
       flags_value p ≡ flags_value q → p ≡ q
   pub named_flags : (names : List Text) (p q : List ℕ) → AreBytes p → AreBytes q → length p ≡ length q →
@@ -73,12 +76,8 @@ pub record AddressesAreDetermined : Type 0 where
 pub record SettingsAreDetermined : Type 0 where
   pub big : (p q : List ℕ) → AreBytes p → AreBytes q → length p ≡ length q → is_number p ≡ true →
       big_endian_flags_value p ≡ big_endian_flags_value q → p ≡ q
-  pub sized_4 : (p q : List ℕ) → AreBytes p → AreBytes q → length p ≡ 4 → length q ≡ 4 →
-      sized_flags_value p ≡ sized_flags_value q → p ≡ q
-  pub sized_2 : (p q : List ℕ) → AreBytes p → AreBytes q → length p ≡ 2 → length q ≡ 2 →
-      sized_flags_value p ≡ sized_flags_value q → p ≡ q
-  pub masked : (p q : List ℕ) → AreBytes p → AreBytes q → length p ≡ 8 → length q ≡ 8 →
-      flags_and_mask_value p ≡ flags_and_mask_value q → p ≡ q
+  pub masked : (names : List Text) (p q : List ℕ) → AreBytes p → AreBytes q → length p ≡ 8 → length q ≡ 8 →
+      flags_and_mask_value names p ≡ flags_and_mask_value names q → p ≡ q
   pub optional : (p q : List ℕ) → AreBytes p → AreBytes q → length p ≤ 1 → length q ≤ 1 →
       optional_byte_value p ≡ optional_byte_value q → p ≡ q
   pub ports : (p q : List ℕ) → AreBytes p → AreBytes q → length p ≡ 4 → length q ≡ 4 →
@@ -91,17 +90,18 @@ abbrev pub AddressSizesAreDetermined : Type 0
 AddressSizesAreDetermined = (p q : List ℕ) → AreBytes p → AreBytes q → length p ≡ 4 → length q ≡ 16 →
     address_text p ≡ address_text q → ⊥
 
--- A field that is shown as a boolean is 0 or 1.
+-- A field that is shown as a boolean is 0 or 1, and padding is zero.
 abbrev pub IsKnown : FieldShown → List ℕ → Type 0
 IsKnown S.Boolean p = number p ≤ 1
+IsKnown S.Padding p = is_zero p ≡ true
 IsKnown v p = ⊤
 
--- Every field that is shown as a boolean is 0 or 1.
+-- Every field that is shown as a boolean is 0 or 1, and padding is zero.
 abbrev pub AllKnown : List Field → List ℕ → Type 0
 AllKnown [] p = ⊤
 AllKnown (f ∷ fs) p = IsKnown f.2 (take f.1 p) × AllKnown fs (drop f.1 p)
 
--- The bytes hold the fields of the record, each boolean among them 0 or 1, followed by zeros only.
+-- The bytes hold the fields of the record, each boolean among them 0 or 1 and padding zero, followed by zeros only.
 pub record HoldsFields (fs : List Field) (p : List ℕ) : Type 0 where
   pub bytes : AreBytes p
   pub whole : total_size fs ≤ length p
@@ -113,6 +113,38 @@ abbrev pub RecordsAreDetermined : Type 0
 RecordsAreDetermined = (sparse : Bool) (fs : List Field) (p q : List ℕ) → fields_determine fs ≡ true →
     HoldsFields fs p → HoldsFields fs q → length p ≡ length q → record_text sparse fs p ≡ record_text sparse fs q →
     p ≡ q
+
+-- The fields that are shown determine a record without booleans, whatever separates names from values.
+abbrev pub FieldsAreDetermined : Type 0
+FieldsAreDetermined = (separator : ℕ) (fs : List Field) (p q : List ℕ) → sizes_known fs ≡ true →
+    has_no_booleans fs ≡ true → AreBytes p → AreBytes q → is_record fs p ≡ true → is_record fs q ≡ true →
+    fields_text separator false fs p ≡ fields_text separator false fs q → p ≡ q
+
+-- The text of counters, of fewer than 2 ^ 64 bytes, determines them.
+abbrev pub CountersAreDetermined : Type 0
+CountersAreDetermined = (fs : List Field) (p q : List ℕ) → counters_determine fs ≡ true → AreBytes p → AreBytes q →
+    length p < 2 ^ 64 → length q < 2 ^ 64 → is_counters fs p ≡ true → is_counters fs q ≡ true →
+    counters_text fs p ≡ counters_text fs q → p ≡ q
+
+-- The counters that aren't zero determine all counters among those of one size, of fewer than 2 ^ 64 bytes.
+abbrev pub NonzeroCountersAreDetermined : Type 0
+NonzeroCountersAreDetermined = (fs : List Field) (p q : List ℕ) → counters_determine fs ≡ true → AreBytes p →
+    AreBytes q → length p < 2 ^ 64 → length p ≡ length q → is_counters fs p ≡ true →
+    nonzero_text fs p ≡ nonzero_text fs q → p ≡ q
+
+-- The text of counters is on one line if the names that it may show are, and is empty or begins with a space.
+pub record CountersAreOnALine : Type 0 where
+  pub line : (fs : List Field) (p : List ℕ) → are_fields_on_a_line fs ≡ true → IsLine (counters_text fs p)
+  pub space : (fs : List Field) (p : List ℕ) → BeginsWithSpace (counters_text fs p)
+  pub nonzero_line : (fs : List Field) (p : List ℕ) → are_fields_on_a_line fs ≡ true → IsLine (nonzero_text fs p)
+  pub nonzero_space : (fs : List Field) (p : List ℕ) → BeginsWithSpace (nonzero_text fs p)
+
+-- The text of fields is on one line if the names that it may show are, and is empty or begins with a space.
+pub record FieldsAreOnALine : Type 0 where
+  pub line : (separator : ℕ) (sparse : Bool) (fs : List Field) (p : List ℕ) → 32 ≤ separator →
+      are_fields_on_a_line fs ≡ true → IsLine (fields_text separator sparse fs p)
+  pub space : (separator : ℕ) (sparse : Bool) (fs : List Field) (p : List ℕ) →
+      BeginsWithSpace (fields_text separator sparse fs p)
 
 -- The text of a payload of n bytes determines it if its format knows n; and no such text begins as that of bytes after
 -- the word `bytes` does.

@@ -4,6 +4,8 @@ pub mod Names
 pub mod Flags
 pub mod Records
 pub mod Values
+pub mod Exact
 pub mod Laws
+pub mod ExactLaws
 pub mod Indents
 pub mod DenseRows

@@ -1,32 +1,32 @@
 -- Payloads of attributes as text, with the space before it if there is any.
-use Rattle.std.specs.Prelude.{ℕ, ◌==◌, nat_le, Bool, true, false, List, [], ◌∷◌, ◌++◌, Option, None, Some, codes, cond}
-use Rattle.std.specs.Prelude.{length, take, drop}
+use Rattle.std.specs.Prelude.{ℕ, ◌==◌, ◌&&◌, ◌||◌, nat_le, Bool, true, false, List, [], ◌∷◌, ◌++◌, codes, cond, length}
+use Rattle.std.specs.Prelude.{take, drop}
 use Rattle.std.specs.Fmt.{decimal}
 use Rattle.std.specs.List.{list_all}
 use Rattle.attribute_tables_grammar.specs.Shapes.{number}
 use Rattle.link_lines_values.specs.declared.fields.FieldOf.{FieldOf}
+use Rattle.link_lines_values.specs.declared.fields.FieldShownBy.TheVariants as F
 use Rattle.link_lines_values.specs.declared.values.ShownBy.{ShownBy}
 use Rattle.link_lines_values.specs.declared.values.ShownBy.TheVariants as S
-use Rattle.link_lines_values.specs.Digits.{big_endian, is_number, hex_number, signed_text}
+use Rattle.link_lines_values.specs.Digits.{big_endian, is_number, hex_number}
 use Rattle.link_lines_values.specs.Bytes.{address_text, bytes_text, hardware_text, quoted, boolean_text}
-use Rattle.link_lines_values.specs.Flags.{named_flags}
-use Rattle.link_lines_values.specs.Names.{Text, named_number, texts_of}
-use Rattle.link_lines_values.specs.Records.{Field, fields_of, is_size, record_text}
+use Rattle.link_lines_values.specs.Flags.{flags_text, word_flags}
+use Rattle.link_lines_values.specs.Names.{Text, named_number, named_signed, texts_of}
+use Rattle.link_lines_values.specs.Records.{Field, FieldShown, fields_of, is_size, record_text}
 
 -- How a payload is shown: numbers with their names, flags with the names of their bits, records with their fields.
 abbrev pub Shown : Type 0
 Shown = ShownBy (List Text) (List Field)
 
 -- The format that a value in code represents.
-abbrev pub format_of : {N T R : Type 0} → (N → List ℕ) → (T → List (ℕ × N)) → (R → List (FieldOf N)) → ShownBy T R →
-    Shown
+abbrev pub format_of : {N T R : Type 0} → (N → List ℕ) → (T → List (ℕ × N)) → (R → List (FieldOf N T)) →
+    ShownBy T R → Shown
 format_of f g h (S.Number texts) = S.Number (texts_of f (g texts))
 format_of f g h (S.BigEndian texts) = S.BigEndian (texts_of f (g texts))
-format_of f g h S.Signed = S.Signed
+format_of f g h (S.Signed texts) = S.Signed (texts_of f (g texts))
 format_of f g h S.Flags = S.Flags
 format_of f g h (S.NamedFlags names) = S.NamedFlags (texts_of f (g names))
 format_of f g h S.BigEndianFlags = S.BigEndianFlags
-format_of f g h S.FlagsBySize = S.FlagsBySize
 format_of f g h S.Boolean = S.Boolean
 format_of f g h S.Presence = S.Presence
 format_of f g h S.OptionalByte = S.OptionalByte
@@ -35,44 +35,33 @@ format_of f g h S.Bytes = S.Bytes
 format_of f g h S.HardwareAddress = S.HardwareAddress
 format_of f g h S.Address = S.Address
 format_of f g h S.PortRange = S.PortRange
-format_of f g h S.FlagsAndMask = S.FlagsAndMask
-format_of f g h (S.Record fields) = S.Record (fields_of f (h fields))
-format_of f g h (S.SparseRecord fields) = S.SparseRecord (fields_of f (h fields))
+format_of f g h (S.FlagsAndMask names) = S.FlagsAndMask (texts_of f (g names))
+format_of f g h (S.Record fields) = S.Record (fields_of f g (h fields))
+format_of f g h (S.SparseRecord fields) = S.SparseRecord (fields_of f g (h fields))
 
--- A little-endian number of 1, 2, 4 or 8 bytes with its name; other sizes as bytes.
+-- A little-endian number of 1, 2, 3, 4 or 8 bytes with its name; other sizes as bytes.
 abbrev pub number_value : List Text → List ℕ → List ℕ
 number_value texts p = cond (is_number p) (32 ∷ named_number texts (number p)) (bytes_text p)
 
--- A big-endian number of 1, 2, 4 or 8 bytes with its name; other sizes as bytes.
+-- A big-endian number of 1, 2, 3, 4 or 8 bytes with its name; other sizes as bytes.
 abbrev pub big_endian_value : List Text → List ℕ → List ℕ
 big_endian_value texts p = cond (is_number p) (32 ∷ named_number texts (big_endian p)) (bytes_text p)
 
--- A signed number of 4 bytes; other sizes as bytes.
-abbrev pub signed_value : List ℕ → List ℕ
-signed_value p = cond (length p == 4) (32 ∷ signed_text (number p)) (bytes_text p)
+-- A signed number of 4 bytes with its name; other sizes as bytes.
+abbrev pub signed_value : List Text → List ℕ → List ℕ
+signed_value texts p = cond (length p == 4) (32 ∷ named_signed texts (number p)) (bytes_text p)
 
--- A space and flags in hex; bytes if there are no flags.
-abbrev pub hex_or_bytes : Option ℕ → List ℕ → List ℕ
-hex_or_bytes (Some n) p = 32 ∷ hex_number n
-hex_or_bytes None p = bytes_text p
-
--- A set of little-endian flags of 1, 2, 4 or 8 bytes, without names.
-abbrev pub flags_value : List ℕ → List ℕ
-flags_value p = cond (is_number p) (32 ∷ hex_number (number p)) (bytes_text p)
-
--- A set of little-endian flags with the names of their bits.
+-- A set of little-endian flags of 1, 2, 3, 4 or 8 bytes with the names of their bits; other sizes as bytes.
 abbrev pub named_flags_value : List Text → List ℕ → List ℕ
-named_flags_value names p = cond (is_number p) (32 ∷ named_flags names (number p)) (bytes_text p)
+named_flags_value names p = cond (is_number p) (32 ∷ flags_text names p) (bytes_text p)
 
--- A set of big-endian flags of 1, 2, 4 or 8 bytes, without names.
+-- A set of little-endian flags of 1, 2, 3, 4 or 8 bytes, without names.
+abbrev pub flags_value : List ℕ → List ℕ
+flags_value p = named_flags_value [] p
+
+-- A set of big-endian flags of 1, 2, 3, 4 or 8 bytes, without names.
 abbrev pub big_endian_flags_value : List ℕ → List ℕ
 big_endian_flags_value p = cond (is_number p) (32 ∷ hex_number (big_endian p)) (bytes_text p)
-
--- A set of flags whose byte order depends on its size: little-endian in 4 bytes, big-endian in 2.
-abbrev pub sized_flags_value : List ℕ → List ℕ
-sized_flags_value p =
-    cond (length p == 4) (32 ∷ hex_number (number p))
-    (cond (length p == 2) (32 ∷ hex_number (big_endian p)) (bytes_text p))
 
 -- A byte in decimal, or nothing.
 abbrev pub optional_byte_value : List ℕ → List ℕ
@@ -85,21 +74,20 @@ abbrev pub port_range_value : List ℕ → List ℕ
 port_range_value p =
     cond (length p == 4) (32 ∷ (decimal (big_endian (take 2 p)) ++ 32 ∷ decimal (big_endian (drop 2 p)))) (bytes_text p)
 
--- Flags of 4 bytes and a mask of 4 bytes, as in `0x1 mask 0x1`.
-abbrev pub flags_and_mask_value : List ℕ → List ℕ
-flags_and_mask_value p =
+-- Flags of 4 bytes and a mask of 4 bytes with the names of their bits, as in `0x1 (REORDER_HDR) mask 0x3`.
+abbrev pub flags_and_mask_value : List Text → List ℕ → List ℕ
+flags_and_mask_value names p =
     cond (length p == 8) (32 ∷
-    (hex_number (number (take 4 p)) ++ (codes " mask " ++ hex_number (number (drop 4 p))))) (bytes_text p)
+    (word_flags names (number (take 4 p)) ++ (codes " mask " ++ word_flags names (number (drop 4 p))))) (bytes_text p)
 
 -- A payload as text, by its format.
 abbrev pub value_text : Shown → List ℕ → List ℕ
 value_text (S.Number texts) p = number_value texts p
 value_text (S.BigEndian texts) p = big_endian_value texts p
-value_text S.Signed p = signed_value p
+value_text (S.Signed texts) p = signed_value texts p
 value_text S.Flags p = flags_value p
 value_text (S.NamedFlags names) p = named_flags_value names p
 value_text S.BigEndianFlags p = big_endian_flags_value p
-value_text S.FlagsBySize p = sized_flags_value p
 value_text S.Boolean p = 32 ∷ boolean_text p
 value_text S.Presence p = []
 value_text S.OptionalByte p = optional_byte_value p
@@ -108,7 +96,7 @@ value_text S.Bytes p = bytes_text p
 value_text S.HardwareAddress p = hardware_text p
 value_text S.Address p = address_text p
 value_text S.PortRange p = port_range_value p
-value_text S.FlagsAndMask p = flags_and_mask_value p
+value_text (S.FlagsAndMask names) p = flags_and_mask_value names p
 value_text (S.Record fields) p = record_text false fields p
 value_text (S.SparseRecord fields) p = record_text true fields p
 
@@ -118,13 +106,28 @@ value_text (S.SparseRecord fields) p = record_text true fields p
 abbrev pub is_line : List ℕ → Bool
 is_line s = list_all (nat_le 32) s
 
+-- Whether all names that a field may show beside its value are on one line.
+abbrev pub is_field_on_a_line : FieldShown → Bool
+is_field_on_a_line (F.Number texts) = list_all (λ t. is_line t.1) texts
+is_field_on_a_line (F.BigEndian texts) = list_all (λ t. is_line t.1) texts
+is_field_on_a_line (F.Flags names) = list_all (λ t. is_line t.1) names
+is_field_on_a_line (F.Handle texts) = list_all (λ t. is_line t.1) texts
+is_field_on_a_line (F.Group texts) = list_all (λ t. is_line t.1) texts
+is_field_on_a_line shown = true
+
+-- Whether all names that fields may show are on one line, those of the fields too.
+abbrev pub are_fields_on_a_line : List Field → Bool
+are_fields_on_a_line fs = list_all (λ f. is_line f.0 && is_field_on_a_line f.2) fs
+
 -- Whether all names that a format may show are on one line.
 abbrev pub is_shown_on_a_line : Shown → Bool
 is_shown_on_a_line (S.Number texts) = list_all (λ t. is_line t.1) texts
 is_shown_on_a_line (S.BigEndian texts) = list_all (λ t. is_line t.1) texts
+is_shown_on_a_line (S.Signed texts) = list_all (λ t. is_line t.1) texts
 is_shown_on_a_line (S.NamedFlags names) = list_all (λ t. is_line t.1) names
-is_shown_on_a_line (S.Record fields) = list_all (λ f. is_line f.0) fields
-is_shown_on_a_line (S.SparseRecord fields) = list_all (λ f. is_line f.0) fields
+is_shown_on_a_line (S.FlagsAndMask names) = list_all (λ t. is_line t.1) names
+is_shown_on_a_line (S.Record fields) = are_fields_on_a_line fields
+is_shown_on_a_line (S.SparseRecord fields) = are_fields_on_a_line fields
 is_shown_on_a_line shown = true
 
 -- ---- whether a value determines payloads of one size
@@ -133,9 +136,13 @@ is_shown_on_a_line shown = true
 abbrev pub determines_sized : ℕ → Shown → Bool
 determines_sized n (S.Number texts) = is_size n
 determines_sized n (S.BigEndian texts) = is_size n
-determines_sized n S.Signed = n == 4
+determines_sized n (S.Signed texts) = n == 4
 determines_sized n S.Flags = is_size n
+determines_sized n (S.NamedFlags names) = is_size n
+determines_sized n S.BigEndianFlags = is_size n
 determines_sized n S.Presence = n == 0
 determines_sized n S.HardwareAddress = true
-determines_sized n S.FlagsAndMask = n == 8
+determines_sized n S.Address = (n == 4) || (n == 16)
+determines_sized n S.PortRange = n == 4
+determines_sized n (S.FlagsAndMask names) = n == 8
 determines_sized n shown = false

@@ -2,7 +2,7 @@
 
 ghost use Rattle.std.specs.Prelude.{◌≡◌, ◌++◌, ◌∷◌, [], flat_map, OnOk};
 ghost use Rattle.link_lines_values.specs.Bytes.{hex_text, bytes_text, colon_byte, colons, hardware_text, is_zero};
-ghost use Rattle.link_lines_values.specs.Bytes.{count_without_zeros, padded_address, escaped, quoted, boolean_text};
+ghost use Rattle.link_lines_values.specs.Bytes.{count_without_zeros, padded_address, padded_text, escaped, quoted, boolean_text};
 
 use crate::digits::hex_byte;
 use netlink_packet_core_numbers::without_nul;
@@ -67,7 +67,7 @@ pub(crate) fn push_hardware_address(bytes: &[u8], out: &mut Vec<u8>) -> Result<(
 }
 
 /// Returns whether all bytes are zero.
-pub(crate) fn is_zero(bytes: &[u8]) -> bool
+pub fn is_zero(bytes: &[u8]) -> bool
     ensures { result ≡ is_zero bytes.now }
 {
     for byte in bytes {
@@ -130,6 +130,16 @@ pub(crate) fn push_text(bytes: &[u8], out: &mut Vec<u8>) -> Result<(), AllocErro
 {
     out.extend_from_slice(b" \"")?;
     push_escaped_text(without_nul(bytes), out)?;
+    out.extend_from_slice(b"\"")
+}
+
+/// Appends a text in quotes, without the NULs at its end.
+pub(crate) fn push_padded_text(bytes: &[u8], out: &mut Vec<u8>) -> Result<(), AllocError>
+    ensures ok { OnOk result (out.new.items ≡ out.old.items ++ padded_text bytes.now) }
+{
+    let count = count_without_zeros(bytes).min(bytes.len());
+    out.extend_from_slice(b"\"")?;
+    push_escaped_text(&bytes[..count], out)?;
     out.extend_from_slice(b"\"")
 }
 

@@ -3,12 +3,13 @@
 ghost use Rattle.std.specs.Prelude.{◌≡◌, ◌≤◌, ◌<◌, ◌==◌, ◌++◌, false, Some, None, cond, length, drop, OnOk};
 ghost use Rattle.std.specs.Fmt.{decimal, digits, digit_glyph};
 ghost use Rattle.attribute_tables_grammar.specs.Shapes.{number};
-ghost use Rattle.link_lines_values.specs.Digits.{big_endian, is_number, hex_byte, hex_number, four_digits, signed_text};
+ghost use Rattle.link_lines_values.specs.Digits.{big_endian, is_number, hex_byte, hex_number, four_digits};
+ghost use Rattle.link_lines_values.specs.Digits.{signed_by, signed_text};
 
 use itoa::Buffer;
 use std::alloc::AllocError;
 
-/// Returns the little-endian number of 1, 2, 4 or 8 bytes; None for any other size.
+/// Returns the little-endian number of 1, 2, 3, 4 or 8 bytes; None for any other size.
 #[tactic(auto, using(crate::proofs::Readings::low_first))]
 pub(crate) fn little_endian(bytes: &[u8]) -> Option<u64>
     ensures { result ≡ cond (is_number bytes.now) (Some (number bytes.now)) None }
@@ -16,13 +17,14 @@ pub(crate) fn little_endian(bytes: &[u8]) -> Option<u64>
     match bytes {
         [a] => Some(u64::from(*a)),
         [a, b] => Some(u64::from(u16::from_le_bytes([*a, *b]))),
+        [a, b, c] => Some(u64::from(u32::from_le_bytes([*a, *b, *c, 0]))),
         [a, b, c, d] => Some(u64::from(u32::from_le_bytes([*a, *b, *c, *d]))),
         [a, b, c, d, e, f, g, h] => Some(u64::from_le_bytes([*a, *b, *c, *d, *e, *f, *g, *h])),
         _ => None,
     }
 }
 
-/// Returns the big-endian number of 1, 2, 4 or 8 bytes; None for any other size.
+/// Returns the big-endian number of 1, 2, 3, 4 or 8 bytes; None for any other size.
 #[tactic(auto, using(crate::proofs::Readings::high_first))]
 pub(crate) fn big_endian(bytes: &[u8]) -> Option<u64>
     ensures { result ≡ cond (is_number bytes.now) (Some (big_endian bytes.now)) None }
@@ -30,6 +32,7 @@ pub(crate) fn big_endian(bytes: &[u8]) -> Option<u64>
     match bytes {
         [a] => Some(u64::from(*a)),
         [a, b] => Some(u64::from(u16::from_be_bytes([*a, *b]))),
+        [a, b, c] => Some(u64::from(u32::from_be_bytes([0, *a, *b, *c]))),
         [a, b, c, d] => Some(u64::from(u32::from_be_bytes([*a, *b, *c, *d]))),
         [a, b, c, d, e, f, g, h] => Some(u64::from_be_bytes([*a, *b, *c, *d, *e, *f, *g, *h])),
         _ => None,
@@ -52,15 +55,23 @@ pub fn push_decimal(number: u64, out: &mut Vec<u8>) -> Result<(), AllocError>
     out.extend_from_slice(buffer.format(number).as_bytes())
 }
 
+/// Appends a number with its sign: from `half` on it is the number minus twice that.
+pub(crate) fn push_signed_by(half: u64, number: u64, out: &mut Vec<u8>) -> Result<(), AllocError>
+    requires { half ≤ 2147483648 }
+    ensures ok { OnOk result (out.new.items ≡ out.old.items ++ signed_by half number) }
+{
+    if number < half {
+        return push_decimal(number, out);
+    }
+    out.extend_from_slice(b"-")?;
+    push_decimal((half + half).saturating_sub(number), out)
+}
+
 /// Appends a number of 4 bytes as a signed one, in decimal.
 pub(crate) fn push_signed(number: u64, out: &mut Vec<u8>) -> Result<(), AllocError>
     ensures ok { OnOk result (out.new.items ≡ out.old.items ++ signed_text number) }
 {
-    if number < 0x8000_0000 {
-        return push_decimal(number, out);
-    }
-    out.extend_from_slice(b"-")?;
-    push_decimal(0x1_0000_0000u64.saturating_sub(number), out)
+    push_signed_by(0x8000_0000, number, out)
 }
 
 // Returns a hex digit in lower case.
@@ -107,6 +118,15 @@ pub(crate) fn push_hex(number: u64, out: &mut Vec<u8>) -> Result<(), AllocError>
     let mut digits = [0u8; 64];
     let start = write_hex(number, &mut digits);
     out.extend_from_slice(b"0x")?;
+    out.extend_from_slice(&digits[start..])
+}
+
+/// Appends a number in hex, without leading zeros.
+pub(crate) fn push_hex_digits(number: u64, out: &mut Vec<u8>) -> Result<(), AllocError>
+    ensures ok { OnOk result (out.new.items ≡ out.old.items ++ digits 16 false number) }
+{
+    let mut digits = [0u8; 64];
+    let start = write_hex(number, &mut digits);
     out.extend_from_slice(&digits[start..])
 }
 

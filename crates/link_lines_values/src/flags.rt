@@ -2,7 +2,9 @@
 
 ghost use Rattle.std.specs.Prelude.{◌≡◌, ◌++◌, not, IfOk, OnOk};
 ghost use Rattle.link_lines_values.specs.Names.{texts_of};
-ghost use Rattle.link_lines_values.specs.Flags.{has_none, opened, named_flags, nameless, nameless_text, names_set};
+ghost use Rattle.link_lines_values.specs.Flags.{has_none, listed, opened, named_flags, nameless, nameless_text, names_set};
+ghost use Rattle.link_lines_values.specs.Flags.{flags_text, word_flags};
+ghost use Rattle.attribute_tables_grammar.specs.Shapes.{number};
 
 use crate::digits::push_hex;
 use std::alloc::AllocError;
@@ -127,6 +129,20 @@ fn push_nameless(rest: u64, out: &mut Vec<u8>) -> Result<(), AllocError>
     push_hex(rest, out)
 }
 
+// Appends in brackets the names of the bits that are set and, last, the bits without a name;
+// nothing if no bit has a name.
+fn push_listed(names: &[FlagName], number: u64, out: &mut Vec<u8>) -> Result<(), AllocError>
+    ensures ok { OnOk result (out.new.items
+        ≡ out.old.items ++ listed (names_set (texts_of (λ b. b.now) names.now) number)
+        (nameless (texts_of (λ b. b.now) names.now) number)) }
+{
+    if push_names(names, number, out)? {
+        push_nameless(nameless(names, number), out)?;
+        out.extend_from_slice(b")")?;
+    }
+    Ok(())
+}
+
 /// Appends flags in hex, followed in brackets by the names of their bits and, last, the bits
 /// without a name; no brackets if no bit has a name.
 ///
@@ -138,9 +154,40 @@ pub fn push_flags(names: &[FlagName], number: u64, out: &mut Vec<u8>) -> Result<
         ≡ out.old.items ++ named_flags (texts_of (λ b. b.now) names.now) number) }
 {
     push_hex(number, out)?;
-    if push_names(names, number, out)? {
-        push_nameless(nameless(names, number), out)?;
-        out.extend_from_slice(b")")?;
+    push_listed(names, number, out)
+}
+
+/// Appends flags of 4 bytes as `push_flags` does, or as `0xffffffff (all)` if all bits are set.
+///
+/// # Errors
+///
+/// `AllocError` if `out` can't grow; it may then have a part of the text.
+pub fn push_word_flags(names: &[FlagName], number: u32, out: &mut Vec<u8>) -> Result<(), AllocError>
+    ensures ok { OnOk result (out.new.items
+        ≡ out.old.items ++ word_flags (texts_of (λ b. b.now) names.now) number) }
+{
+    push_hex(u64::from(number), out)?;
+    if number == u32::MAX {
+        return out.extend_from_slice(b" (all)");
     }
-    Ok(())
+    push_listed(names, u64::from(number), out)
+}
+
+/// Appends the little-endian flags of some bytes, given as a number too: with the names of their
+/// bits, or as `0xffffffff (all)` if there are 4 bytes and all their bits are set.
+#[tactic(auto, using(crate::proofs::Readings::low_first))]
+pub(crate) fn push_flags_of(
+    names: &[FlagName],
+    flags: u64,
+    bytes: &[u8],
+    out: &mut Vec<u8>,
+) -> Result<(), AllocError>
+    requires { flags ≡ number bytes.now }
+    ensures ok { OnOk result (out.new.items
+        ≡ out.old.items ++ flags_text (texts_of (λ b. b.now) names.now) bytes.now) }
+{
+    match bytes {
+        [a, b, c, d] => push_word_flags(names, u32::from_le_bytes([*a, *b, *c, *d]), out),
+        _ => push_flags(names, flags, out),
+    }
 }

@@ -5,8 +5,10 @@ mod addresses;
 mod bytes;
 mod dense_rows;
 mod digits;
+mod exact;
 mod fields;
 mod flags;
+mod groups;
 mod indents;
 pub mod laws;
 mod number_texts;
@@ -14,17 +16,18 @@ mod numbers;
 mod records;
 mod values;
 
-pub use bytes::push_bytes;
+pub use bytes::{is_zero, push_bytes};
 pub use dense_rows::look_up;
 pub use digits::{push_decimal, push_four_digits};
+pub use exact::{Exact, ExactBy, push_raw_value};
 pub use fields::{
-    CACHEINFO, Field, FieldOf, FieldShown, Fields, ICMP6_STATS, IP6_STATS, IPV4_DEVCONF,
-    IPV6_DEVCONF, MAP, STATS, STATS64, VF_BROADCAST, VF_LINK_STATE, VF_MAC, VF_RATE, VF_SETTING,
-    VF_TX_RATE, VF_VLAN, VF_VLAN_INFO,
+    CACHEINFO, ETHER_TYPE, Field, FieldOf, FieldShown, FieldShownBy, Fields, ICMP6_STATS,
+    IP6_STATS, IPV4_DEVCONF, IPV6_DEVCONF, IPV6_DEVCONF_ALL, MAP, STATS, STATS64, VF_BROADCAST,
+    VF_LINK_STATE, VF_MAC, VF_RATE, VF_SETTING, VF_TX_RATE, VF_VLAN, VF_VLAN_INFO,
 };
 pub use flags::{
     FlagName, FlagNames, LINK_EXTENT_MASK, LINK_FLAGS, MESSAGE_ACK_FLAGS, MESSAGE_CREATE_FLAGS,
-    MESSAGE_DELETE_FLAGS, MESSAGE_FLAGS, MESSAGE_GET_FLAGS, push_flags,
+    MESSAGE_DELETE_FLAGS, MESSAGE_FLAGS, MESSAGE_GET_FLAGS, push_flags, push_word_flags,
 };
 pub use indents::push_indent;
 pub use number_texts::{
@@ -33,5 +36,9 @@ pub use number_texts::{
     MCTP_PHYS_BINDING, MESSAGE_TYPE, NETKIT_MODE, NETKIT_POLICY, NETKIT_SCRUB, NumberText, Numbers,
     PLAIN, STATE, TUNNEL_ENCAP_TYPE, VXLAN_DF,
 };
-pub use numbers::{push_name, push_number};
+pub use numbers::{find_text, push_name, push_number};
+pub use records::{
+    is_counters, is_record, push_counters, push_header_fields, push_nonzero_counters,
+    push_record_fields, record_size,
+};
 pub use values::{Shown, ShownBy, push_value};

@@ -1,14 +1,14 @@
 //! Numbers with their names.
 
 ghost use Rattle.std.specs.Prelude.{◌≡◌, ◌++◌, OnOk};
-ghost use Rattle.link_lines_values.specs.Names.{bracketed, named_number, text_in, texts_of};
+ghost use Rattle.link_lines_values.specs.Names.{bracketed, named_number, named_signed, text_in, texts_of};
 
-use crate::digits::push_decimal;
+use crate::digits::{push_decimal, push_signed};
 use crate::number_texts::NumberText;
 use std::alloc::AllocError;
 
-// Returns the name of a number, or nothing.
-fn find_text(rows: &[NumberText], number: u64) -> &'static [u8]
+/// Returns the name of a number; empty if it has none.
+pub fn find_text(rows: &[NumberText], number: u64) -> &'static [u8]
     ensures { result.now ≡ text_in (texts_of (λ b. b.now) rows.now) number }
 {
     for row in rows {
@@ -42,6 +42,18 @@ pub fn push_name(texts: &[NumberText], number: u64, out: &mut Vec<u8>) -> Result
     out.extend_from_slice(find_text(texts, number))
 }
 
+/// Appends the name of a number in brackets with a space before them, or nothing if it has none.
+pub(crate) fn push_bracketed_name(
+    texts: &[NumberText],
+    number: u64,
+    out: &mut Vec<u8>,
+) -> Result<(), AllocError>
+    ensures ok { OnOk result (out.new.items
+        ≡ out.old.items ++ bracketed (text_in (texts_of (λ b. b.now) texts.now) number)) }
+{
+    push_bracketed(find_text(texts, number), out)
+}
+
 /// Appends a number in decimal, followed by its name in brackets if it has one.
 ///
 /// # Errors
@@ -51,5 +63,18 @@ pub fn push_number(texts: &[NumberText], number: u64, out: &mut Vec<u8>) -> Resu
     ensures ok { OnOk result (out.new.items ≡ out.old.items ++ named_number (texts_of (λ b. b.now) texts.now) number) }
 {
     push_decimal(number, out)?;
+    push_bracketed(find_text(texts, number), out)
+}
+
+/// Appends a number of 4 bytes as a signed one, followed by its name in brackets if it has one. The
+/// names are those of the numbers without a sign.
+pub(crate) fn push_signed_number(
+    texts: &[NumberText],
+    number: u64,
+    out: &mut Vec<u8>,
+) -> Result<(), AllocError>
+    ensures ok { OnOk result (out.new.items ≡ out.old.items ++ named_signed (texts_of (λ b. b.now) texts.now) number) }
+{
+    push_signed(number, out)?;
     push_bracketed(find_text(texts, number), out)
 }

@@ -1,23 +1,32 @@
 //! Records, field by field.
 
-ghost use Rattle.std.specs.Prelude.{◌≡◌, ◌<◌, ◌+◌, ◌++◌, cond, drop, length, IfNone, IfSome, OnOk};
+ghost use Rattle.std.specs.Prelude.{◌≡◌, [], ◌==◌, ◌<◌, ◌≤◌, ◌+◌, ◌/◌, ◌∷◌, ◌++◌, true, ◌||◌, ◌&&◌, cond, drop, false, length, min, IfNone, IfSome, OnOk};
 ghost use Rattle.link_lines_values.specs.Bytes.{is_zero};
+ghost use Rattle.link_lines_values.specs.Names.{texts_of};
 ghost use Rattle.link_lines_values.specs.Records.{field_of, field_text, field_value, fields_of, fields_text};
-ghost use Rattle.link_lines_values.specs.Records.{number_or_hex, record_text, total_size};
+ghost use Rattle.link_lines_values.specs.Records.{half_of, handle_or_hex, has_zero_padding, is_hidden, is_padding, is_record, is_signed_size};
+ghost use Rattle.link_lines_values.specs.Records.{counter_name, counters_text, is_counters, nonzero_text, slots_text};
+ghost use Rattle.link_lines_values.specs.Records.{number_or_hex, record_text, shown_of, total_size};
 
-use crate::bytes::{is_zero, push_boolean, push_bytes, push_hex_text, push_padded_address};
-use crate::digits::{big_endian, little_endian, push_decimal, push_signed};
-use crate::fields::{Field, FieldShown};
+use crate::bytes::{
+    is_zero, push_boolean, push_bytes, push_hex_text, push_padded_address, push_padded_text,
+};
+use crate::digits::{big_endian, little_endian, push_decimal, push_hex_digits, push_signed_by};
+use crate::fields::{Field, FieldShown, FieldShownBy};
+use crate::flags::{FlagName, push_flags_of};
+use crate::groups::push_group;
+use crate::number_texts::NumberText;
+use crate::numbers::{push_bracketed_name, push_number};
 use std::alloc::AllocError;
 
 // Returns the bytes after the fields of a record; None if there are fewer bytes than the fields
 // have.
 #[tactic(auto, using(crate::proofs::Listing::further_on))]
 fn after_fields<'a>(rows: &[Field], bytes: &'a [u8]) -> Option<&'a [u8]>
-    ensures some { IfSome result (λ rest. rest.now ≡ drop (total_size (fields_of (λ b. b.now) rows.now)) bytes.now) }
+    ensures some { IfSome result (λ rest. rest.now ≡ drop (total_size (fields_of (λ b. b.now) (λ t. t.now) rows.now)) bytes.now) }
     ensures whole { IfSome result
-        (λ rest. length rest.now + total_size (fields_of (λ b. b.now) rows.now) ≡ length bytes.now) }
-    ensures none { IfNone result (length bytes.now < total_size (fields_of (λ b. b.now) rows.now)) }
+        (λ rest. length rest.now + total_size (fields_of (λ b. b.now) (λ t. t.now) rows.now) ≡ length bytes.now) }
+    ensures none { IfNone result (length bytes.now < total_size (fields_of (λ b. b.now) (λ t. t.now) rows.now)) }
 {
     let mut rest = bytes;
     for row in rows {
@@ -30,48 +39,124 @@ fn after_fields<'a>(rows: &[Field], bytes: &'a [u8]) -> Option<&'a [u8]>
     Some(rest)
 }
 
-// Appends the number of a field, or its bytes if no number has their size.
-fn push_field_number(number: Option<u64>, part: &[u8], out: &mut Vec<u8>) -> Result<(), AllocError>
-    ensures ok { OnOk result (out.new.items ≡ out.old.items ++ number_or_hex number part.now) }
+// Appends the number of a field with its name, or its bytes if no number has their size.
+fn push_field_number(
+    texts: &[NumberText],
+    number: Option<u64>,
+    part: &[u8],
+    out: &mut Vec<u8>,
+) -> Result<(), AllocError>
+    ensures ok { OnOk result (out.new.items
+        ≡ out.old.items ++ number_or_hex (texts_of (λ b. b.now) texts.now) number part.now) }
 {
     match number {
-        Some(number) => push_decimal(number, out),
+        Some(number) => push_number(texts, number, out),
         None => push_hex_text(part, out),
     }
 }
 
-// Appends the number of a field with its sign, or its bytes if they are not 4.
+// Returns half of the numbers of 1 or 2 bytes, or of 4 for any other size.
+fn half_of(size: usize) -> u64
+    ensures { result ≡ half_of size }
+{
+    match size {
+        1 => 0x80,
+        2 => 0x8000,
+        _ => 0x8000_0000,
+    }
+}
+
+// Returns whether signed numbers have this size.
+fn is_signed_size(size: usize) -> bool
+    ensures { result ≡ is_signed_size size }
+{
+    size == 1 || size == 2 || size == 4
+}
+
+// Appends the number of a field with its sign, or its bytes if no signed number has their size.
 fn push_field_signed(part: &[u8], out: &mut Vec<u8>) -> Result<(), AllocError>
-    ensures ok { OnOk result (out.new.items ≡ out.old.items ++ field_value FieldShown.Signed part.now) }
+    ensures ok { OnOk result (out.new.items ≡ out.old.items ++ field_value FieldShownBy.Signed part.now) }
 {
     match little_endian(part) {
-        Some(number) if part.len() == 4 => push_signed(number, out),
+        Some(number) if is_signed_size(part.len()) => {
+            push_signed_by(half_of(part.len()), number, out)
+        }
+        _ => push_hex_text(part, out),
+    }
+}
+
+// Appends the flags of a field, or its bytes if no number has their size.
+fn push_field_flags(names: &[FlagName], part: &[u8], out: &mut Vec<u8>) -> Result<(), AllocError>
+    ensures ok { OnOk result (out.new.items
+        ≡ out.old.items ++ field_value (FieldShownBy.Flags (texts_of (λ b. b.now) names.now)) part.now) }
+{
+    match little_endian(part) {
+        Some(flags) => push_flags_of(names, flags, part, out),
+        None => push_hex_text(part, out),
+    }
+}
+
+// Appends a handle of 4 bytes with its name, or bytes of another size.
+fn push_field_handle(
+    texts: &[NumberText],
+    handle: Option<u64>,
+    part: &[u8],
+    out: &mut Vec<u8>,
+) -> Result<(), AllocError>
+    ensures ok { OnOk result (out.new.items
+        ≡ out.old.items ++ handle_or_hex (texts_of (λ b. b.now) texts.now) handle part.now) }
+{
+    match handle {
+        Some(handle) if part.len() == 4 => {
+            push_hex_digits(handle / 0x1_0000, out)?;
+            out.extend_from_slice(b":")?;
+            push_hex_digits(handle % 0x1_0000, out)?;
+            push_bracketed_name(texts, handle, out)
+        }
         _ => push_hex_text(part, out),
     }
 }
 
 // Appends the value of a field.
 fn push_field_value(shown: FieldShown, part: &[u8], out: &mut Vec<u8>) -> Result<(), AllocError>
-    ensures ok { OnOk result (out.new.items ≡ out.old.items ++ field_value shown part.now) }
+    ensures ok { OnOk result (out.new.items
+        ≡ out.old.items ++ field_value (shown_of (λ b. b.now) (λ t. t.now) shown.entry) part.now) }
 {
     match shown {
-        FieldShown::Number => push_field_number(little_endian(part), part, out),
-        FieldShown::Signed => push_field_signed(part, out),
-        FieldShown::BigEndian => push_field_number(big_endian(part), part, out),
-        FieldShown::Address => push_padded_address(part, out),
-        FieldShown::Boolean => push_boolean(part, out),
+        FieldShownBy::Number(texts) => push_field_number(texts, little_endian(part), part, out),
+        FieldShownBy::Signed => push_field_signed(part, out),
+        FieldShownBy::BigEndian(texts) => push_field_number(texts, big_endian(part), part, out),
+        FieldShownBy::Flags(names) => push_field_flags(names, part, out),
+        FieldShownBy::Address => push_padded_address(part, out),
+        FieldShownBy::Boolean => push_boolean(part, out),
+        FieldShownBy::Handle(texts) => push_field_handle(texts, little_endian(part), part, out),
+        FieldShownBy::Text => push_padded_text(part, out),
+        FieldShownBy::Group(texts) => push_group(texts, part, out),
+        FieldShownBy::Padding => Ok(()),
     }
 }
 
-// Appends a space, a field's name, `=` and its value.
-fn push_field(field: &Field, part: &[u8], out: &mut Vec<u8>) -> Result<(), AllocError>
+// Appends a space, a field's name, a separator and the field's value.
+fn push_field(
+    separator: u8,
+    field: &Field,
+    part: &[u8],
+    out: &mut Vec<u8>,
+) -> Result<(), AllocError>
     ensures ok { OnOk result (out.new.items
-        ≡ out.old.items ++ field_text (field_of (λ b. b.now) field.now) part.now) }
+        ≡ out.old.items ++ field_text separator (field_of (λ b. b.now) (λ t. t.now) field.now) part.now) }
 {
     out.extend_from_slice(b" ")?;
     out.extend_from_slice(field.0)?;
-    out.extend_from_slice(b"=")?;
+    out.extend_from_slice(&[separator])?;
     push_field_value(field.2, part, out)
+}
+
+// Returns whether a field is padding.
+fn is_padding(shown: FieldShown) -> bool
+    ensures { result ≡ is_padding (shown_of (λ b. b.now) (λ t. t.now) shown.entry) }
+{
+    matches!(shown, FieldShownBy::Padding)
 }
 
 // Returns whether a field is zero, by its number if it has one.
@@ -85,26 +170,97 @@ fn is_zero_field(part: &[u8]) -> bool
     }
 }
 
-// Appends the fields that are shown: for a sparse record only those that aren't zero.
+// Returns whether a field isn't shown: padding, and in a sparse record any field that is zero.
+fn is_hidden(is_sparse: bool, shown: FieldShown, part: &[u8]) -> bool
+    ensures { result ≡ is_hidden is_sparse (shown_of (λ b. b.now) (λ t. t.now) shown.entry) part.now }
+{
+    is_padding(shown) || is_sparse && is_zero_field(part)
+}
+
+// Appends the fields that are shown, each with a separator between its name and its value.
 fn push_fields(
+    separator: u8,
     is_sparse: bool,
     rows: &[Field],
     bytes: &[u8],
     out: &mut Vec<u8>,
 ) -> Result<(), AllocError>
-    requires { length bytes.now ≡ total_size (fields_of (λ b. b.now) rows.now) }
+    requires { length bytes.now ≡ total_size (fields_of (λ b. b.now) (λ t. t.now) rows.now) }
     ensures ok { OnOk result (out.new.items
-        ≡ out.old.items ++ fields_text is_sparse (fields_of (λ b. b.now) rows.now) bytes.now) }
+        ≡ out.old.items ++ fields_text separator is_sparse (fields_of (λ b. b.now) (λ t. t.now) rows.now) bytes.now) }
 {
     let mut rest = bytes;
     for row in rows {
         let (part, after) = rest.split_at(usize::from(row.1));
-        if !(is_sparse && is_zero_field(part)) {
-            push_field(row, part, out)?;
+        if !is_hidden(is_sparse, row.2, part) {
+            push_field(separator, row, part, out)?;
         }
         rest = after;
     }
     Ok(())
+}
+
+/// Appends the fields of a record that has their size, each as in ` vlan=7`.
+///
+/// # Errors
+///
+/// `AllocError` if `out` can't grow; it may then have a part of the text.
+pub fn push_record_fields(rows: &[Field], bytes: &[u8], out: &mut Vec<u8>) -> Result<(), AllocError>
+    requires { length bytes.now ≡ total_size (fields_of (λ b. b.now) (λ t. t.now) rows.now) }
+    ensures ok { OnOk result (out.new.items
+        ≡ out.old.items ++ fields_text 61 false (fields_of (λ b. b.now) (λ t. t.now) rows.now) bytes.now) }
+{
+    push_fields(b'=', false, rows, bytes, out)
+}
+
+/// Appends the fields of a header that has their size, each as in ` vlan 7`.
+///
+/// # Errors
+///
+/// `AllocError` if `out` can't grow; it may then have a part of the text.
+pub fn push_header_fields(rows: &[Field], bytes: &[u8], out: &mut Vec<u8>) -> Result<(), AllocError>
+    requires { length bytes.now ≡ total_size (fields_of (λ b. b.now) (λ t. t.now) rows.now) }
+    ensures ok { OnOk result (out.new.items
+        ≡ out.old.items ++ fields_text 32 false (fields_of (λ b. b.now) (λ t. t.now) rows.now) bytes.now) }
+{
+    push_fields(b' ', false, rows, bytes, out)
+}
+
+// Returns whether each field that is padding is zero.
+fn has_zero_padding(rows: &[Field], bytes: &[u8]) -> bool
+    requires { length bytes.now ≡ total_size (fields_of (λ b. b.now) (λ t. t.now) rows.now) }
+    ensures { result ≡ has_zero_padding (fields_of (λ b. b.now) (λ t. t.now) rows.now) bytes.now }
+{
+    let mut rest = bytes;
+    for row in rows {
+        let (part, after) = rest.split_at(usize::from(row.1));
+        if is_padding(row.2) && !is_zero(part) {
+            return false;
+        }
+        rest = after;
+    }
+    true
+}
+
+/// Returns whether bytes are a record: they have the size of its fields, and padding is zero.
+pub fn is_record(rows: &[Field], bytes: &[u8]) -> bool
+    ensures { result ≡ is_record (fields_of (λ b. b.now) (λ t. t.now) rows.now) bytes.now }
+{
+    match after_fields(rows, bytes) {
+        Some([]) => has_zero_padding(rows, bytes),
+        _ => false,
+    }
+}
+
+/// Returns the sum of the fields' sizes in bytes, or `usize::MAX` if it is larger than that.
+pub fn record_size(rows: &[Field]) -> usize
+    ensures { result ≡ min 18446744073709551615 (total_size (fields_of (λ b. b.now) (λ t. t.now) rows.now)) }
+{
+    let mut size = 0usize;
+    for row in rows {
+        size = size.saturating_add(usize::from(row.1));
+    }
+    size
 }
 
 /// Appends the fields of a record, without those that are zero if the record is sparse. Only zeros
@@ -117,12 +273,138 @@ pub(crate) fn push_record(
     out: &mut Vec<u8>,
 ) -> Result<(), AllocError>
     ensures ok { OnOk result (out.new.items
-        ≡ out.old.items ++ record_text is_sparse (fields_of (λ b. b.now) rows.now) bytes.now) }
+        ≡ out.old.items ++ record_text is_sparse (fields_of (λ b. b.now) (λ t. t.now) rows.now) bytes.now) }
 {
     match after_fields(rows, bytes) {
         Some(rest) if is_zero(rest) => {
-            push_fields(is_sparse, rows, &bytes[..bytes.len() - rest.len()], out)
+            push_fields(
+                b'=',
+                is_sparse,
+                rows,
+                &bytes[..bytes.len() - rest.len()],
+                out,
+            )
         }
         _ => push_bytes(bytes, out),
+    }
+}
+
+/// Returns whether bytes are counters: a multiple of the size of the first field.
+pub fn is_counters(rows: &[Field], bytes: &[u8]) -> bool
+    ensures { result ≡ is_counters (fields_of (λ b. b.now) (λ t. t.now) rows.now) bytes.now }
+{
+    match rows {
+        [first, ..] => {
+            let size = usize::from(first.1);
+            size != 0 && bytes.len() % size == 0
+        }
+        [] => false,
+    }
+}
+
+// Returns the title of the field at an index.
+fn find_title(rows: &[Field], index: usize) -> &'static [u8]
+    requires { index < length rows.now }
+    ensures { result.now ≡ counter_name (fields_of (λ b. b.now) (λ t. t.now) rows.now) index }
+{
+    rows[index].0
+}
+
+// Appends the name of a counter: the title of its field, or its index if there is none.
+fn push_counter_name(rows: &[Field], index: usize, out: &mut Vec<u8>) -> Result<(), AllocError>
+    ensures ok { OnOk result (out.new.items
+        ≡ out.old.items ++ counter_name (fields_of (λ b. b.now) (λ t. t.now) rows.now) index) }
+{
+    if index < rows.len() {
+        return out.extend_from_slice(find_title(rows, index));
+    }
+    push_decimal(index as u64, out)
+}
+
+// Appends a space, a counter's name, `=` and its value, if it isn't zero.
+fn push_counter(
+    rows: &[Field],
+    index: usize,
+    shown: FieldShown,
+    part: &[u8],
+    out: &mut Vec<u8>,
+) -> Result<(), AllocError>
+    ensures ok { OnOk result (out.new.items
+        ≡ out.old.items ++ cond (is_zero part.now) []
+        (32 ∷ (counter_name (fields_of (λ b. b.now) (λ t. t.now) rows.now) index
+        ++ 61 ∷ field_value (shown_of (λ b. b.now) (λ t. t.now) shown.entry) part.now))) }
+{
+    if is_zero_field(part) {
+        return Ok(());
+    }
+    out.extend_from_slice(b" ")?;
+    push_counter_name(rows, index, out)?;
+    out.extend_from_slice(b"=")?;
+    push_field_value(shown, part, out)
+}
+
+// Appends the counters of a size that aren't zero.
+fn push_slots(
+    size: usize,
+    shown: FieldShown,
+    rows: &[Field],
+    bytes: &[u8],
+    out: &mut Vec<u8>,
+) -> Result<(), AllocError>
+    requires { 0 < size }
+    ensures ok { OnOk result (out.new.items
+        ≡ out.old.items ++ slots_text size (shown_of (λ b. b.now) (λ t. t.now) shown.entry)
+        (fields_of (λ b. b.now) (λ t. t.now) rows.now) 0 (length bytes.now / size) bytes.now) }
+{
+    let mut index = 0;
+    let mut rest = bytes;
+    while rest.len() >= size {
+        let (part, after) = rest.split_at(size);
+        push_counter(rows, index, shown, part, out)?;
+        index += 1;
+        rest = after;
+    }
+    Ok(())
+}
+
+/// Appends counters as in ` fields 25 rx_packets=3`: how many there are, and those that aren't
+/// zero, all shown as the first field. A counter after the last field has its index as its name.
+///
+/// # Errors
+///
+/// `AllocError` if `out` can't grow; it may then have a part of the text.
+pub fn push_counters(rows: &[Field], bytes: &[u8], out: &mut Vec<u8>) -> Result<(), AllocError>
+    requires { is_counters (fields_of (λ b. b.now) (λ t. t.now) rows.now) bytes.now ≡ true }
+    ensures ok { OnOk result (out.new.items
+        ≡ out.old.items ++ counters_text (fields_of (λ b. b.now) (λ t. t.now) rows.now) bytes.now) }
+{
+    match rows {
+        [first, ..] => {
+            let size = usize::from(first.1);
+            out.extend_from_slice(b" fields ")?;
+            push_decimal((bytes.len() / size) as u64, out)?;
+            push_slots(size, first.2, rows, bytes, out)
+        }
+        [] => Ok(()),
+    }
+}
+
+/// Appends the counters that aren't zero, all shown as the first field, without how many there are.
+///
+/// # Errors
+///
+/// `AllocError` if `out` can't grow; it may then have a part of the text.
+pub fn push_nonzero_counters(
+    rows: &[Field],
+    bytes: &[u8],
+    out: &mut Vec<u8>,
+) -> Result<(), AllocError>
+    requires { is_counters (fields_of (λ b. b.now) (λ t. t.now) rows.now) bytes.now ≡ true }
+    ensures ok { OnOk result (out.new.items
+        ≡ out.old.items ++ nonzero_text (fields_of (λ b. b.now) (λ t. t.now) rows.now) bytes.now) }
+{
+    match rows {
+        [first, ..] => push_slots(usize::from(first.1), first.2, rows, bytes, out),
+        [] => Ok(()),
     }
 }

@@ -2,19 +2,19 @@
 
 ghost use Rattle.std.specs.Prelude.{◌≡◌, ◌++◌, ◌∷◌, codes, OnOk};
 ghost use Rattle.link_lines_values.specs.Bytes.{boolean_text};
-ghost use Rattle.link_lines_values.specs.Digits.{hex_number};
+ghost use Rattle.link_lines_values.specs.Flags.{word_flags};
 ghost use Rattle.link_lines_values.specs.Values.{big_endian_flags_value, big_endian_value, flags_and_mask_value};
-ghost use Rattle.link_lines_values.specs.Values.{flags_value, hex_or_bytes, named_flags_value, number_value, optional_byte_value};
+ghost use Rattle.link_lines_values.specs.Values.{named_flags_value, number_value, optional_byte_value};
 ghost use Rattle.link_lines_values.specs.Names.{texts_of};
-ghost use Rattle.link_lines_values.specs.Values.{port_range_value, format_of, signed_value, sized_flags_value, value_text};
+ghost use Rattle.link_lines_values.specs.Values.{port_range_value, format_of, signed_value, value_text};
 
 use crate::addresses::push_address;
 use crate::bytes::{push_boolean, push_bytes, push_hardware_address, push_text};
-use crate::digits::{big_endian, little_endian, push_decimal, push_hex, push_signed};
+use crate::digits::{big_endian, little_endian, push_decimal, push_hex};
 use crate::fields::Fields;
-use crate::flags::{FlagName, push_flags};
+use crate::flags::{FlagName, push_flags_of, push_word_flags};
 use crate::number_texts::{NumberText, Numbers};
-use crate::numbers::push_number;
+use crate::numbers::{push_number, push_signed_number};
 use crate::records::push_record;
 use std::alloc::AllocError;
 
@@ -22,21 +22,18 @@ use std::alloc::AllocError;
 /// type `R`. A payload of a size that the format doesn't know is shown as its bytes.
 #[derive(Clone, Copy)]
 pub enum ShownBy<N, R> {
-    /// A little-endian number of 1, 2, 4 or 8 bytes, with its name.
+    /// A little-endian number of 1, 2, 3, 4 or 8 bytes, with its name.
     Number(N),
-    /// A big-endian number of 1, 2, 4 or 8 bytes, with its name.
+    /// A big-endian number of 1, 2, 3, 4 or 8 bytes, with its name.
     BigEndian(N),
-    /// A signed little-endian number of 4 bytes.
-    Signed,
-    /// Little-endian flags of 1, 2, 4 or 8 bytes, without names.
+    /// A signed little-endian number of 4 bytes, with its name.
+    Signed(N),
+    /// Little-endian flags of 1, 2, 3, 4 or 8 bytes, without names.
     Flags,
-    /// Little-endian flags of 1, 2, 4 or 8 bytes, with the names of their bits.
+    /// Little-endian flags of 1, 2, 3, 4 or 8 bytes, with the names of their bits.
     NamedFlags(N),
-    /// Big-endian flags of 1, 2, 4 or 8 bytes, without names.
+    /// Big-endian flags of 1, 2, 3, 4 or 8 bytes, without names.
     BigEndianFlags,
-    /// Little-endian flags of 4 bytes, or big-endian ones of 2 bytes (if_tunnel.h:
-    /// IFLA_IPTUN_FLAGS).
-    FlagsBySize,
     /// A boolean: `on` if a byte isn't zero, or else `off`.
     Boolean,
     /// Nothing: the attribute only has to be present.
@@ -53,8 +50,9 @@ pub enum ShownBy<N, R> {
     Address,
     /// Two big-endian numbers of 2 bytes (if_link.h: struct ifla_vxlan_port_range).
     PortRange,
-    /// Little-endian flags and a mask of 4 bytes each (if_link.h: struct ifla_rmnet_flags).
-    FlagsAndMask,
+    /// Little-endian flags and a mask of 4 bytes each (if_link.h: struct ifla_rmnet_flags), with
+    /// the names of their bits.
+    FlagsAndMask(N),
     /// The fields of a record.
     Record(R),
     /// The fields of a record that aren't zero.
@@ -97,28 +95,29 @@ fn push_big_endian_value(
     push_number(texts, number, out)
 }
 
-/// Appends a space and a signed number, or bytes if they are not 4.
-fn push_signed_value(payload: &[u8], out: &mut Vec<u8>) -> Result<(), AllocError>
-    ensures ok { OnOk result (out.new.items ≡ out.old.items ++ signed_value payload.now) }
+/// Appends a space and a signed number with its name, or bytes if they are not 4.
+fn push_signed_value(
+    texts: &[NumberText],
+    payload: &[u8],
+    out: &mut Vec<u8>,
+) -> Result<(), AllocError>
+    ensures ok { OnOk result (out.new.items
+        ≡ out.old.items ++ signed_value (texts_of (λ b. b.now) texts.now) payload.now) }
 {
     match little_endian(payload) {
         Some(number) if payload.len() == 4 => {
             out.extend_from_slice(b" ")?;
-            push_signed(number, out)
+            push_signed_number(texts, number, out)
         }
         _ => push_bytes(payload, out),
     }
 }
 
-// Appends a space and flags in hex, or bytes if there are no flags.
-fn push_flags_or_bytes(
-    flags: Option<u64>,
-    payload: &[u8],
-    out: &mut Vec<u8>,
-) -> Result<(), AllocError>
-    ensures ok { OnOk result (out.new.items ≡ out.old.items ++ hex_or_bytes flags payload.now) }
+/// Appends a space and big-endian flags in hex, or bytes if no number has their size.
+fn push_big_endian_flags(payload: &[u8], out: &mut Vec<u8>) -> Result<(), AllocError>
+    ensures ok { OnOk result (out.new.items ≡ out.old.items ++ big_endian_flags_value payload.now) }
 {
-    match flags {
+    match big_endian(payload) {
         Some(flags) => {
             out.extend_from_slice(b" ")?;
             push_hex(flags, out)
@@ -136,19 +135,7 @@ fn push_named_flags(names: &[FlagName], payload: &[u8], out: &mut Vec<u8>) -> Re
         return push_bytes(payload, out);
     };
     out.extend_from_slice(b" ")?;
-    push_flags(names, flags, out)
-}
-
-/// Appends flags in the byte order of their size.
-fn push_sized_flags(payload: &[u8], out: &mut Vec<u8>) -> Result<(), AllocError>
-    ensures ok { OnOk result (out.new.items ≡ out.old.items ++ sized_flags_value payload.now) }
-{
-    let flags = match payload.len() {
-        4 => little_endian(payload),
-        2 => big_endian(payload),
-        _ => None,
-    };
-    push_flags_or_bytes(flags, payload, out)
+    push_flags_of(names, flags, payload, out)
 }
 
 /// Appends a space and a byte in decimal; nothing for no byte; more as bytes.
@@ -181,22 +168,29 @@ fn push_port_range(payload: &[u8], out: &mut Vec<u8>) -> Result<(), AllocError>
 }
 
 // Appends a space, flags, ` mask ` and a mask.
-fn push_mask(flags: u32, mask: u32, out: &mut Vec<u8>) -> Result<(), AllocError>
+fn push_mask(names: &[FlagName], flags: u32, mask: u32, out: &mut Vec<u8>) -> Result<(), AllocError>
     ensures ok { OnOk result (out.new.items
-        ≡ out.old.items ++ 32 ∷ (hex_number flags ++ (codes " mask " ++ hex_number mask))) }
+        ≡ out.old.items ++ 32 ∷ (word_flags (texts_of (λ b. b.now) names.now) flags ++
+        (codes " mask " ++ word_flags (texts_of (λ b. b.now) names.now) mask))) }
 {
     out.extend_from_slice(b" ")?;
-    push_hex(u64::from(flags), out)?;
+    push_word_flags(names, flags, out)?;
     out.extend_from_slice(b" mask ")?;
-    push_hex(u64::from(mask), out)
+    push_word_flags(names, mask, out)
 }
 
-/// Appends a space, flags and their mask, or bytes if they are not 8.
-fn push_flags_and_mask(payload: &[u8], out: &mut Vec<u8>) -> Result<(), AllocError>
-    ensures ok { OnOk result (out.new.items ≡ out.old.items ++ flags_and_mask_value payload.now) }
+/// Appends a space, flags and their mask with the names of their bits, or bytes if they are not 8.
+fn push_flags_and_mask(
+    names: &[FlagName],
+    payload: &[u8],
+    out: &mut Vec<u8>,
+) -> Result<(), AllocError>
+    ensures ok { OnOk result (out.new.items
+        ≡ out.old.items ++ flags_and_mask_value (texts_of (λ b. b.now) names.now) payload.now) }
 {
     match payload {
         [a, b, c, d, e, f, g, h] => push_mask(
+            names,
             u32::from_le_bytes([*a, *b, *c, *d]),
             u32::from_le_bytes([*e, *f, *g, *h]),
             out,
@@ -225,11 +219,10 @@ pub fn push_value(shown: Shown, payload: &[u8], out: &mut Vec<u8>) -> Result<(),
     match shown {
         ShownBy::Number(texts) => push_number_value(texts, payload, out),
         ShownBy::BigEndian(texts) => push_big_endian_value(texts, payload, out),
-        ShownBy::Signed => push_signed_value(payload, out),
-        ShownBy::Flags => push_flags_or_bytes(little_endian(payload), payload, out),
+        ShownBy::Signed(texts) => push_signed_value(texts, payload, out),
+        ShownBy::Flags => push_named_flags(&[], payload, out),
         ShownBy::NamedFlags(names) => push_named_flags(names, payload, out),
-        ShownBy::BigEndianFlags => push_flags_or_bytes(big_endian(payload), payload, out),
-        ShownBy::FlagsBySize => push_sized_flags(payload, out),
+        ShownBy::BigEndianFlags => push_big_endian_flags(payload, out),
         ShownBy::Boolean => push_boolean_value(payload, out),
         ShownBy::Presence => Ok(()),
         ShownBy::OptionalByte => push_optional_byte(payload, out),
@@ -238,7 +231,7 @@ pub fn push_value(shown: Shown, payload: &[u8], out: &mut Vec<u8>) -> Result<(),
         ShownBy::HardwareAddress => push_hardware_address(payload, out),
         ShownBy::Address => push_address(payload, out),
         ShownBy::PortRange => push_port_range(payload, out),
-        ShownBy::FlagsAndMask => push_flags_and_mask(payload, out),
+        ShownBy::FlagsAndMask(names) => push_flags_and_mask(names, payload, out),
         ShownBy::Record(rows) => push_record(false, rows, payload, out),
         ShownBy::SparseRecord(rows) => push_record(true, rows, payload, out),
     }

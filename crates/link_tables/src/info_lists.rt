@@ -219,7 +219,7 @@ macro_rules! ip_tunnel {
             5, b"IFLA_IPTUN_TOS", Exact(1), Number(PLAIN);
             6, b"IFLA_IPTUN_ENCAP_LIMIT", Exact(1), Number(PLAIN);
             7, b"IFLA_IPTUN_FLOWINFO", Exact(4), BigEndian(PLAIN);
-            8, b"IFLA_IPTUN_FLAGS", $flags, FlagsBySize;
+            8, b"IFLA_IPTUN_FLAGS", $flags, Flags;
             9, b"IFLA_IPTUN_PROTO", Exact(1), Number(PLAIN);
             10, b"IFLA_IPTUN_PMTUDISC", NonzeroByte, Boolean;
             11, b"IFLA_IPTUN_6RD_PREFIX", Exact(16), Address;
@@ -265,7 +265,7 @@ macro_rules! macvlan {
             6, b"IFLA_MACVLAN_MACADDR_COUNT", Exact(4), Number(PLAIN);
             7, b"IFLA_MACVLAN_BC_QUEUE_LEN", Exact(4), Number(PLAIN);
             8, b"IFLA_MACVLAN_BC_QUEUE_LEN_USED", Exact(4), Number(PLAIN);
-            9, b"IFLA_MACVLAN_BC_CUTOFF", Exact(4), Signed;
+            9, b"IFLA_MACVLAN_BC_CUTOFF", Exact(4), Signed(PLAIN);
         }
     };
 }
@@ -283,7 +283,7 @@ macro_rules! macvlan_address {
             6, b"IFLA_MACVLAN_MACADDR_COUNT", Exact(4), Number(PLAIN);
             7, b"IFLA_MACVLAN_BC_QUEUE_LEN", Exact(4), Number(PLAIN);
             8, b"IFLA_MACVLAN_BC_QUEUE_LEN_USED", Exact(4), Number(PLAIN);
-            9, b"IFLA_MACVLAN_BC_CUTOFF", Exact(4), Signed;
+            9, b"IFLA_MACVLAN_BC_CUTOFF", Exact(4), Signed(PLAIN);
         }
     };
 }
@@ -346,7 +346,7 @@ macro_rules! rmnet {
     ($write:ident) => {
         $write! {
             1, b"IFLA_RMNET_MUX_ID", Exact(2), Number(PLAIN);
-            2, b"IFLA_RMNET_FLAGS", Exact(8), FlagsAndMask;
+            2, b"IFLA_RMNET_FLAGS", Exact(8), FlagsAndMask(PLAIN);
         }
     };
 }

@@ -5,7 +5,7 @@
 macro_rules! xdp {
     ($write:ident) => {
         $write! {
-            1, b"IFLA_XDP_FD", Exact(4), Signed;
+            1, b"IFLA_XDP_FD", Exact(4), Signed(PLAIN);
             2, b"IFLA_XDP_ATTACHED", Exact(1), Number(PLAIN);
             3, b"IFLA_XDP_FLAGS", Exact(4), Number(PLAIN);
             4, b"IFLA_XDP_PROG_ID", Exact(4), Number(PLAIN);
@@ -180,7 +180,7 @@ macro_rules! vf_infos {
 macro_rules! vf_ports {
     ($write:ident) => {
         $write! {
-            1 -> b"IFLA_VF_PORT", List(Any, RAW);
+            1 -> b"IFLA_VF_PORT", List(Any, PORT);
         }
     };
 }
@@ -214,10 +214,10 @@ macro_rules! link {
             22 -> b"IFLA_VFINFO_LIST", List(OfKindOne, VF_INFOS);
             23, b"IFLA_STATS64", Resized(200), SparseRecord(STATS64);
             24 -> b"IFLA_VF_PORTS", List(Ports, VF_PORTS);
-            25 -> b"IFLA_PORT_SELF", List(Any, RAW);
+            25 -> b"IFLA_PORT_SELF", List(Any, PORT);
             $($specific)*
             27, b"IFLA_GROUP", Exact(4), Number(PLAIN);
-            28, b"IFLA_NET_NS_FD", Exact(4), Signed;
+            28, b"IFLA_NET_NS_FD", Exact(4), Signed(PLAIN);
             29, b"IFLA_EXT_MASK", Exact(4), NamedFlags(LINK_EXTENT_MASK);
             30, b"IFLA_PROMISCUITY", Exact(4), Number(PLAIN);
             31, b"IFLA_NUM_TX_QUEUES", Exact(4), Number(PLAIN);

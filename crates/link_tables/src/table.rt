@@ -188,6 +188,9 @@ pub const BRIDGE_SPECIFIC: Table = Table(52);
 /// IFLA_INET6_*, the attributes inside IFLA_PROTINFO under AF_INET6.
 pub const INET6_PROTOCOL: Table = Table(53);
 
+/// IFLA_PORT_*, the attributes inside IFLA_VF_PORT and IFLA_PORT_SELF.
+pub const PORT: Table = Table(54);
+
 /// The length of a link's header, which precedes its attributes (rtnetlink.h, `struct ifinfomsg`).
 pub const LINK_HEADER_LEN: usize = 16;
 

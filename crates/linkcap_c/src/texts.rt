@@ -16,7 +16,7 @@ use link_capture_grammar::fault::CaptureFault;
 const VERSION: u32 = 2;
 
 /// The format version of normal texts and lines.
-const FORMAT: u32 = 2;
+const FORMAT: u32 = 3;
 
 /// A fault of one of two captures.
 fn of_side(fault: CaptureFault, second: bool) -> SideFault
@@ -76,7 +76,7 @@ pub extern "C" fn linkcap_version() -> u32
 /// The format version of normal texts and lines, which `linkcap.h` has as `LINKCAP_FORMAT`.
 #[unsafe(no_mangle)]
 pub extern "C" fn linkcap_format() -> u32
-    ensures { result ≡ 2 }
+    ensures { result ≡ 3 }
 {
     FORMAT
 }

@@ -1,27 +1,37 @@
--- Message types by their words.
-use Rattle.std.specs.Prelude.{◌≡◌, ◌==◌, ◌<◌, ◌⊎◌, ℕ, ◌^◌, ⊤, List, [], ◌∷◌, cond, bytes_eq, map, Option, None, Some}
+-- Message types by their names and numbers.
+use Rattle.std.specs.Prelude.{◌≡◌, ◌==◌, ◌<◌, ◌≤◌, ◌⊎◌, ◌^◌, ◌||◌, Bool, ℕ, ⊤, List, [], ◌∷◌, cond, length, Option}
+use Rattle.std.specs.Prelude.{None, Some}
+use Rattle.std.specs.List.{after_first}
+use Rattle.std.specs.Str.{str_eq_ignore_ascii_case}
 use Rattle.std.specs.Str.Parse.{IsNumeral, digits_value}
-use Rattle.linkshow_program.specs.declared.types.TheConstants.{TYPE_WORDS}
+use Rattle.link_lines_values.specs.Names.{Text, texts_of}
+use Rattle.link_lines_values.specs.declared.number_texts.TheConstants.{MESSAGE_TYPE}
 
--- The rows that a table in code represents.
-abbrev pub message_labels : {B : Type 0} → (B → List ℕ) → List (ℕ × B) → List (ℕ × List ℕ)
-message_labels f rows = map (λ r. (r.0, f r.1)) rows
+-- Whether a byte is `_`.
+abbrev pub is_underscore : ℕ → Bool
+is_underscore c = c == 95
 
--- The type with this word, among some.
-abbrev pub named_in : List (ℕ × List ℕ) → List ℕ → Option ℕ
+-- Whether a word is the name, or what follows the name's first `_`; the case of ASCII letters doesn't count.
+abbrev pub is_word_of : List ℕ → List ℕ → Bool
+is_word_of name w =
+    str_eq_ignore_ascii_case name w || str_eq_ignore_ascii_case (after_first is_underscore name) w
+
+-- The number of the first row whose name the word is.
+abbrev pub named_in : List Text → List ℕ → Option ℕ
 named_in [] w = None
-named_in (r ∷ rows) w = cond (bytes_eq r.1 w) (Some r.0) (named_in rows w)
+named_in (r ∷ rows) w = cond (is_word_of r.1 w) (Some r.0) (named_in rows w)
 
--- The type with this word.
+-- The type with this name.
 unfoldable pub named_type : List ℕ → Option ℕ
-named_type w = named_in (message_labels (λ w. w.now) TYPE_WORDS.now) w
+named_type w = named_in (texts_of (λ name. name.now) MESSAGE_TYPE.now) w
 
--- Decimal digits of the number of a type.
+-- One to five decimal digits of the number of a type.
 pub record IsTypeNumber (w : List ℕ) : Type 0 where
   pub numeral : IsNumeral 10 w
+  pub short : length w ≤ 5
   pub high : digits_value 10 w < 2 ^ 16
 
--- A type by its word, or by its number.
+-- A type by its name, or by its number.
 abbrev pub IsTypeWord : List ℕ → ℕ → Type 0
 IsTypeWord w t = (named_type w ≡ Some t) ⊎ ((named_type w ≡ None) × IsTypeNumber w × (t ≡ digits_value 10 w))
 

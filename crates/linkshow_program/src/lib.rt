@@ -32,7 +32,7 @@ use std::alloc::Global;
 use std::io;
 use std::process::ExitCode;
 use texts::{HELP, USAGE, VERSION};
-pub use types::{TYPE_WORDS, Types};
+pub use types::Types;
 
 /// Writes the usage line to the error writer, and returns the status of a usage error.
 fn run_usage<E: Sink>(errors: &mut E) -> ExitCode

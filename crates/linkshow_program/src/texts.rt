@@ -10,7 +10,7 @@ pub const USAGE: &str =
     "usage: linkshow [--without-numbers] [--only TYPE,..] [--kernels] [--limit N] [FILE]; linkshow --help says more\n";
 
 /// The version of the program, and the format version of its lines.
-pub const VERSION: &str = "linkshow 0.1.0, lines 2\n";
+pub const VERSION: &str = "linkshow 0.1.0, lines 3\n";
 
 /// The help.
 pub const HELP: &str =

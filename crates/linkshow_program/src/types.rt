@@ -1,74 +1,86 @@
 //! Message types by their words.
 
 ghost use Rattle.std.specs.Prelude.{◌≡◌, ◌<◌, ◌≤◌, ◌⊎◌, ◌++◌, ◌∷◌, [], ℕ, length, IfSome, IfNone};
+ghost use Rattle.std.specs.List.{after_first};
 ghost use Rattle.arrayvec.specs.ArrayVec.{ArrayVec as Items};
 ghost use Rattle.std.specs.Str.Parse.{digits_value};
-ghost use Rattle.linkshow_program.specs.Types.{named_in, message_labels, named_type, parts, AreTypeWords, IsTypeNumber, IsTypeWord};
+ghost use Rattle.link_lines_values.specs.Names.{texts_of};
+ghost use Rattle.linkshow_program.specs.Types.{is_underscore, is_word_of, named_in, named_type, parts, AreTypeWords, IsTypeNumber, IsTypeWord};
 
 use arrayvec::ArrayVec;
+use link_lines_values::{MESSAGE_TYPE, NumberText};
 
 /// A list of at most 32 message types.
 pub type Types = ArrayVec<u16, 32>;
 
-/// The message types that have names, with their words: the names of netlink.h and rtnetlink.h in
-/// lower case, without NLMSG or RTM.
-pub const TYPE_WORDS: &[(u16, &str)] = &[
-    (1, "noop"),
-    (2, "error"),
-    (3, "done"),
-    (4, "overrun"),
-    (16, "newlink"),
-    (17, "dellink"),
-    (18, "getlink"),
-    (19, "setlink"),
-    (20, "newaddr"),
-    (21, "deladdr"),
-    (22, "getaddr"),
-    (24, "newroute"),
-    (25, "delroute"),
-    (26, "getroute"),
-    (28, "newneigh"),
-    (29, "delneigh"),
-    (30, "getneigh"),
-    (32, "newrule"),
-    (33, "delrule"),
-    (34, "getrule"),
-];
+/// Returns what follows the first `_` of a name; nothing if there is none.
+fn after_prefix(name: &[u8]) -> &[u8]
+    ensures { result.now ≡ after_first is_underscore name.now }
+{
+    let mut left = name;
+    while let Some((byte, rest)) = left.split_first() {
+        if *byte == b'_' {
+            return rest;
+        }
+        left = rest;
+    }
+    left
+}
 
-/// Returns the type with this word, among some. The rows are a parameter, since the prover spells
-/// out a constant inside a loop in each goal.
-fn named_in(rows: &[(u16, &str)], word: &str) -> Option<u16>
-    ensures { result ≡ named_in (message_labels (λ w. w.now) rows.now) word.now }
+/// Returns whether a word is the name, or what follows the name's first `_`. The case of ASCII
+/// letters doesn't count.
+fn is_word_of(name: &[u8], word: &[u8]) -> bool
+    ensures { result ≡ is_word_of name.now word.now }
+{
+    name.eq_ignore_ascii_case(word) || after_prefix(name).eq_ignore_ascii_case(word)
+}
+
+/// Returns the number of the first row whose name the word is. The rows are a parameter, since the
+/// prover spells out a constant inside a loop in each goal.
+fn named_in(rows: &[NumberText], word: &[u8]) -> Option<u32>
+    ensures { result ≡ named_in (texts_of (λ name. name.now) rows.now) word.now }
 {
     for row in rows {
-        if row.1 == word {
+        if is_word_of(row.1, word) {
             return Some(row.0);
         }
     }
     None
 }
 
-/// Returns the type with this word.
+/// Returns the number of the type with this name. It is a function of its own, since its goals
+/// spell out the table.
 #[tactic(auto, unfolding(crate::specs::Types::named_type))]
+fn find_type(word: &[u8]) -> Option<u32>
+    ensures { result ≡ named_type word.now }
+{
+    named_in(MESSAGE_TYPE, word)
+}
+
+/// Returns the type with this name.
+#[tactic(auto, using(crate::proofs::TypeNames::type_is_small))]
 fn named_type(word: &str) -> Option<u16>
     ensures { result ≡ named_type word.now }
 {
-    named_in(TYPE_WORDS, word)
+    match find_type(word.as_bytes()) {
+        Some(number) => Some(number as u16),
+        None => None,
+    }
 }
 
-/// Reads the number of a type: decimal digits of a number up to 65535.
+/// Reads the number of a type: one to five decimal digits of a number up to 65535.
 fn read_number(word: &str) -> Option<u16>
     ensures some { IfSome result (λ n. IsTypeNumber word.now × (n ≡ digits_value 10 word.now)) }
     ensures none { IfNone result (IsTypeNumber word.now → ⊥) }
 {
     let bytes = word.as_bytes();
-    if !bytes.is_empty() && bytes[0] == b'+' {
+    if bytes.is_empty() || bytes.len() > 5 || bytes[0] == b'+' {
         return None;
     }
     word.parse::<u16>().ok()
 }
 
-/// Reads a type, by its word or its number.
+/// Reads a type, by its name or its number.
 fn read_type(word: &str) -> Option<u16>
     ensures some { IfSome result (λ t. IsTypeWord word.now t) }
     ensures none { IfNone result ((t : ℕ) → IsTypeWord word.now t → ⊥) }

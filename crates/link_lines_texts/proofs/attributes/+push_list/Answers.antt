@@ -1,5 +1,6 @@
 use Rattle.std.proofs.Common.{◌≡◌, ◌+◌, ◌++◌, List, ℕ, Option, Some, None, option_map, Bor, ap, sym, ◌∙◌, append-nil, arith, rules}
 use Rattle.netlink_packet_core_grammar.specs.Attributes.{Attribute}
+use Rattle.link_interpreter.specs.Sameness.{attribute_of}
 use Rattle.link_tables.specs.InForce.{in_force}
 use Rattle.link_lines_texts.specs.declared.attributes.ListTable.{ListTable}
 use Rattle.link_lines_texts.specs.Lists.{list_inside, list_lines, nested_lines, attribute_lines, rest_lines}
@@ -12,7 +13,7 @@ viewed o = option_map (λ f. (f.0, f.1.now)) o
 
 pub push_list-requires : goal.push_list-requires
 push_list-requires t c =
-    let e : Attribute = record { kind = c.in-Some.attribute.kind; payload = c.in-Some.attribute.payload.now } in
+    let e : Attribute = attribute_of c.in-Some.attribute in
     let now = in_force c.loop-attribute.force in
     let tells : list_inside c.args.list_table now e ≡ Some (c.in-Some-found.inside, c.in-Some-found.list.now) = sym c.in_ok-found.ensures.list ∙ ap viewed c.in-Some-found.is in
     let s = list_shorter c.args.list_table now c.loop-attribute.rest.now e (c.in-Some-found.inside, c.in-Some-found.list.now) c.in-Some.ensures.within tells in
@@ -20,7 +21,7 @@ push_list-requires t c =
 
 pub loop-attribute-preserved-in-Continue-branch-2 : goal.loop-attribute-preserved-in-Continue-branch-2
 loop-attribute-preserved-in-Continue-branch-2 t c =
-    let e : Attribute = record { kind = c.in-Some.attribute.kind; payload = c.in-Some.attribute.payload.now } in
+    let e : Attribute = attribute_of c.in-Some.attribute in
     let now = in_force c.loop-attribute.force in
     let before = c.loop-attribute.out.items in
     let lines = list_lines (c.args.level + 1) c.in-Some-found.inside c.in-Some-found.list.now in
@@ -37,7 +38,7 @@ loop-attribute-preserved-in-Continue-branch-2 t c =
 
 pub loop-attribute-preserved : goal.loop-attribute-preserved
 loop-attribute-preserved t c =
-    let e : Attribute = record { kind = c.in-Some.attribute.kind; payload = c.in-Some.attribute.payload.now } in
+    let e : Attribute = attribute_of c.in-Some.attribute in
     let now = in_force c.loop-attribute.force in
     let before = c.loop-attribute.out.items in
     let own : c.push_attribute.new.out.items ≡ before ++ attribute_lines c.args.level c.args.list_table now e = c.in_ok-found.ensures.ok in

@@ -1,0 +1,17 @@
+pub mod Words
+pub mod Named
+pub mod RowsInCode
+pub mod Whole
+pub mod Unfolding
+pub mod Spans
+pub mod Loop
+pub mod Types
+pub mod Unnamed
+pub mod RawRows
+pub mod Payloads
+pub mod Hops
+pub mod ListsDetermined
+pub mod ListLines
+pub mod RawDetermined
+pub mod BodiesDetermined
+pub mod Together

@@ -1,0 +1,171 @@
+-- What follows a name, and the lines below it, determine a payload, provided that lines determine shorter lists.
+use Rattle.std.proofs.Common.{◌≡◌, ℕ, ◌<◌, Bool, true, false, cond, List, [], ◌∷◌, ◌++◌, length, take, drop, get_or, Option, Some, None, refl, sym, ap, ◌∙◌, arith}
+use Rattle.std.specs.Prelude.{◌&&◌, nat_le, codes}
+use Rattle.std.proofs.lemmas.Bool.{and_parts}
+use Rattle.std.proofs.lemmas.List.{append_cancel_left, length-drop}
+use Rattle.netlink_packet_core_grammar.specs.Bytes.{AreBytes}
+use Rattle.netlink_packet_core_grammar.proofs.Bytes.{AreBytes-drop, AreBytes-take}
+use Rattle.link_lines_values.specs.Bytes.{bytes_text}
+use Rattle.link_lines_values.specs.Laws.{BeginsWithSpace, IsLine}
+use Rattle.link_lines_values.specs.Records.{has_no_booleans, is_record, sizes_known, total_size}
+use Rattle.link_lines_values.specs.declared.values.ShownBy.TheVariants.{Bytes}
+use Rattle.link_lines_values.proofs.BytesDetermined.{bytes_determined}
+use Rattle.link_lines_values.proofs.ExactDetermined.{raw_values_determined}
+use Rattle.link_lines_values.proofs.OneLine.{is_line_checked, lines_joined, values_are_lines}
+use Rattle.link_lines_values.proofs.RecordsDetermined.{plain_determined}
+use Rattle.link_lines_values.proofs.ValuesDetermined.{both_parts}
+use Rattle.link_lines_values.specs.Values.{are_fields_on_a_line}
+use Rattle.link_lines_raw.specs.declared.lists.ListedBy.TheVariants as L
+use Rattle.link_lines_raw.specs.declared.raw_tables.RawTable.{RawTable}
+use Rattle.link_lines_raw.specs.declared.rows.RawBy.TheVariants as R
+use Rattle.link_lines_raw.specs.Attributes.{after_name, are_next_hops_after, are_records_after, encapsulation, holds_lines, is_headed, is_known, is_whole, plain_bytes, record_words}
+use Rattle.link_lines_raw.specs.Coverage.{determines_raw, is_line_determined, is_line_word}
+use Rattle.link_lines_raw.specs.Lines.{Line}
+use Rattle.link_lines_raw.specs.Lists.{attributes_if_known, head_line, head_of, inside_lines, listed_in, listed_lines, shown_head, shown_list}
+use Rattle.link_lines_raw.specs.Rows.{Raw, RecordLine}
+use Rattle.link_lines_raw.proofs.Spans.{first_text}
+
+-- ---- the text after a name
+
+plain_space : (p : List ℕ) → BeginsWithSpace (plain_bytes p)
+plain_space p = refl
+
+plain_line : (p : List ℕ) → IsLine (plain_bytes p)
+plain_line p = lines_joined (codes " bytes") (bytes_text p) (is_line_checked (codes " bytes") refl) (values_are_lines.line Bytes p refl)
+
+either_space : (b : Bool) (p : List ℕ) → BeginsWithSpace (cond b [] (plain_bytes p))
+either_space true p = record {}
+either_space false p = plain_space p
+
+either_line : (b : Bool) (p : List ℕ) → IsLine (cond b [] (plain_bytes p))
+either_line true p = record {}
+either_line false p = plain_line p
+
+pub name_space : (raw : Raw) (list p : List ℕ) → BeginsWithSpace (after_name raw list p)
+unfolding after_name
+name_space (R.Value shown) list p = raw_values_determined.space shown p
+name_space (R.List table) list p = either_space _ p
+name_space (R.Encapsulation kind) list p = either_space _ p
+name_space (R.Head line table) list p = either_space _ p
+name_space (R.Hops table) list p = either_space _ p
+name_space (R.Records line) list p = either_space _ p
+
+pub name_line : (raw : Raw) (list p : List ℕ) → determines_raw raw ≡ true → IsLine (after_name raw list p)
+unfolding after_name
+name_line (R.Value shown) list p h = raw_values_determined.line shown p h
+name_line (R.List table) list p h = either_line _ p
+name_line (R.Encapsulation kind) list p h = either_line _ p
+name_line (R.Head line table) list p h = either_line _ p
+name_line (R.Hops table) list p h = either_line _ p
+name_line (R.Records line) list p h = either_line _ p
+
+-- No text after a name begins with the word ` nested`.
+not_plain : (b : Bool) (p s : List ℕ) → cond b [] (plain_bytes p) ≡ codes " nested" ++ s → ⊥
+not_plain true p s e = absurd cc
+not_plain false p s e = let second : ◌≡◌ {A = ℕ} 98 110 = ap (λ l. get_or l 1 0) e in omega arith
+
+pub unnested : (raw : Raw) (list p s : List ℕ) → determines_raw raw ≡ true → AreBytes p → BeginsWithSpace s → after_name raw list p ≡ codes " nested" ++ s → ⊥
+unfolding after_name
+unnested (R.Value shown) list p s h a b e = raw_values_determined.unnested shown p s h a b e
+unnested (R.List table) list p s h a b e = not_plain _ p s e
+unnested (R.Encapsulation kind) list p s h a b e = not_plain _ p s e
+unnested (R.Head line table) list p s h a b e = not_plain _ p s e
+unnested (R.Hops table) list p s h a b e = not_plain _ p s e
+unnested (R.Records line) list p s h a b e = not_plain _ p s e
+
+-- ---- records with a line of their own
+
+pub record LineFacts (line : RecordLine) : Type 0 where
+  pub word : is_line_word line.0 ≡ true
+  pub sizes : sizes_known line.1 ≡ true
+  pub booleans : has_no_booleans line.1 ≡ true
+  pub lines : are_fields_on_a_line line.1 ≡ true
+
+pub line_facts : (line : RecordLine) → is_line_determined line ≡ true → LineFacts line
+line_facts line h =
+    let a = and_parts (is_line_word line.0) _ h in
+    let b = and_parts (sizes_known line.1) _ a.1 in
+    let c = and_parts (has_no_booleans line.1) (are_fields_on_a_line line.1) b.1 in
+    record { word = a.0; sizes = b.0; booleans = c.0; lines = c.1 }
+
+-- The words of a record determine it.
+pub words_determined : (line : RecordLine) (p q : List ℕ) → is_line_determined line ≡ true → AreBytes p → AreBytes q → is_record line.1 p ≡ true → is_record line.1 q ≡ true → record_words line p ≡ record_words line q → p ≡ q
+words_determined line p q h a b i j e =
+    let f = line_facts line h in
+    plain_determined 32 line.1 p q f.sizes f.booleans a b i j (append_cancel_left line.0 _ _ e)
+
+-- ---- lists that are shorter
+
+-- The lines of whole lists that are shorter determine them.
+abbrev pub ShorterDetermined : ℕ → Type 0
+ShorterDetermined n = (level : ℕ) (t : RawTable) (p q : List ℕ) → length p < n → AreBytes p → AreBytes q → is_whole p ≡ true → is_whole q ≡ true →
+    listed_lines level (L.Attributes t p) p ≡ listed_lines level (L.Attributes t q) q → p ≡ q
+
+-- The lines of next hops and of records determine them.
+abbrev pub HopsDetermined : ℕ → Type 0
+HopsDetermined n = (level : ℕ) (t : RawTable) (p q : List ℕ) → length p < n → AreBytes p → AreBytes q → are_next_hops_after 0 p ≡ true → are_next_hops_after 0 q ≡ true →
+    listed_lines level (L.NextHops t) p ≡ listed_lines level (L.NextHops t) q → p ≡ q
+
+abbrev pub RecordsDetermined : Type 0
+RecordsDetermined = (level : ℕ) (line : RecordLine) (p q : List ℕ) → determines_raw (R.Records line) ≡ true → AreBytes p → AreBytes q → are_records_after line.1 0 p ≡ true → are_records_after line.1 0 q ≡ true →
+    listed_lines level (L.Records line) p ≡ listed_lines level (L.Records line) q → p ≡ q
+
+-- ---- payloads
+
+-- The lines below an attribute's line.
+abbrev pub below : ℕ → Raw → List ℕ → List ℕ → List Line
+below level raw list p = head_line level (shown_head raw list p) ++ inside_lines level (shown_list raw list p)
+
+-- The lines of a payload that is shown in lines.
+abbrev inside : ℕ → Raw → List ℕ → List ℕ → List Line
+inside level raw list p = head_line level (head_of raw p) ++ inside_lines level (listed_in raw list p)
+
+below_is : (level : ℕ) (raw : Raw) (list p : List ℕ) → holds_lines raw list p ≡ true → below level raw list p ≡ inside level raw list p
+below_is level raw list p h = ap (λ b. head_line level (cond b (head_of raw p) None) ++ inside_lines level (cond b (listed_in raw list p) None)) h
+
+-- Two lists have the same table of what a row encapsulates.
+abbrev pub SameTypes : Raw → List ℕ → List ℕ → Type 0
+SameTypes raw w v = (k : ℕ) → raw ≡ R.Encapsulation k → encapsulation k w ≡ encapsulation k v
+
+either_by : (b c : Bool) (p q : List ℕ) → AreBytes p → AreBytes q → (b ≡ true → c ≡ true → p ≡ q) → cond b [] (plain_bytes p) ≡ cond c [] (plain_bytes q) → p ≡ q
+either_by true true p q a d h e = h refl refl
+either_by true false p q a d h e = absurd cc
+either_by false true p q a d h e = absurd cc
+either_by false false p q a d h e = bytes_determined.bytes p q a d (ap (drop 6) e)
+
+-- What follows the name of a payload that may be shown in lines.
+either : (raw : Raw) (level : ℕ) (w v p q : List ℕ) → AreBytes p → AreBytes q → (holds_lines raw w p ≡ true → holds_lines raw v q ≡ true → inside level raw w p ≡ inside level raw v q → p ≡ q) →
+    cond (holds_lines raw w p) [] (plain_bytes p) ≡ cond (holds_lines raw v q) [] (plain_bytes q) → below level raw w p ≡ below level raw v q → p ≡ q
+either raw level w v p q a b h e under =
+    either_by (holds_lines raw w p) (holds_lines raw v q) p q a b
+    (λ i j. h i j (sym (below_is level raw w p i) ∙ under ∙ below_is level raw v q j)) e
+
+module _ (n : ℕ) (lists : ShorterDetermined n) (hops : HopsDetermined n) (records : RecordsDetermined) where
+  known : (level : ℕ) (p q : List ℕ) (o : Option RawTable) → length p < n → AreBytes p → AreBytes q → (is_known o && is_whole p) ≡ true → (is_known o && is_whole q) ≡ true →
+      inside_lines level (attributes_if_known o p) ≡ inside_lines level (attributes_if_known o q) → p ≡ q
+  known level p q None l a b h i e = absurd cc
+  known level p q (Some t) l a b h i e = lists level t p q l a b h i e
+
+  headed : (level : ℕ) (line : RecordLine) (t : RawTable) (p q : List ℕ) → is_line_determined line ≡ true → length p < n → AreBytes p → AreBytes q → is_headed line p ≡ true → is_headed line q ≡ true →
+      (level, record_words line (take (total_size line.1) p)) ∷ listed_lines level (L.Attributes t (drop (total_size line.1) p)) (drop (total_size line.1) p)
+      ≡ (level, record_words line (take (total_size line.1) q)) ∷ listed_lines level (L.Attributes t (drop (total_size line.1) q)) (drop (total_size line.1) q) → p ≡ q
+  headed level line t p q d l a b h i e =
+      let m = total_size line.1 in
+      let x = and_parts (nat_le m (length p)) _ h in
+      let y = and_parts (nat_le m (length q)) _ i in
+      let r = and_parts (is_record line.1 (take m p)) (is_whole (drop m p)) x.1 in
+      let s = and_parts (is_record line.1 (take m q)) (is_whole (drop m q)) y.1 in
+      let words : record_words line (take m p) ≡ record_words line (take m q) = ap first_text e in
+      both_parts m p q (words_determined line (take m p) (take m q) d (AreBytes-take m p a) (AreBytes-take m q b) r.0 s.0 words)
+      (lists level t (drop m p) (drop m q) (omega (arith, length-drop m p, l)) (AreBytes-drop m p a) (AreBytes-drop m q b) r.1 s.1 (ap (drop 1) e))
+
+  pub payload_determined : (level : ℕ) (raw : Raw) (w v p q : List ℕ) → determines_raw raw ≡ true → length p < n → AreBytes p → AreBytes q → SameTypes raw w v → after_name raw w p ≡ after_name raw v q → below level raw w p ≡ below level raw v q → p ≡ q
+  unfolding after_name
+  payload_determined level (R.Value shown) w v p q d l a b t e under = raw_values_determined.determined shown p q d a b e
+  payload_determined level (R.List table) w v p q d l a b t e under = either (R.List table) level w v p q a b (λ i j u. lists level table p q l a b i j u) e under
+  payload_determined level (R.Encapsulation kind) w v p q d l a b t e under =
+      either (R.Encapsulation kind) level w v p q a b
+      (λ i j u. known level p q (encapsulation kind w) l a b i (ap (λ o. is_known o && is_whole q) (t kind refl) ∙ j) (u ∙ ap (λ o. inside_lines level (attributes_if_known o q)) (sym (t kind refl)))) e under
+  payload_determined level (R.Head line table) w v p q d l a b t e under = either (R.Head line table) level w v p q a b (λ i j u. headed level line table p q d l a b i j u) e under
+  payload_determined level (R.Hops table) w v p q d l a b t e under = either (R.Hops table) level w v p q a b (λ i j u. hops level table p q l a b i j u) e under
+  payload_determined level (R.Records line) w v p q d l a b t e under = either (R.Records line) level w v p q a b (λ i j u. records level line p q d a b i j u) e under

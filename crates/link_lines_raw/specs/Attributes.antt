@@ -1,0 +1,210 @@
+-- Raw attributes: the row of a kind, whole lists, and what of a payload is shown.
+use Rattle.std.specs.Prelude.{ℕ, zero, suc, ◌-◌, ◌/◌, ◌%◌, ◌==◌, ◌&&◌, not, nat_le, Bool, true, false, cond, List}
+use Rattle.std.specs.Prelude.{[], ◌∷◌, ◌++◌, length, take, drop, Option, Some, None, codes, option_map}
+use Rattle.std.specs.Fmt.{decimal}
+use Rattle.netlink_packet_core_grammar.specs.Attributes.{Attribute, attribute_length, first_attribute, nla_align}
+use Rattle.netlink_packet_core_grammar.specs.Numbers.{u16_at}
+use Rattle.link_lines_values.specs.declared.exact.ExactBy.TheVariants as X
+use Rattle.link_lines_values.specs.Bytes.{bytes_text, is_zero}
+use Rattle.link_lines_values.specs.Digits.{four_digits}
+use Rattle.link_lines_values.specs.DenseRows.{find}
+use Rattle.link_lines_values.specs.Exact.{raw_value}
+use Rattle.link_lines_values.specs.Records.{Field, fields_text, is_record, total_size}
+use Rattle.link_lines_values.specs.declared.values.ShownBy.TheVariants as V
+use Rattle.link_lines_raw.specs.declared.raw_tables.RawTable.{RawTable}
+use Rattle.link_lines_raw.specs.declared.raw_tables.TheConstants.{ACTION, ENCAP_BPF, ENCAP_ILA, ENCAP_IOAM6, ENCAP_IP}
+use Rattle.link_lines_raw.specs.declared.raw_tables.TheConstants.{ENCAP_IP6, ENCAP_MPLS, ENCAP_RPL, ENCAP_SEG6}
+use Rattle.link_lines_raw.specs.declared.raw_tables.TheConstants.{ENCAP_SEG6_LOCAL, ENCAP_XFRM, INDEXED_ACTION}
+use Rattle.link_lines_raw.specs.declared.raw_tables.TheConstants.{INDEXED_IPV4, INDEXED_IPV6}
+use Rattle.link_lines_raw.specs.declared.records.TheConstants.{RTNEXTHOP_LINE}
+use Rattle.link_lines_raw.specs.declared.rows.RawBy.TheVariants as R
+use Rattle.link_lines_raw.specs.Names.{Named}
+use Rattle.link_lines_raw.specs.Rows.{Raw, RecordLine, record_line_of}
+use Rattle.link_lines_raw.specs.Tables.{raw_rows_of}
+
+-- ---- rows
+
+-- Whether a kind has the flag bit 0x4000 (netlink.h, NLA_F_NET_BYTEORDER).
+abbrev pub has_byte_order_bit : ℕ → Bool
+has_byte_order_bit kind = kind / 0x4000 % 2 == 1
+
+-- Whether a kind has the flag bit 0x8000 (netlink.h, NLA_F_NESTED).
+abbrev pub has_nested_bit : ℕ → Bool
+has_nested_bit kind = kind / 0x8000 % 2 == 1
+
+-- What an attribute holds in a table in which each kind is an index.
+abbrev pub indexed_row : RawTable → Option Raw
+indexed_row table =
+    cond (table.0 == INDEXED_IPV4.0) (Some (R.Value (X.Sized 4 V.Address)))
+    (cond (table.0 == INDEXED_IPV6.0) (Some (R.Value (X.Sized 16 V.Address)))
+    (cond (table.0 == INDEXED_ACTION.0) (Some (R.List ACTION)) None))
+
+-- The name of an index, as in `[3]`.
+abbrev pub index_name : ℕ → List ℕ
+index_name kind = codes "[" ++ (decimal kind ++ codes "]")
+
+-- The row that is given, or else the index's.
+abbrev pub row_or_index : ℕ → Option (Named Raw) → Option Raw → Option (Named Raw)
+row_or_index kind (Some row) indexed = Some row
+row_or_index kind None indexed = option_map (λ raw. (index_name kind, raw)) indexed
+
+-- The row of a kind without flag bits.
+unfoldable pub proper_row : RawTable → ℕ → Option (Named Raw)
+proper_row table kind = row_or_index kind (find kind (raw_rows_of table.0)) (indexed_row table)
+
+-- The row of a kind; none if it has the bit 0x4000.
+unfoldable pub raw_row : RawTable → ℕ → Option (Named Raw)
+raw_row table kind = cond (has_byte_order_bit kind) None (proper_row table (kind % 0x4000))
+
+-- ---- whole lists
+
+-- Whether the attribute of this length at the start of the bytes is followed by its whole padding, all zeros.
+abbrev pub is_padded : ℕ → List ℕ → Bool
+is_padded n bytes = nat_le (nla_align n) (length bytes) && is_zero (drop n (take (nla_align n) bytes))
+
+-- Whether there is an attribute, and it is padded at the start of the bytes.
+abbrev pub is_whole_attribute : Option (Attribute × List ℕ) → List ℕ → Bool
+is_whole_attribute None bytes = false
+is_whole_attribute (Some x) bytes = is_padded (attribute_length x.0) bytes
+
+-- The length of an attribute with its padding.
+abbrev pub padded_length : Option (Attribute × List ℕ) → ℕ
+padded_length None = 0
+padded_length (Some x) = nla_align (attribute_length x.0)
+
+-- Whether the bytes after the first `skip` are attributes up to the end, each with its padding of zeros.
+unfoldable pub is_whole_after : ℕ → List ℕ → Bool
+is_whole_after skip [] = true
+is_whole_after (suc skip) (b ∷ bytes) = is_whole_after skip bytes
+is_whole_after zero (b ∷ bytes) =
+    is_whole_attribute (first_attribute (b ∷ bytes)) (b ∷ bytes) &&
+    is_whole_after (padded_length (first_attribute (b ∷ bytes)) - 1) bytes
+
+-- Whether the bytes are attributes up to the end, each with its padding of zeros.
+abbrev pub is_whole : List ℕ → Bool
+is_whole bytes = is_whole_after 0 bytes
+
+-- ---- encapsulations
+
+-- Whether an attribute is the type of an encapsulation: of this kind, with or without the nested bit, and 2 bytes.
+abbrev pub is_type : ℕ → Attribute → Bool
+is_type kind e = not (has_byte_order_bit e.kind) && ((e.kind % 0x4000 == kind) && (length e.payload == 2))
+
+-- The number in the first attribute if it is the type of an encapsulation, or else the other number.
+abbrev pub type_or : ℕ → Option (Attribute × List ℕ) → Option ℕ → Option ℕ
+type_or kind None more = None
+type_or kind (Some x) more = cond (is_type kind x.0) (Some (u16_at 0 x.0.payload)) more
+
+-- The type of encapsulation in the bytes after the first `skip`, in the first attribute that is one.
+unfoldable pub type_after : ℕ → ℕ → List ℕ → Option ℕ
+type_after kind skip [] = None
+type_after kind (suc skip) (b ∷ bytes) = type_after kind skip bytes
+type_after kind zero (b ∷ bytes) =
+    type_or kind (first_attribute (b ∷ bytes)) (type_after kind (padded_length (first_attribute (b ∷ bytes)) - 1) bytes)
+
+-- The table of a type of encapsulation (lwtunnel.h, LWTUNNEL_ENCAP_*), if it has one.
+abbrev pub encapsulation_table : ℕ → Option RawTable
+encapsulation_table n =
+    cond (n == 1) (Some ENCAP_MPLS) (cond (n == 2) (Some ENCAP_IP) (cond (n == 3) (Some ENCAP_ILA)
+    (cond (n == 4) (Some ENCAP_IP6) (cond (n == 5) (Some ENCAP_SEG6) (cond (n == 6) (Some ENCAP_BPF)
+    (cond (n == 7) (Some ENCAP_SEG6_LOCAL) (cond (n == 8) (Some ENCAP_RPL) (cond (n == 9) (Some ENCAP_IOAM6)
+    (cond (n == 10) (Some ENCAP_XFRM) None)))))))))
+
+-- The table of a type of encapsulation, if there is a type.
+abbrev pub type_table : Option ℕ → Option RawTable
+type_table None = None
+type_table (Some n) = encapsulation_table n
+
+-- The table of what is encapsulated, by the attribute of this kind in the same list.
+unfoldable pub encapsulation : ℕ → List ℕ → Option RawTable
+encapsulation kind list = type_table (type_after kind 0 list)
+
+-- Whether there is a table.
+abbrev pub is_known : Option RawTable → Bool
+is_known None = false
+is_known (Some table) = true
+
+-- ---- next hops and records
+
+-- The record of a next hop's line.
+unfoldable pub next_hop_line : RecordLine
+next_hop_line = record_line_of (λ n. n.now) (λ t. t.now) (λ r. r.now) RTNEXTHOP_LINE
+
+-- The line of a record: its word, and its fields.
+abbrev pub record_words : RecordLine → List ℕ → List ℕ
+record_words line bytes = line.0 ++ fields_text 32 false line.1 bytes
+
+-- Whether bytes of this size are a whole next hop (rtnetlink.h, struct rtnexthop): after its length, the rest of the
+-- struct, and attributes up to the length.
+abbrev pub is_hop_of : ℕ → List ℕ → Bool
+is_hop_of size bytes = is_record next_hop_line.1 (take 6 (drop 2 bytes)) && is_whole (take (size - 8) (drop 8 bytes))
+
+-- Whether bytes begin with a whole next hop: first its length in bytes, little-endian.
+abbrev pub is_next_hop : List ℕ → Bool
+is_next_hop bytes =
+    nat_le 8 (length bytes) && (nat_le 8 (u16_at 0 bytes) && (nat_le (u16_at 0 bytes) (length bytes) &&
+    is_hop_of (u16_at 0 bytes) bytes))
+
+-- Whether the bytes after the first `skip` are whole next hops up to the end.
+unfoldable pub are_next_hops_after : ℕ → List ℕ → Bool
+are_next_hops_after skip [] = true
+are_next_hops_after (suc skip) (b ∷ bytes) = are_next_hops_after skip bytes
+are_next_hops_after zero (b ∷ bytes) =
+    is_next_hop (b ∷ bytes) && are_next_hops_after (u16_at 0 (b ∷ bytes) - 1) bytes
+
+-- Whether bytes begin with a record that has a line of its own.
+abbrev pub is_first_record : List Field → List ℕ → Bool
+is_first_record fields bytes =
+    nat_le 1 (total_size fields) && (nat_le (total_size fields) (length bytes) &&
+    is_record fields (take (total_size fields) bytes))
+
+-- Whether the bytes after the first `skip` are records up to the end.
+unfoldable pub are_records_after : List Field → ℕ → List ℕ → Bool
+are_records_after fields skip [] = true
+are_records_after fields (suc skip) (b ∷ bytes) = are_records_after fields skip bytes
+are_records_after fields zero (b ∷ bytes) =
+    is_first_record fields (b ∷ bytes) && are_records_after fields (total_size fields - 1) bytes
+
+-- ---- payloads
+
+-- Whether bytes are a record, followed by a whole list.
+abbrev pub is_headed : RecordLine → List ℕ → Bool
+is_headed line bytes =
+    nat_le (total_size line.1) (length bytes) && (is_record line.1 (take (total_size line.1) bytes) &&
+    is_whole (drop (total_size line.1) bytes))
+
+-- Whether a payload of a list, next hops or records is exactly that; `list` is the list that the attribute is in.
+abbrev pub holds_lines : Raw → List ℕ → List ℕ → Bool
+holds_lines (R.Value shown) list bytes = false
+holds_lines (R.List table) list bytes = is_whole bytes
+holds_lines (R.Encapsulation kind) list bytes = is_known (encapsulation kind list) && is_whole bytes
+holds_lines (R.Head line table) list bytes = is_headed line bytes
+holds_lines (R.Hops table) list bytes = are_next_hops_after 0 bytes
+holds_lines (R.Records line) list bytes = are_records_after line.1 0 bytes
+
+-- The word `bytes` and the bytes in hex.
+abbrev pub plain_bytes : List ℕ → List ℕ
+plain_bytes bytes = codes " bytes" ++ bytes_text bytes
+
+-- What follows an attribute's name on the same line: a value, or nothing if lines below show the payload, or else the
+-- bytes.
+unfoldable pub after_name : Raw → List ℕ → List ℕ → List ℕ
+after_name (R.Value shown) list bytes = raw_value shown bytes
+after_name raw list bytes = cond (holds_lines raw list bytes) [] (plain_bytes bytes)
+
+-- The word ` nested` for a kind with the nested bit.
+abbrev pub nested_word : ℕ → List ℕ
+nested_word kind = cond (has_nested_bit kind) (codes " nested") []
+
+-- A kind as a number, and the bytes of a payload.
+abbrev pub unnamed_text : ℕ → List ℕ → List ℕ
+unnamed_text kind bytes = codes "kind " ++ (four_digits kind ++ bytes_text bytes)
+
+-- The text of an attribute's line: its name, or its kind as a number and the bytes.
+abbrev pub named_text : Option (Named Raw) → List ℕ → Attribute → List ℕ
+named_text None list e = unnamed_text e.kind e.payload
+named_text (Some row) list e = row.0 ++ (nested_word e.kind ++ after_name row.1 list e.payload)
+
+-- The text of the line of a raw attribute in a table; `list` is the list that it is in.
+unfoldable pub raw_text : RawTable → List ℕ → Attribute → List ℕ
+raw_text table list e = named_text (raw_row table e.kind) list e

@@ -1,0 +1,10 @@
+pub mod Names
+pub mod Rows
+pub mod Tables
+pub mod Lines
+pub mod Attributes
+pub mod Lists
+pub mod Views
+pub mod Bodies
+pub mod Coverage
+pub mod Laws

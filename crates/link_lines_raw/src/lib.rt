@@ -1,0 +1,26 @@
+// Raw attributes, which a normal text keeps as bytes, and bodies of messages other than links: as
+// lines, one for each attribute, if the lines determine every byte.
+#![tactic(auto)]
+
+mod bodies;
+mod bridge_rows;
+mod cfm_rows;
+mod flags;
+mod kind_rows;
+pub mod laws;
+mod link_rows;
+mod lists;
+mod multicast_rows;
+mod neighbour_rows;
+mod number_texts;
+mod raw;
+pub mod raw_tables;
+pub mod records;
+mod route_rows;
+mod rows;
+mod traffic_rows;
+
+pub use bodies::push_body;
+pub use raw::{push_held, push_raw};
+pub use raw_tables::RawTable;
+pub use rows::{Raw, RawBy};

@@ -1,0 +1,234 @@
+//! Whole lists of attributes, next hops and records, which lines can determine.
+
+ghost use Rattle.std.specs.Prelude.{◌≡◌, ◌≤◌, length, take, drop, option_map};
+ghost use Rattle.netlink_packet_core_grammar.specs.Attributes.{first_attribute};
+ghost use Rattle.link_interpreter.specs.Sameness.{attribute_of};
+ghost use Rattle.link_lines_values.specs.Records.{fields_of};
+ghost use Rattle.link_lines_raw.specs.Attributes.{are_next_hops_after, are_records_after, encapsulation, encapsulation_table, has_byte_order_bit, has_nested_bit};
+ghost use Rattle.link_lines_raw.specs.Attributes.{is_first_record, is_hop_of, is_next_hop, is_padded, is_type, is_whole, type_after};
+ghost use Rattle.link_lines_raw.specs.Lists.{first_part};
+ghost use Rattle.link_lines_raw.specs.Views.{listed_of};
+
+use crate::raw_tables::{
+    ENCAP_BPF, ENCAP_ILA, ENCAP_IOAM6, ENCAP_IP, ENCAP_IP6, ENCAP_MPLS, ENCAP_RPL, ENCAP_SEG6,
+    ENCAP_SEG6_LOCAL, ENCAP_XFRM, RawTable,
+};
+use crate::records::RTNEXTHOP;
+use crate::rows::RecordLine;
+use link_interpreter::{Attribute, KIND_BOUND, first_attribute};
+use link_lines_values::{Field, is_record, is_zero, record_size};
+use netlink_packet_core_attributes::view::read_u16;
+
+/// The size in bytes of the struct at the start of a next hop (rtnetlink.h: struct rtnexthop).
+pub(crate) const NEXT_HOP_LEN: usize = 8;
+
+/// The flag bit of a kind that holds attributes (netlink.h: NLA_F_NESTED).
+const NESTED_BIT: u16 = 0x8000;
+
+/// The flag bit of a kind that holds a big-endian number (netlink.h: NLA_F_NET_BYTEORDER).
+const BYTE_ORDER_BIT: u16 = 0x4000;
+
+/// What is listed, with bytes of type `B` and records of type `L`.
+#[derive(Clone, Copy)]
+pub enum ListedBy<B, L> {
+    /// Attributes of that table, in that list.
+    Attributes(RawTable, B),
+    /// Next hops, each with attributes of that table.
+    NextHops(RawTable),
+    /// Records.
+    Records(L),
+}
+
+/// What is listed.
+pub type Listed<'a> = ListedBy<&'a [u8], RecordLine>;
+
+/// Returns whether a kind has the flag bit NLA_F_NESTED.
+pub(crate) fn has_nested_bit(kind: u16) -> bool
+    ensures { result ≡ has_nested_bit kind }
+{
+    kind / NESTED_BIT % 2 == 1
+}
+
+/// Returns whether a kind has the flag bit NLA_F_NET_BYTEORDER.
+pub(crate) fn has_byte_order_bit(kind: u16) -> bool
+    ensures { result ≡ has_byte_order_bit kind }
+{
+    kind / BYTE_ORDER_BIT % 2 == 1
+}
+
+/// Returns whether the attribute of this length at the start of the bytes is followed by its whole
+/// padding, all zeros.
+#[tactic(auto, using(crate::proofs::Whole::cut_part))]
+fn is_padded(size: usize, bytes: &[u8]) -> bool
+    requires { size ≤ length bytes.now }
+    ensures { result ≡ is_padded size bytes.now }
+{
+    let end = (size + 3) / 4 * 4;
+    end <= bytes.len() && is_zero(&bytes[size..end])
+}
+
+/// Returns whether the bytes are attributes up to the end, each with its padding of zeros.
+pub(crate) fn is_whole(bytes: &[u8]) -> bool
+    ensures { result ≡ is_whole bytes.now }
+{
+    let mut rest = bytes;
+    while !rest.is_empty() {
+        let Some((attribute, after)) = first_attribute(rest) else {
+            return false;
+        };
+        if !is_padded(4 + attribute.payload.len(), rest) {
+            return false;
+        }
+        rest = after;
+    }
+    true
+}
+
+/// Returns whether an attribute is the type of an encapsulation, in an attribute of this kind.
+fn is_type(kind: u16, attribute: Attribute<'_>) -> bool
+    ensures { result ≡ is_type kind (attribute_of attribute.entry) }
+{
+    !has_byte_order_bit(attribute.kind)
+        && attribute.kind % KIND_BOUND == kind
+        && attribute.payload.len() == 2
+}
+
+/// Returns the type of encapsulation that the first attribute of this kind and 2 bytes holds.
+fn encapsulation_type(kind: u16, list: &[u8]) -> Option<u16>
+    ensures { result ≡ type_after kind 0 list.now }
+{
+    let mut rest = list;
+    while let Some((attribute, after)) = first_attribute(rest) {
+        if is_type(kind, attribute) {
+            return Some(read_u16(attribute.payload, 0));
+        }
+        rest = after;
+    }
+    None
+}
+
+/// Returns the table of a type of encapsulation (lwtunnel.h: LWTUNNEL_ENCAP_*).
+fn encapsulation_table(encapsulation: u16) -> Option<RawTable>
+    ensures { result ≡ encapsulation_table encapsulation }
+{
+    match encapsulation {
+        1 => Some(ENCAP_MPLS),
+        2 => Some(ENCAP_IP),
+        3 => Some(ENCAP_ILA),
+        4 => Some(ENCAP_IP6),
+        5 => Some(ENCAP_SEG6),
+        6 => Some(ENCAP_BPF),
+        7 => Some(ENCAP_SEG6_LOCAL),
+        8 => Some(ENCAP_RPL),
+        9 => Some(ENCAP_IOAM6),
+        10 => Some(ENCAP_XFRM),
+        _ => None,
+    }
+}
+
+/// Returns the table of what is encapsulated, by the attribute of this kind in the same list.
+#[tactic(auto, unfolding(crate::specs::Attributes::encapsulation))]
+pub(crate) fn encapsulation(kind: u16, list: &[u8]) -> Option<RawTable>
+    ensures { result ≡ encapsulation kind list.now }
+{
+    match encapsulation_type(kind, list) {
+        Some(encapsulation) => encapsulation_table(encapsulation),
+        None => None,
+    }
+}
+
+/// Returns whether bytes of this size are a whole next hop.
+#[tactic(auto, unfolding(crate::specs::Attributes::next_hop_line))]
+fn is_hop_of(size: usize, bytes: &[u8]) -> bool
+    requires low { 8 ≤ size }
+    requires high { size ≤ length bytes.now }
+    ensures { result ≡ is_hop_of size bytes.now }
+{
+    is_record(RTNEXTHOP, &bytes[2..NEXT_HOP_LEN]) && is_whole(&bytes[NEXT_HOP_LEN..size])
+}
+
+/// Returns whether bytes begin with a whole next hop.
+fn is_next_hop(bytes: &[u8]) -> bool
+    ensures { result ≡ is_next_hop bytes.now }
+{
+    if bytes.len() < NEXT_HOP_LEN {
+        return false;
+    }
+    let size = read_u16(bytes, 0) as usize;
+    if size < NEXT_HOP_LEN || size > bytes.len() {
+        return false;
+    }
+    is_hop_of(size, bytes)
+}
+
+/// Returns whether bytes are next hops up to the end.
+pub(crate) fn are_next_hops(bytes: &[u8]) -> bool
+    ensures { result ≡ are_next_hops_after 0 bytes.now }
+{
+    let mut rest = bytes;
+    while !rest.is_empty() {
+        if !is_next_hop(rest) {
+            return false;
+        }
+        let (_, after) = rest.split_at(read_u16(rest, 0) as usize);
+        rest = after;
+    }
+    true
+}
+
+/// Returns whether bytes begin with a record that has these fields.
+fn is_first_record(fields: &[Field], bytes: &[u8]) -> bool
+    ensures { result ≡ is_first_record (fields_of (λ b. b.now) (λ t. t.now) fields.now) bytes.now }
+{
+    let size = record_size(fields);
+    1 <= size && size <= bytes.len() && is_record(fields, &bytes[..size])
+}
+
+/// Returns whether bytes are records with these fields up to the end.
+pub(crate) fn are_records(fields: &[Field], bytes: &[u8]) -> bool
+    ensures { result ≡ are_records_after (fields_of (λ b. b.now) (λ t. t.now) fields.now) 0 bytes.now }
+{
+    let size = record_size(fields);
+    let mut rest = bytes;
+    while !rest.is_empty() {
+        if !is_first_record(fields, rest) {
+            return false;
+        }
+        let (_, after) = rest.split_at(size);
+        rest = after;
+    }
+    true
+}
+
+/// Returns the first `size` bytes as a part of kind 0, and the bytes after them.
+fn first_bytes(size: usize, bytes: &[u8]) -> (Attribute<'_>, &[u8])
+    requires { size ≤ length bytes.now }
+    ensures payload { result.0.payload.now ≡ take size bytes.now }
+    ensures kind { result.0.kind ≡ 0 }
+    ensures following { result.1.now ≡ drop size bytes.now }
+{
+    let (payload, after) = bytes.split_at(size);
+    (Attribute { kind: 0, payload }, after)
+}
+
+/// Returns the first part of what is listed, and the bytes after it: an attribute, a next hop, or a
+/// record. Next hops and records have the kind 0.
+#[tactic(auto, unfolding(crate::specs::Lists::first_part))]
+pub(crate) fn first_part<'a>(
+    listed: Listed<'_>,
+    bytes: &'a [u8],
+) -> Option<(Attribute<'a>, &'a [u8])>
+    ensures first { first_part (listed_of (λ b. b.now) (λ t. t.now) (λ r. r.now) listed.entry) bytes.now
+        ≡ option_map (λ r. (attribute_of r.0, r.1.now)) result }
+{
+    match listed {
+        ListedBy::Attributes(_, _) => first_attribute(bytes),
+        ListedBy::NextHops(_) if is_next_hop(bytes) => {
+            Some(first_bytes(read_u16(bytes, 0) as usize, bytes))
+        }
+        ListedBy::Records(line) if is_first_record(line.1, bytes) => {
+            Some(first_bytes(record_size(line.1), bytes))
+        }
+        _ => None,
+    }
+}

@@ -1,0 +1,402 @@
+//! The rows of raw attributes by table and kind, and their lines.
+
+ghost use Rattle.std.specs.Prelude.{◌≡◌, ◌<◌, ◌+◌, ◌%◌, ◌^◌, ◌++◌, ◌∷◌, [], true, length, option_map, IfOk, OnOk};
+ghost use Rattle.link_interpreter.specs.Sameness.{attribute_of};
+ghost use Rattle.link_lines_values.specs.DenseRows.{are_dense, find};
+ghost use Rattle.link_lines_values.specs.Indents.{indent};
+ghost use Rattle.link_lines_values.specs.Records.{fields_of, total_size};
+ghost use Rattle.link_lines_raw.specs.Attributes.{after_name, holds_lines, index_name, indexed_row, is_headed, nested_word, plain_bytes};
+ghost use Rattle.link_lines_raw.specs.Attributes.{proper_row, raw_row, raw_text, record_words, unnamed_text};
+ghost use Rattle.link_lines_raw.specs.Lines.{line_text, lines_text};
+ghost use Rattle.link_lines_raw.specs.Lists.{head_of, head_text, held_lines, is_part, listed_in, listed_lines, named_head, named_list};
+ghost use Rattle.link_lines_raw.specs.Lists.{part_list, part_with_head, raw_below, shown_head, shown_list};
+ghost use Rattle.link_lines_raw.specs.Names.{named_of};
+ghost use Rattle.link_lines_raw.specs.Rows.{raw_of, raw_rows_in_code, record_line_of};
+ghost use Rattle.link_lines_raw.specs.Tables.{raw_rows_of};
+ghost use Rattle.link_lines_raw.specs.Views.{found_row, listed_of, listing, name_or_index};
+
+use crate::lists::{
+    Listed, ListedBy, NEXT_HOP_LEN, are_next_hops, are_records, encapsulation, first_part,
+    has_byte_order_bit, has_nested_bit, is_whole,
+};
+use crate::raw_tables::{
+    ACTION, ADDRESS, BRIDGE, CFM, INDEXED_ACTION, INDEXED_IPV4, INDEXED_IPV6, MULTICAST, NEIGHBOUR,
+    RawTable, TRAFFIC_CONTROL, VLAN,
+};
+use crate::records::RTNEXTHOP_LINE;
+use crate::rows::{Raw, RawBy, RawName, RawRow, RecordLine};
+use crate::{
+    bridge_rows, cfm_rows, kind_rows, link_rows, multicast_rows, neighbour_rows, route_rows,
+    traffic_rows,
+};
+use link_interpreter::{Attribute, KIND_BOUND};
+use link_lines_values::{
+    ExactBy, ShownBy, is_record, look_up, push_bytes, push_decimal, push_four_digits,
+    push_header_fields, push_indent, push_raw_value, record_size,
+};
+use std::alloc::AllocError;
+
+/// Returns the rows of a table.
+#[tactic(auto, unfolding(crate::specs::Tables::raw_rows_of))]
+fn raw_rows(table: RawTable) -> &'static [RawRow]
+    ensures rows { raw_rows_in_code (λ b. b.now) (λ t. t.now) (λ r. r.now) result.now ≡ raw_rows_of table.0 }
+    ensures dense { are_dense result.now ≡ true }
+{
+    let index = table.0;
+    if index < VLAN.0 {
+        link_rows::rows(index)
+    } else if index < BRIDGE.0 {
+        kind_rows::rows(index - VLAN.0)
+    } else if index < CFM.0 {
+        bridge_rows::rows(index - BRIDGE.0)
+    } else if index < ADDRESS.0 {
+        cfm_rows::rows(index - CFM.0)
+    } else if index < NEIGHBOUR.0 {
+        route_rows::rows(index - ADDRESS.0)
+    } else if index < TRAFFIC_CONTROL.0 {
+        neighbour_rows::rows(index - NEIGHBOUR.0)
+    } else if index < MULTICAST.0 {
+        traffic_rows::rows(index - TRAFFIC_CONTROL.0)
+    } else {
+        multicast_rows::rows(index - MULTICAST.0)
+    }
+}
+
+/// Returns what an attribute holds in a table in which each kind is an index.
+fn indexed_row(table: RawTable) -> Option<Raw>
+    ensures { option_map (raw_of (λ b. b.now) (λ t. t.now) (λ r. r.now)) result ≡ indexed_row table }
+{
+    const IPV4: u8 = INDEXED_IPV4.0;
+    const IPV6: u8 = INDEXED_IPV6.0;
+    const ACTIONS: u8 = INDEXED_ACTION.0;
+    match table.0 {
+        IPV4 => Some(RawBy::Value(ExactBy::Sized(4, ShownBy::Address))),
+        IPV6 => Some(RawBy::Value(ExactBy::Sized(16, ShownBy::Address))),
+        ACTIONS => Some(RawBy::List(ACTION)),
+        _ => None,
+    }
+}
+
+/// The row of a kind: its name, or none if the kind is an index; and what the payload holds.
+type FoundRow = (Option<&'static [u8]>, Raw);
+
+/// Returns the name of a kind without flag bits in a table, and what its payload holds.
+fn listed_row(table: RawTable, kind: u16) -> Option<RawName>
+    ensures { option_map (named_of (λ b. b.now) (raw_of (λ b. b.now) (λ t. t.now) (λ r. r.now))) result
+        ≡ find kind (raw_rows_of table.0) }
+{
+    look_up(raw_rows(table), kind)
+}
+
+/// Returns the row of a kind without flag bits.
+#[tactic(auto, unfolding(crate::specs::Attributes::proper_row))]
+fn proper_row(table: RawTable, kind: u16) -> Option<FoundRow>
+    ensures { option_map (found_row (λ b. b.now) (raw_of (λ b. b.now) (λ t. t.now) (λ r. r.now)) kind) result
+        ≡ proper_row table kind }
+{
+    if let Some((name, raw)) = listed_row(table, kind) {
+        return Some((Some(name), raw));
+    }
+    match indexed_row(table) {
+        Some(raw) => Some((None, raw)),
+        None => None,
+    }
+}
+
+/// Returns the row of a kind; none if it has the bit NLA_F_NET_BYTEORDER.
+#[tactic(auto, unfolding(crate::specs::Attributes::raw_row))]
+fn raw_row(table: RawTable, kind: u16) -> Option<FoundRow>
+    ensures { option_map (found_row (λ b. b.now) (raw_of (λ b. b.now) (λ t. t.now) (λ r. r.now)) (kind % 0x4000)) result
+        ≡ raw_row table kind }
+{
+    if has_byte_order_bit(kind) {
+        return None;
+    }
+    proper_row(table, kind % KIND_BOUND)
+}
+
+/// Returns whether a payload of a list, next hops or records is exactly that.
+fn holds_lines(raw: Raw, list: &[u8], payload: &[u8]) -> bool
+    ensures { result
+        ≡ holds_lines (raw_of (λ b. b.now) (λ t. t.now) (λ r. r.now) raw.entry) list.now payload.now }
+{
+    match raw {
+        RawBy::Value(_) => false,
+        RawBy::List(_) => is_whole(payload),
+        RawBy::Encapsulation(kind) => encapsulation(kind, list).is_some() && is_whole(payload),
+        RawBy::Head(line, _) => starts_with_record(line, payload),
+        RawBy::Hops(_) => are_next_hops(payload),
+        RawBy::Records(line) => are_records(line.1, payload),
+    }
+}
+
+/// Returns whether bytes are a record, followed by a whole list.
+fn starts_with_record(line: RecordLine, bytes: &[u8]) -> bool
+    ensures { result
+        ≡ is_headed (record_line_of (λ b. b.now) (λ t. t.now) (λ r. r.now) line.entry) bytes.now }
+{
+    let size = record_size(line.1);
+    size <= bytes.len() && is_record(line.1, &bytes[..size]) && is_whole(&bytes[size..])
+}
+
+/// Appends the word of a record and its fields.
+fn push_record_words(line: RecordLine, bytes: &[u8], out: &mut Vec<u8>) -> Result<(), AllocError>
+    requires { length bytes.now ≡ total_size (fields_of (λ b. b.now) (λ t. t.now) line.1.now) }
+    ensures ok { OnOk result (out.new.items ≡ out.old.items
+        ++ record_words (record_line_of (λ b. b.now) (λ t. t.now) (λ r. r.now) line.entry) bytes.now) }
+{
+    out.extend_from_slice(line.0)?;
+    push_header_fields(line.1, bytes, out)
+}
+
+/// Appends the line of a record at the start of bytes, at a level.
+pub(crate) fn push_record_line(
+    level: usize,
+    line: RecordLine,
+    bytes: &[u8],
+    out: &mut Vec<u8>,
+) -> Result<(), AllocError>
+    requires { length bytes.now ≡ total_size (fields_of (λ b. b.now) (λ t. t.now) line.1.now) }
+    ensures ok { OnOk result (out.new.items ≡ out.old.items ++ line_text (
+      level,
+      record_words (record_line_of (λ b. b.now) (λ t. t.now) (λ r. r.now) line.entry) bytes.now,
+    )) }
+{
+    push_indent(level, out)?;
+    push_record_words(line, bytes, out)?;
+    out.extend_from_slice(b"\n")
+}
+
+/// Appends the line of the record at the start of a payload, if it has one, and returns what the
+/// payload lists below its attribute's line.
+fn open_lines<'a>(
+    level: usize,
+    raw: Raw,
+    list: &[u8],
+    payload: &'a [u8],
+    out: &mut Vec<u8>,
+) -> Result<Option<(Listed<'a>, &'a [u8])>, AllocError>
+    requires { holds_lines (raw_of (λ b. b.now) (λ t. t.now) (λ r. r.now) raw) list.now payload.now ≡ true }
+    ensures ok { OnOk result (out.new.items ≡ out.old.items
+        ++ head_text level (head_of (raw_of (λ b. b.now) (λ t. t.now) (λ r. r.now) raw.entry) payload.now)) }
+    ensures list { IfOk result (λ found. option_map (listing (λ b. b.now) (λ t. t.now) (λ r. r.now)) found
+        ≡ listed_in (raw_of (λ b. b.now) (λ t. t.now) (λ r. r.now) raw.entry) list.now payload.now) }
+{
+    match raw {
+        RawBy::Value(_) => Ok(None),
+        RawBy::List(table) => Ok(Some((ListedBy::Attributes(table, payload), payload))),
+        RawBy::Encapsulation(kind) => match encapsulation(kind, list) {
+            Some(table) => Ok(Some((ListedBy::Attributes(table, payload), payload))),
+            None => Ok(None),
+        },
+        RawBy::Head(line, table) => {
+            let (head, rest) = payload.split_at(record_size(line.1));
+            push_record_line(level, line, head, out)?;
+            Ok(Some((ListedBy::Attributes(table, rest), rest)))
+        }
+        RawBy::Hops(table) => Ok(Some((ListedBy::NextHops(table), payload))),
+        RawBy::Records(line) => Ok(Some((ListedBy::Records(line), payload))),
+    }
+}
+
+/// Appends the word `bytes` and the bytes in hex, and ends the line.
+fn push_plain_bytes(bytes: &[u8], out: &mut Vec<u8>) -> Result<(), AllocError>
+    ensures ok { OnOk result (out.new.items ≡ out.old.items ++ (plain_bytes bytes.now ++ 10 ∷ [])) }
+{
+    out.extend_from_slice(b" bytes")?;
+    push_bytes(bytes, out)?;
+    out.extend_from_slice(b"\n")
+}
+
+/// Appends what follows a name on the same line, and the line of the record at the start of the
+/// payload, if it has one. Returns what the payload lists below.
+#[tactic(auto, unfolding(crate::specs::Attributes::after_name))]
+pub(crate) fn push_after_name<'a>(
+    level: usize,
+    raw: Raw,
+    list: &[u8],
+    payload: &'a [u8],
+    out: &mut Vec<u8>,
+) -> Result<Option<(Listed<'a>, &'a [u8])>, AllocError>
+    ensures ok { OnOk result (out.new.items ≡ out.old.items
+        ++ (after_name (raw_of (λ b. b.now) (λ t. t.now) (λ r. r.now) raw.entry) list.now payload.now
+        ++ 10 ∷ head_text level (shown_head (raw_of (λ b. b.now) (λ t. t.now) (λ r. r.now) raw.entry) list.now payload.now))) }
+    ensures list { IfOk result (λ found. option_map (listing (λ b. b.now) (λ t. t.now) (λ r. r.now)) found
+        ≡ shown_list (raw_of (λ b. b.now) (λ t. t.now) (λ r. r.now) raw.entry) list.now payload.now) }
+{
+    if let RawBy::Value(shown) = raw {
+        push_raw_value(shown, payload, out)?;
+        out.extend_from_slice(b"\n")?;
+        return Ok(None);
+    }
+    if !holds_lines(raw, list, payload) {
+        push_plain_bytes(payload, out)?;
+        return Ok(None);
+    }
+    out.extend_from_slice(b"\n")?;
+    open_lines(level, raw, list, payload, out)
+}
+
+/// Appends the name of a kind, or its index in brackets, and the word ` nested` if the kind has the
+/// nested bit.
+fn push_kind_name(name: Option<&[u8]>, kind: u16, out: &mut Vec<u8>) -> Result<(), AllocError>
+    ensures ok { OnOk result (out.new.items ≡ out.old.items
+        ++ (name_or_index (λ b. b.now) (kind % 0x4000) name.entry ++ nested_word kind)) }
+{
+    match name {
+        Some(name) => out.extend_from_slice(name)?,
+        None => push_index_name(kind % KIND_BOUND, out)?,
+    }
+    if has_nested_bit(kind) {
+        out.extend_from_slice(b" nested")?;
+    }
+    Ok(())
+}
+
+/// Appends an index in brackets.
+fn push_index_name(index: u16, out: &mut Vec<u8>) -> Result<(), AllocError>
+    ensures ok { OnOk result (out.new.items ≡ out.old.items ++ index_name index) }
+{
+    out.extend_from_slice(b"[")?;
+    push_decimal(u64::from(index), out)?;
+    out.extend_from_slice(b"]")
+}
+
+/// Appends a raw attribute without a name, and ends the line: its kind as a number, and its bytes.
+fn push_unnamed(kind: u16, payload: &[u8], out: &mut Vec<u8>) -> Result<(), AllocError>
+    ensures ok { OnOk result (out.new.items ≡ out.old.items
+        ++ (unnamed_text kind payload.now ++ 10 ∷ [])) }
+{
+    out.extend_from_slice(b"kind ")?;
+    push_four_digits(kind, out)?;
+    push_bytes(payload, out)?;
+    out.extend_from_slice(b"\n")
+}
+
+/// Appends the text of a raw attribute's line and the line's end, and the line of the record at the
+/// start of its payload, if it has one. Returns what the payload lists below.
+#[tactic(auto, unfolding(crate::specs::Attributes::raw_text))]
+pub(crate) fn push_attribute<'a>(
+    level: usize,
+    table: RawTable,
+    list: &[u8],
+    attribute: Attribute<'a>,
+    out: &mut Vec<u8>,
+) -> Result<Option<(Listed<'a>, &'a [u8])>, AllocError>
+    ensures ok { OnOk result (out.new.items ≡ out.old.items ++ (raw_text table list.now (attribute_of attribute.entry)
+        ++ 10 ∷ head_text level (named_head (raw_row table attribute.entry.kind) list.now (attribute_of attribute.entry)))) }
+    ensures list { IfOk result (λ found. option_map (listing (λ b. b.now) (λ t. t.now) (λ r. r.now)) found
+        ≡ named_list (raw_row table attribute.entry.kind) list.now (attribute_of attribute.entry)) }
+{
+    match raw_row(table, attribute.kind) {
+        Some((name, raw)) => {
+            push_kind_name(name, attribute.kind, out)?;
+            push_after_name(level, raw, list, attribute.payload, out)
+        }
+        None => {
+            push_unnamed(attribute.kind, attribute.payload, out)?;
+            Ok(None)
+        }
+    }
+}
+
+/// Appends the line of a part of what is listed, and the line of the record at the start of its
+/// payload one level deeper, if it has one. Returns what the part lists below.
+#[tactic(auto, unfolding(crate::specs::Lists::part_text, crate::specs::Lists::part_head, crate::specs::Lists::part_list, crate::specs::Attributes::next_hop_line))]
+fn push_part<'a>(
+    level: usize,
+    listed: Listed<'_>,
+    part: Attribute<'a>,
+    out: &mut Vec<u8>,
+) -> Result<Option<(Listed<'a>, &'a [u8])>, AllocError>
+    requires part { is_part (listed_of (λ b. b.now) (λ t. t.now) (λ r. r.now) listed) part.payload.now ≡ true }
+    requires level { level < 2 ^ 63 }
+    ensures ok { OnOk result (out.new.items ≡ out.old.items ++ part_with_head level
+        (listed_of (λ b. b.now) (λ t. t.now) (λ r. r.now) listed.entry) (attribute_of part.entry)) }
+    ensures list { IfOk result (λ found. option_map (listing (λ b. b.now) (λ t. t.now) (λ r. r.now)) found
+        ≡ part_list (listed_of (λ b. b.now) (λ t. t.now) (λ r. r.now) listed.entry) (attribute_of part.entry)) }
+{
+    match listed {
+        ListedBy::Attributes(table, list) => {
+            push_indent(level, out)?;
+            push_attribute(level + 1, table, list, part, out)
+        }
+        ListedBy::NextHops(table) => {
+            push_record_line(level, RTNEXTHOP_LINE, &part.payload[2..NEXT_HOP_LEN], out)?;
+            let (_, list) = part.payload.split_at(NEXT_HOP_LEN);
+            Ok(Some((ListedBy::Attributes(table, list), list)))
+        }
+        ListedBy::Records(line) => {
+            push_record_line(level, line, part.payload, out)?;
+            Ok(None)
+        }
+    }
+}
+
+/// Appends the lines of what is listed, indented for this level.
+pub(crate) fn push_listed(
+    level: usize,
+    listed: Listed<'_>,
+    bytes: &[u8],
+    out: &mut Vec<u8>,
+) -> Result<(), AllocError>
+    requires { level + length bytes.now < 2 ^ 63 }
+    ensures ok { OnOk result (out.new.items ≡ out.old.items ++ lines_text (listed_lines level
+        (listed_of (λ b. b.now) (λ t. t.now) (λ r. r.now) listed.entry) bytes.now)) }
+{
+    let mut rest = bytes;
+    while let Some((part, after)) = first_part(listed, rest) {
+        let found = push_part(level, listed, part, out)?;
+        rest = after;
+        if let Some((inside, list)) = found {
+            push_listed(level + 1, inside, list, out)?;
+        }
+    }
+    Ok(())
+}
+
+/// Appends the text of a raw attribute's line, without its indentation, the line's end, and the
+/// lines of what the attribute holds, at `level`.
+///
+/// # Errors
+///
+/// `AllocError` if `out` can't grow; it may then have a part of the lines.
+#[tactic(auto, unfolding(crate::specs::Lists::part_text, crate::specs::Lists::part_head, crate::specs::Lists::part_list))]
+pub fn push_raw(
+    level: usize,
+    table: RawTable,
+    attribute: Attribute<'_>,
+    out: &mut Vec<u8>,
+) -> Result<(), AllocError>
+    requires { level + length attribute.payload.now < 2 ^ 63 }
+    ensures ok { OnOk result (out.new.items ≡ out.old.items ++ (raw_text table [] (attribute_of attribute.entry)
+        ++ 10 ∷ lines_text (raw_below level table (attribute_of attribute.entry)))) }
+{
+    match push_attribute(level, table, &[], attribute, out)? {
+        Some((listed, list)) => push_listed(level, listed, list, out),
+        None => Ok(()),
+    }
+}
+
+/// Appends what follows the name of an attribute with this payload, the line's end, and the lines of
+/// what the payload holds, at `level`.
+///
+/// # Errors
+///
+/// `AllocError` if `out` can't grow; it may then have a part of the lines.
+pub fn push_held(
+    level: usize,
+    raw: Raw,
+    payload: &[u8],
+    out: &mut Vec<u8>,
+) -> Result<(), AllocError>
+    requires { level + length payload.now < 2 ^ 63 }
+    ensures ok { OnOk result (out.new.items ≡ out.old.items
+        ++ (after_name (raw_of (λ b. b.now) (λ t. t.now) (λ r. r.now) raw.entry) [] payload.now
+        ++ 10 ∷ lines_text (held_lines level (raw_of (λ b. b.now) (λ t. t.now) (λ r. r.now) raw.entry) payload.now))) }
+{
+    match push_after_name(level, raw, &[], payload, out)? {
+        Some((listed, list)) => push_listed(level, listed, list, out),
+        None => Ok(()),
+    }
+}

@@ -1,0 +1,84 @@
+-- How the payloads of attributes with names are shown.
+use Rattle.std.specs.Prelude.{ℕ, Bool, true, cond, List, Option, Some, None, bytes_eq, codes}
+use Rattle.attribute_tables_grammar.specs.Lists.{Context}
+use Rattle.link_tables.specs.declared.rows.Held.{Held as TableHeld}
+use Rattle.link_tables.specs.declared.rows.Held.TheVariants.{List as HeldList}
+use Rattle.link_tables.specs.declared.table.Table.{Table}
+use Rattle.link_tables.specs.declared.table.TheConstants.{LINK_INFO}
+use Rattle.link_tables.specs.InForce.{data_under, port_data_under}
+use Rattle.link_lines_values.specs.declared.fields.FieldOf.{FieldOf}
+use Rattle.link_lines_values.specs.declared.values.ShownBy.{ShownBy}
+use Rattle.link_lines_values.specs.declared.values.ShownBy.TheVariants.{Bytes}
+use Rattle.link_lines_values.specs.Values.{Shown, is_shown_on_a_line, format_of}
+use Rattle.link_lines_raw.specs.declared.rows.RawBy.TheVariants as R
+use Rattle.link_lines_raw.specs.Coverage.{determines_raw}
+use Rattle.link_lines_raw.specs.Rows.{Raw, raw_of}
+use Rattle.link_lines_texts.specs.declared.format.FormatBy.{FormatBy}
+use Rattle.link_lines_texts.specs.declared.format.FormatBy.TheVariants as B
+use Rattle.link_lines_texts.specs.declared.format.Scope.{Scope}
+use Rattle.link_lines_texts.specs.declared.format.TheConstants.{CAN_STATISTICS}
+
+-- How a payload is shown: by its value, but in a request perhaps as bytes; as bytes after a word; as what a raw
+-- attribute holds; or, below the name, as a link's header and its attributes; or as the attributes of a table, or of
+-- the table that a kind in force determines; or as the statistics of that kind.
+pub data Inside : Type 0 where
+  Value : Shown → Inside
+  Settings : Shown → Inside
+  Plain : Inside
+  Held : Raw → Inside
+  Peer : Inside
+  Nested : Table → Inside
+  Data : Inside
+  Statistics : Inside
+  PortData : Inside
+
+-- The statistics of links of the kind `can`.
+unfoldable pub can_statistics : Raw
+can_statistics = raw_of (λ n. n.now) (λ t. t.now) (λ r. r.now) CAN_STATISTICS
+
+-- The way of showing a payload that a value in code represents.
+abbrev pub inside_of : {N T R : Type 0} → (N → List ℕ) → (T → List (ℕ × N)) → (R → List (FieldOf N T)) →
+    FormatBy (ShownBy T R) → Inside
+inside_of f g h (B.Value shown) = Value (format_of f g h shown)
+inside_of f g h (B.Settings shown) = Settings (format_of f g h shown)
+inside_of f g h B.Plain = Plain
+inside_of f g h (B.Raw table) = Held (R.List table)
+inside_of f g h B.CanStatistics = Held can_statistics
+inside_of f g h B.Peer = Peer
+inside_of f g h (B.List form table) = Nested table
+inside_of f g h B.LinkInfo = Nested LINK_INFO
+inside_of f g h B.Data = Data
+inside_of f g h B.Statistics = Statistics
+inside_of f g h B.PortData = PortData
+
+-- The way in which data are shown: as a list or as bytes.
+abbrev pub of_held : TableHeld → Inside
+of_held (HeldList form table) = Nested table
+of_held held = Value Bytes
+
+-- The way in which data are shown that may depend on a kind in force: bytes if none is.
+abbrev pub inside_held : Option TableHeld → Inside
+inside_held None = Value Bytes
+inside_held (Some held) = of_held held
+
+-- The way in which the statistics of a kind are shown: counters for `can`, bytes for any other or if none is in force.
+abbrev pub statistics_inside : Option (List ℕ) → Inside
+statistics_inside None = Value Bytes
+statistics_inside (Some name) = cond (bytes_eq name (codes "can")) (Held can_statistics) (Value Bytes)
+
+-- The way in which a payload is shown under the kinds in force; inside a peer, a peer is shown as bytes, and in a
+-- request settings are.
+abbrev pub known_inside : Scope → Context → Inside → Inside
+known_inside scope c Data = inside_held (data_under c.kind)
+known_inside scope c Statistics = statistics_inside c.kind
+known_inside scope c PortData = inside_held (port_data_under c.port_kind)
+known_inside scope c (Settings shown) = cond scope.is_request Plain (Value shown)
+known_inside scope c Peer = cond scope.is_in_peer (Value Bytes) Peer
+known_inside scope c inside = inside
+
+-- Whether the text after a name is on the name's line.
+abbrev pub is_inside_on_a_line : Inside → Bool
+is_inside_on_a_line (Value shown) = is_shown_on_a_line shown
+is_inside_on_a_line (Settings shown) = is_shown_on_a_line shown
+is_inside_on_a_line (Held raw) = determines_raw raw
+is_inside_on_a_line inside = true

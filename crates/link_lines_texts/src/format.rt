@@ -1,0 +1,105 @@
+//! How the payloads of attributes with names are shown.
+
+ghost use Rattle.std.specs.Prelude.{◌≡◌};
+ghost use Rattle.link_lines_texts.specs.Format.{inside_of, inside_held, known_inside, of_held, statistics_inside};
+ghost use Rattle.link_tables.specs.InForce.{held_in_force, in_force};
+
+use link_lines_raw::records::CAN_DEVICE_STATS;
+use link_lines_raw::{Raw, RawBy, RawTable};
+use link_lines_values::{ExactBy, Shown, ShownBy};
+use link_tables::{Form, Held, IFLA_INFO_DATA, IFLA_INFO_SLAVE_DATA, InForce, Table, info_held};
+
+/// How the payload of an attribute with a name is shown, with formats of type `S`.
+#[derive(Clone, Copy)]
+pub enum FormatBy<S> {
+    /// The value of the payload.
+    Value(S),
+    /// The value of the payload; in a request the word `bytes` and the bytes, which kernels read as
+    /// attributes there.
+    Settings(S),
+    /// The word `bytes` and the bytes.
+    Plain,
+    /// Raw attributes of that table, on the lines below.
+    Raw(RawTable),
+    /// The statistics of links of the kind `can`.
+    CanStatistics,
+    /// The other end of a pair, on the lines below: its header and its attributes.
+    Peer,
+    /// The attributes of that table, on the lines below.
+    List(Form, Table),
+    /// The attributes of link info, on the lines below.
+    LinkInfo,
+    /// The attributes of the table that the kind in force determines, on the lines below.
+    Data,
+    /// The statistics of the kind in force.
+    Statistics,
+    /// The attributes of the table that the port kind in force determines, on the lines below.
+    PortData,
+}
+
+/// How the payload of an attribute with a name is shown.
+pub type Format = FormatBy<Shown>;
+
+/// What a list of attributes is in, as far as the format of a payload depends on it: whether it is
+/// in a peer, and whether it is in a request.
+#[derive(Clone, Copy)]
+pub struct Scope {
+    pub is_in_peer: bool,
+    pub is_request: bool,
+}
+
+/// The kind whose statistics have names.
+const CAN: &[u8] = b"can";
+
+/// The statistics of links of the kind `can` (can/netlink.h: struct can_device_stats).
+pub const CAN_STATISTICS: Raw = RawBy::Value(ExactBy::Counters(CAN_DEVICE_STATS));
+
+/// Returns how data are shown: as a list or as bytes.
+fn of_held(held: Held) -> Format
+    ensures { inside_of (λ b. b.now) (λ t. t.now) (λ r. r.now) result ≡ of_held held }
+{
+    match held {
+        Held::List(form, table) => FormatBy::List(form, table),
+        Held::Plain(_) | Held::Peer | Held::LinkInfo => FormatBy::Value(ShownBy::Bytes),
+    }
+}
+
+/// Returns how data in link info are shown: as bytes if no kind is in force on which they depend.
+fn info_format(force: InForce<'_>, kind: u16) -> Format
+    ensures { inside_of (λ b. b.now) (λ t. t.now) (λ r. r.now) result
+        ≡ inside_held (held_in_force (in_force force.entry) kind) }
+{
+    match info_held(force, kind) {
+        Some(held) => of_held(held),
+        None => FormatBy::Value(ShownBy::Bytes),
+    }
+}
+
+/// Returns how the statistics of the kind in force are shown.
+fn statistics_format(force: InForce<'_>) -> Format
+    ensures { inside_of (λ b. b.now) (λ t. t.now) (λ r. r.now) result
+        ≡ statistics_inside (in_force force.entry).kind }
+{
+    match force.kind {
+        Some(kind) if kind == CAN => FormatBy::CanStatistics,
+        _ => FormatBy::Value(ShownBy::Bytes),
+    }
+}
+
+/// Returns how a payload is shown under the kinds in force. Inside a peer, a peer is shown as
+/// bytes.
+pub(crate) fn known_format(scope: Scope, force: InForce<'_>, format: Format) -> Format
+    ensures { inside_of (λ b. b.now) (λ t. t.now) (λ r. r.now) result
+        ≡ known_inside scope (in_force force.entry)
+        (inside_of (λ b. b.now) (λ t. t.now) (λ r. r.now) format.entry) }
+{
+    match format {
+        FormatBy::Data => info_format(force, IFLA_INFO_DATA),
+        FormatBy::Statistics => statistics_format(force),
+        FormatBy::PortData => info_format(force, IFLA_INFO_SLAVE_DATA),
+        FormatBy::Settings(shown) if !scope.is_request => FormatBy::Value(shown),
+        FormatBy::Settings(_) => FormatBy::Plain,
+        FormatBy::Peer if scope.is_in_peer => FormatBy::Value(ShownBy::Bytes),
+        _ => format,
+    }
+}

@@ -1,0 +1,12 @@
+use Rattle.std.proofs.Common.{◌≡◌, ◌≤◌, ◌+◌, ◌/◌, ◌++◌, length}
+use Rattle.link_lines_values.specs.Records.{fields_of, shown_of, slots_text}
+use Rattle.link_lines_values.proofs.records.push_slots.Given as goal
+
+abbrev pub invariant-loop-rest : goal.invariant-loop-rest
+invariant-loop-rest l = record {
+  text : l.out.items ++ slots_text l.size (shown_of (λ b. b.now) (λ t. t.now) l.shown) (fields_of (λ b. b.now) (λ t. t.now) l.rows) l.index (length l.rest / l.size) l.rest ≡ l.initial.out.items ++ slots_text l.size (shown_of (λ b. b.now) (λ t. t.now) l.shown) (fields_of (λ b. b.now) (λ t. t.now) l.rows) 0 (length l.bytes / l.size) l.bytes;
+  index : l.index + length l.rest ≤ length l.bytes;
+}
+
+abbrev pub decreases-loop-rest : goal.decreases-loop-rest
+decreases-loop-rest l = length l.rest

@@ -10,6 +10,7 @@ from values import PADDING, RECORDS, record_size        # noqa: E402
 DEEPEST = 5
 MOST_ROWS = 6
 FLAG_BITS = [0, 0, 0, 0, 0x8000, 0x8000, 0x4000, 0xC000]
+LINK_HEADER_SIZE = 16
 BYTES = [0, 0, 1, 2, 127, 255]
 TABLE_ROWS = {}
 for (_table, _kind), (_, _style) in linkshow.RAW_ROWS.items():
@@ -97,10 +98,19 @@ def message(kind, flags, body):
     return header + bytes(8) + body + bytes(-len(body) % 4)
 
 
+def properties(rng):
+    """A body of a message about a link's properties: a link's header and attributes, mostly canonical."""
+    name, names = attribute(3, b"eth0\0"), attribute(52 | linkshow.NESTED, attribute(53, b"other\0"))
+    header = bytes([rng.choice([0, 7, 10]), 0, 1, 0]) + some_bytes(rng, 12)
+    return header + b"".join(rng.choice([name, names, attribute(4, some_bytes(rng, 4))]) for _ in range(rng.randrange(4)))
+
+
 def other_message(rng):
     """A message of a type other than links."""
     types, requests, families, record_name, table = rng.choice(linkshow.BODIES)
     flags = rng.choice([0, 1, 0x301, 0x605]) if requests is None else requests[0]
+    if record_name == linkshow.PEER:
+        return message(rng.choice(types), flags, spoil(rng, properties(rng)))
     header = record(rng, record_name)
     header = bytes([rng.choice(families or [0, 2, 7, 10])]) + header[1:]
     body = header + (attributes(rng, table) if table in TABLE_ROWS else b"")
@@ -137,4 +147,6 @@ def capture(rng):
 def header_size(kind, flags, body):
     """The size of the record at the start of a body of a type other than links, or None."""
     row = linkshow.body_row(kind, flags, body)
+    if row and row[0] == linkshow.PEER:
+        return LINK_HEADER_SIZE
     return record_size(row[0]) if row else None

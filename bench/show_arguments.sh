@@ -13,7 +13,7 @@ work=$(mktemp -d)
 trap 'rm -rf "$work"' EXIT
 request=samples/lo-request.bin
 lines=samples/lo-request.lines
-usage='usage: linkshow [--without-numbers] [--only TYPE,..] [--kernels] [--limit N] [FILE]; linkshow --help says more'
+usage='usage: linkshow [--only TYPE,..] [--link WORD] [--without NAME,..] [--without-numbers] [--offsets] [--keep-going] [--kernels] [--limit N] [FILE]; linkshow --help says more'
 failed=0
 : > "$work/nothing"
 
@@ -68,10 +68,35 @@ done
 run --only newlink --only getlink "$work/both"
 expect "the last types count" 0 "" "$lines"
 run --only newlink "$work/both"
-expect "types of which there is none" 0 "" "$work/nothing"
+expect "types of which there is none" 0 "no messages" "$work/nothing"
 cat "$request" <(head -c 20 "$request") > "$work/cut"
 run --only newlink "$work/cut"
 expect "a fault of the whole capture" 2 "cut frame at 48" "$work/nothing"
+# Links, attributes and offsets.
+for link in lo 0; do
+    run --link eth0 --link $link "$request"
+    expect "the link $link" 0 "" "$lines"
+done
+run --link eth0 "$request"
+expect "a link of which there is none" 0 "no messages" "$work/nothing"
+run --without IFLA_MTU --without ifla_ext_mask,INDEXES,numbers "$request"
+sed 's/ seq .*//; s/ index 0//; /IFLA_EXT_MASK/d' "$lines" > "$work/fewer"
+expect "without an attribute and groups" 0 "" "$work/fewer"
+run --without counters --without-numbers "$request"
+expect "without a group, and without numbers" 0 "" "$work/unnumbered"
+run --offsets "$request"
+sed '1s/$/ offset 0/' "$lines" > "$work/placed"
+expect "offsets" 0 "" "$work/placed"
+# An RTM_NEWLINK with an attribute whose length is 3, and another message.
+{ printf '\x24\0\0\0\x10\0\0\0\7\0\0\0\x09\0\0\0\0\0\0\0\1\0\0\0\0\0\0\0\0\0\0\0\3\0\4\0'; cat "$request"; } > "$work/faulty"
+reason="no attribute: 4 bytes are left, and its length is 3"
+{ printf '%s\n' "RTM_NEWLINK flags 0x0 offset 0" "  refused: $reason" "  body 0000000001000000000000000000000003000400"
+    sed '1s/ seq .*/ offset 36/' "$lines"; } > "$work/gone-on"
+run --keep-going --offsets --without-numbers "$work/faulty"
+expect "messages after a refused body" 2 "refused body at 0: $reason at 32" "$work/gone-on"
+run "$lines"
+expect "a file of lines" 2 "frame over the limit at 0
+linkshow: these are lines of linkshow already: linkdiff and linkjson read them" "$work/nothing"
 cp "$request" "$work/48"
 (cd "$work" && "$program" 48 > text 2> report)
 status=$?
@@ -83,7 +108,7 @@ grep -oE 'linkshow [0-9]+\.[0-9.]+, lines [0-9]+' docs/showing.md | head -n 1 > 
 expect "the version is that of the page" 0 "" "$work/version"
 run --help
 status=$status:$(head -n 1 "$work/text"):$(grep -c -- '^  --' "$work/text")
-expect "help" "0:usage: linkshow [--without-numbers] [--only TYPE,..] [--kernels] [--limit N] [FILE]:6" "" "$work/text"
+expect "help" "0:usage: linkshow [--only TYPE,..] [--link WORD] [--without NAME,..]:10" "" "$work/text"
 # The limits are those of the header for C.
 default=$(sed -n 's/^#define LINKCAP_DEFAULT_LIMIT //p' bindings/c/linkcap.h)
 lowest=$(sed -n 's/^#define LINKCAP_MIN_LIMIT //p' bindings/c/linkcap.h)
@@ -96,7 +121,7 @@ status=$?
 expect "help that can't be printed" 2 "write failed at 0" "$work/nothing"
 
 # Usage errors.
-for arguments in "--limit" "--limit 15" "--limit +48" "--limit 4294967296" "--limit 48 --limit" "--limit=48" "--only" "--only newlinks" "--only RTM_ERROR" "--only newlink," "--only ,2" "--only 65536" "--only 000002" "--only +2" "--kernels --unknown" "-x" \
+for arguments in "--limit" "--limit 15" "--limit +48" "--limit 4294967296" "--limit 48 --limit" "--limit=48" "--only" "--link" "--without" "--kernels --unknown" "-x" \
     "a b" "- a" "a --kernels" "--help a" "--version --kernels"; do
     # shellcheck disable=SC2086
     run $arguments < "$request"
@@ -106,6 +131,30 @@ run "" < "$request"
 expect "usage error: an empty argument" 3 "$usage" "$work/nothing"
 run $'\xff' < "$request"
 expect "usage error: an argument that isn't UTF-8" 3 "$usage" "$work/nothing"
+
+# too_many WORD: the word 33 times, with commas between
+too_many() {
+    printf "$1,%.0s" {1..32}
+    printf '%s' "$1"
+}
+run --only "$(too_many 2)" < "$request"
+expect "usage error: more than 32 types" 3 "$usage" "$work/nothing"
+run --without "$(too_many IFLA_MTU)" < "$request"
+expect "usage error: more than 32 names" 3 "$usage" "$work/nothing"
+# unknown OPTION WORDS WORD: an argument, and the first word in it that has no meaning
+unknown() {
+    run "--$1" "$2" --unknown < "$request"
+    case $1 in
+        only) expect "unknown type: '$2'" 3 "linkshow: --only: no type of messages is called $3" "$work/nothing" ;;
+        *) expect "unknown name: '$2'" 3 "linkshow: --without: no attribute or group is called $3" "$work/nothing" ;;
+    esac
+}
+for word in newlinks RTM_ERROR 65536 000002 +2 ""; do
+    unknown only "newlink,$word,77,x" "$word"
+done
+for word in IFLA_STAT MTU counter "" '[]' IFLA_MTU=1; do
+    unknown without "ifla_mtu,counters,$word,INDEXES,x" "$word"
+done
 
 # Files that can't be opened or read.
 run "$work/missing" < "$request"

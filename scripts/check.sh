@@ -211,8 +211,8 @@ expect "lines as JSON" 0 "" "$linkjson" a.lines <<< "$json"
 expect "a golden file as JSON" 0 "" "$linkjson" headed.lines <<< "${json/\"seq\": 1526271540, \"port\": 0, /}"
 expect "JSON without numbers and an attribute" 0 "" "$linkjson" --without-numbers --without IFLA_IFNAME a \
     <<< "$(sed 's/"seq.*0, "attr/"attr/; s/, {"name": "IFLA_IFNAME[^}]*}//' <<< "$json")"
-expect "JSON of a type" 0 "" "$linkjson" --only newlink a < /dev/null
-expect "JSON of a link" 0 "" "$linkjson" --link lo b < /dev/null
+expect "JSON of a type" 0 "no messages" "$linkjson" --only newlink a < /dev/null
+expect "JSON of a link" 0 "no messages" "$linkjson" --link lo b < /dev/null
 expect "JSON of a route" 0 "" "$linkjson" --without-numbers --only newroute routes << 'END'
 {"type": "RTM_NEWROUTE", "flags": {"value": 1541, "flags": ["REQUEST", "ACK", "EXCL", "CREATE"]}, "attributes": [{"name": "RTA_DST", "value": "198.51.100.0"}, {"name": "RTA_MULTIPATH", "nested": [{"struct": "rtnexthop", "fields": {"flags": {"value": 0, "flags": []}, "hops": 0, "ifindex": 0}, "nested": [{"name": "RTA_GATEWAY", "value": "192.0.2.2"}]}, {"struct": "rtnexthop", "fields": {"flags": {"value": 0, "flags": []}, "hops": 9, "ifindex": 0}, "nested": [{"name": "RTA_GATEWAY", "value": "192.0.2.3"}]}]}], "header": {"struct": "rtmsg", "family": {"value": 2, "text": "AF_INET"}, "dst_len": 24, "src_len": 0, "tos": 0, "table": {"value": 254, "text": "main"}, "protocol": {"value": 3, "text": "boot"}, "scope": {"value": 0, "text": "universe"}, "type": {"value": 1, "text": "unicast"}, "flags": {"value": 0, "flags": []}}}
 END

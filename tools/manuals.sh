@@ -21,9 +21,10 @@ synopsis() {
         | sed -E 's/^ +//; s/ +$//' | paste -sd '|' | sed 's/|/ or /g' | tr '[:upper:]' '[:lower:]'
 }
 
-# The usage line of a program's source, without what follows a semicolon.
+# The usage line of a program's source, a constant USAGE, without what follows a semicolon.
 usage() {
-    grep -rhoE "usage: $1 [^\";\\\\]*" crates/*/src | sed -E 's/^usage: //; s/ +$//' | sort -u | tr '[:upper:]' '[:lower:]'
+    cat crates/*/src/*.rt | sed -z 's/\\\n *//g' | grep -ozE "USAGE: &str =[[:space:]]+\"usage: $1 [^\";\\\\]*" \
+        | tr '\0' '\n' | sed -nE 's/ +$//; s/^.*usage: //p' | sort -u | tr '[:upper:]' '[:lower:]'
 }
 
 # completions COMMAND WORD..: what completion offers for the last word

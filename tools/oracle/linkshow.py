@@ -3,11 +3,13 @@
 records and texts of numbers are those of rows.tsv and raw.tsv; values.py makes
 texts of payloads, and linkoracle.py does the rest.
 
-    python3 linkshow.py [--limit N] [--without-numbers] [--only TYPE,..] < CAPTURE
+    python3 linkshow.py [--limit N] [--without-numbers] [--only TYPE,..]
+        [--link WORD] [--without NAME,..] [--offsets] [--keep-going] < CAPTURE
 
 Library:
 
-    lines(capture, limit, stage, numbers, only)  -> (text, first fault or None)
+    lines(capture, limit, stage, numbers, only, link, omitted, offsets,
+          keep_going)                            -> (text, first fault or None)
     why(capture, limit, stage)                   -> the reason of a refused body
                                                     and its offset, or None
 """
@@ -21,10 +23,11 @@ sys.path.insert(0, HERE)
 import linkoracle as o      # noqa: E402
 
 from tables import DATA, TYPES, read_data      # noqa: E402
-from values import exact_value, number, record, record_size, value      # noqa: E402
+from values import exact_value, number, quote, record, record_size, value      # noqa: E402
 
 RAW_DATA = read_data("raw.tsv")
 ANY = "*"
+PEER = "peer"       # in the column of records, a body that is shown as a peer
 
 
 def matching(column):
@@ -40,19 +43,32 @@ RAW_ROWS = {(table, kind if kind == ANY else int(kind)): (name, style) for table
 RAW_TABLES = {table for table, _ in RAW_ROWS}
 # Where a list of raw attributes is in a link message -> its table
 LISTS = dict(RAW_DATA["list"])
-# (types, lowest bits of the flags, first bytes, record, table), each set None if any number fits
+# (types, lowest bits of the flags, first bytes, record or PEER, table), each set None if any number fits
 BODIES = [(*map(matching, columns), record_name, table) for *columns, record_name, table in RAW_DATA["body"]]
 
 NESTED, BIG_ENDIAN = 0x8000, 0x4000     # the flag bits of a kind
 
 
-def line(depth, name, text=""):
-    return "  " * depth + name + (" " + text if text else "") + "\n"
-
-
 def word_of(record_name):
     """The word at the start of a record's line."""
     return record_name.partition("/")[0]
+
+
+# Groups of what may be left out, each with the names of its attributes
+GROUPS = {"numbers": [], **{name: names.split() for name, names in DATA["group"]}}
+# The names of attributes
+NAMES = {row[0] for rows in (ROWS, RAW_ROWS) for row in rows.values()} - {"[]"}
+# The words at the start of lines of headers
+HEADERS = {"ifinfomsg", "rtgenmsg", "rtnexthop"} | {word_of(body[3]) for body in BODIES if body[3] != PEER} | {
+    style.split()[1] for _, style in RAW_ROWS.values() if style.startswith(("records ", "record_and_list "))}
+INDEX_FIELDS = "index", "ifindex"
+NAME_LINES = "  IFLA_IFNAME %s\n", "  IFLA_ALT_IFNAME %s\n", "    IFLA_ALT_IFNAME %s\n"
+REFUSED = 4                             # the number of the fault `refused body`
+BODY_FAULTS = range(REFUSED, 8)         # those of a message's body
+
+
+def line(depth, name, text=""):
+    return "  " * depth + name + (" " + text if text else "") + "\n"
 
 
 # --------------------------------------------------------------------------
@@ -160,7 +176,7 @@ def record_and_list(depth, record_name, table, b):
 # Bodies of messages of types other than links
 
 def body_row(kind, flags, body):
-    """The record and the table of the first line `body` of raw.tsv that fits, or None."""
+    """The record, or PEER, and the table of the first line `body` of raw.tsv that fits, or None."""
     numbers = (kind, flags & 1, body[0] if body else None)
     for *sets, record_name, table in BODIES:
         if all(fit is None or n in fit for fit, n in zip(sets, numbers)):
@@ -168,12 +184,28 @@ def body_row(kind, flags, body):
     return None
 
 
+def peer_lines(b, is_request):
+    """The lines of a body that is the canonical text of a peer, or None.  Peers inside it are bytes."""
+    body = o.read_link_body(o.rules_for().inside_peer, b)
+    if body is None or o.has_empty_ports(body) or not o.fits(body.entries) or o.body_text(body) != b:
+        return None
+    return body_lines(1, body, is_request)
+
+
+def lines_of_row(row, kind, flags, body):
+    """The lines of a body by its row, or None if they don't show every byte of it."""
+    record_name, table = row
+    if record_name == PEER:
+        return peer_lines(body, bool(flags & 1))
+    if kind % 4 == 2 and len(body) == 4 < record_size(record_name):
+        record_name, table = "rtgenmsg", "-"    # the shortest request of all objects
+    return record_and_list(1, record_name, table, body)
+
+
 def other_body_lines(kind, flags, body):
     """The lines of a body of another type than links."""
     row = body_row(kind, flags, body)
-    if row and kind % 4 == 2 and len(body) == 4 < record_size(row[0]):
-        row = ("rtgenmsg", "-")     # the shortest request of all objects
-    shown = record_and_list(1, *row, body) if row else None
+    shown = lines_of_row(row, kind, flags, body) if row else None
     return [line(1, "body", body.hex())] if shown is None else shown
 
 
@@ -286,14 +318,93 @@ def frame_lines(f, numbers=True):
     return out + (other_body_lines(f.type, f.flags, body) if body else [])
 
 
-def lines(capture, limit=o.DEFAULT_LIMIT, stage="peers", numbers=True, only=None):
+def reason_words(kind, capture, at, fault, stage):
+    """Why a body isn't accepted, without an offset."""
+    if fault != REFUSED:
+        return o.FAULT_KINDS[fault][1]
+    body = capture[at + 16:at + o.u32(capture, at)]
+    if kind not in o.LINK_TYPES:
+        return "a body of %d bytes" % len(body)
+    path, _, reason = why_body(o.rules_for(stage), body, at + 16)
+    return " > ".join(path) + (": " if path else "") + reason
+
+
+def refused_lines(capture, at, fault, numbers, stage):
+    """The lines of a message with a fault of its body."""
+    kind, flags = o.u16(capture, at + 4), o.u16(capture, at + 6)
+    out = [line(0, header_text(kind, flags, o.u32(capture, at + 8), o.u32(capture, at + 12), numbers)),
+           line(1, "refused:", reason_words(kind, capture, at, fault, stage))]
+    body = capture[at + 16:at + o.u32(capture, at)]
+    return out + ([line(1, "body", body.hex())] if body else [])
+
+
+def blocks(capture, limit=o.DEFAULT_LIMIT, stage="peers", numbers=True, keep_going=False):
+    """([(offset, type, lines) of each message], the first fault or None)."""
+    out, first, at = [], None, 0
+    while at < len(capture):
+        frames, fault = o.read_capture(o.rules_for(stage), limit, capture[at:])
+        for f in frames:
+            out.append((at, f.type, frame_lines(f, numbers)))
+            at += o.round_up(o.u32(capture, at))
+        if fault is None:
+            break
+        first = first or (fault[0], fault[1], at)
+        if not keep_going or fault[0] not in BODY_FAULTS:
+            break
+        out.append((at, o.u16(capture, at + 4), refused_lines(capture, at, fault[0], numbers, stage)))
+        at += o.round_up(o.u32(capture, at))
+    return out, first
+
+
+# --------------------------------------------------------------------------
+# Options, as functions of a message's lines
+
+def level_of(text):
+    return (len(text) - len(text.lstrip(" "))) // 2
+
+
+def is_about(texts, link):
+    """Whether a message's lines are about the link with this name or index."""
+    names = {form % quote(os.fsencode(link)) for form in NAME_LINES}
+    if names & set(texts):
+        return True
+    if len(texts) < 2 or level_of(texts[1]) != 1:
+        return False
+    first, *fields = texts[1].split()
+    return first in HEADERS and any(name in INDEX_FIELDS and field == link for name, field in zip(fields, fields[1:]))
+
+
+def leave_out(texts, omitted):
+    """A message's lines without the attributes of these names, and without indexes in headers if INDEXES is among them."""
+    out, hidden = [], None
+    for text in texts:
+        level, first = level_of(text), text.split()[0]
+        if hidden is not None and level > hidden:
+            continue
+        hidden = level if level and first in omitted else None
+        if hidden is None:
+            drop_index = level and first in HEADERS and "indexes" in omitted
+            out.append(re.sub(r" (?:if)?index [0-9]+", "", text) if drop_index else text)
+    return out
+
+
+def lines(capture, limit=o.DEFAULT_LIMIT, stage="peers", numbers=True, only=None, link=None, omitted=(), offsets=False,
+          keep_going=False):
     """(the lines of the frames before the first fault, that fault or None).
 
-    `only` is a set of types, and leaves out messages of other types.
+    `only` is a set of types, and leaves out messages of other types; `link` the
+    name or index of the link that messages have to be about; `omitted` what
+    `read_omitted` returns.
     """
-    frames, fault = o.read_capture(o.rules_for(stage), limit, bytes(capture))
-    return "".join("".join(frame_lines(f, numbers)) for f in frames
-                   if only is None or f.type in only), fault
+    shown, fault = blocks(bytes(capture), limit, stage, numbers and "numbers" not in omitted, keep_going)
+    out = []
+    for at, kind, texts in shown:
+        if (only is None or kind in only) and (link is None or is_about(texts, link)):
+            texts = leave_out(texts, omitted)
+            if offsets:
+                texts[0] = "%s offset %d\n" % (texts[0][:-1], at)
+            out += texts
+    return "".join(out), fault
 
 
 def read_type(word):
@@ -310,6 +421,18 @@ def read_type(word):
 def read_only(argument):
     """The types of `newlink,RTM_SETLINK,77`."""
     return {read_type(word) for word in argument.split(",")}
+
+
+def read_omitted(argument):
+    """What `IFLA_MTU,counters` leaves out: names of attributes and of groups, and the names that groups stand for."""
+    names = {name.lower(): {name} for name in NAMES}
+    names.update({group: {group, *members} for group, members in GROUPS.items()})
+    omitted = set()
+    for word in argument.split(","):
+        if word.lower() not in names:
+            raise argparse.ArgumentTypeError("no attribute or group is called %s" % word)
+        omitted |= names[word.lower()]
+    return omitted
 
 
 # --------------------------------------------------------------------------
@@ -396,9 +519,14 @@ def main():
     parser.add_argument("--stage", default="peers")
     parser.add_argument("--without-numbers", action="store_true")
     parser.add_argument("--only", type=read_only)
+    parser.add_argument("--link")
+    parser.add_argument("--without", type=read_omitted, default=())
+    parser.add_argument("--offsets", action="store_true")
+    parser.add_argument("--keep-going", action="store_true")
     args = parser.parse_args()
     capture = sys.stdin.buffer.read()
-    text, fault = lines(capture, args.limit, args.stage, not args.without_numbers, args.only)
+    text, fault = lines(capture, args.limit, args.stage, not args.without_numbers, args.only, args.link, args.without,
+                        args.offsets, args.keep_going)
     sys.stdout.write(text)
     if fault is not None:
         reason = why(capture, args.limit, args.stage)

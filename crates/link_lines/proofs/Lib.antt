@@ -1,4 +1,13 @@
 pub mod Joined
+pub mod Walk
+pub mod Reports
+pub mod Plain
+pub mod AllLines
+pub mod Header
+pub mod Passing
+pub mod Stepping
+pub mod Reaching
 pub mod Progress
-pub mod Refusing
+pub mod WordLists
+pub mod TypeNames
 pub mod Gathered

@@ -1,158 +1,270 @@
--- The progress of reading.
-use Rattle.std.proofs.Common.{◌≡◌, ◌≢◌, ◌&&◌, eqb, ltb, ℕ, ◌+◌, ◌-◌, ◌^◌, ◌<◌, ◌≤◌, min, Option, Result, Ok, Err, IfErr, OnOk, is_err, false, List, [], ◌++◌, length, take, drop, sym, ap, subst, ◌∙◌, arith, length-append}
-use Rattle.std.proofs.lemmas.List.{take_at, append-nil, take-append-drop, length-take}
-use Rattle.std.proofs.lemmas.Bool.{ne_eqb}
+-- The progress of showing a capture from a source to a sink.
+use Rattle.std.proofs.Common.{◌≡◌, ◌≢◌, ◌&&◌, eqb, ltb, ℕ, ◌+◌, ◌-◌, ◌^◌, ◌<◌, ◌≤◌, min, inl, inr, Bool, true, false, List, [], ◌∷◌, ◌++◌, length, take, drop, Option, None, Some, Result, Ok, Err, refl, sym, ap, subst, ◌∙◌, arith, length-append, append_assoc, append-nil}
+use Rattle.std.specs.Prelude.{◌⊎◌, nat_lt, option_map}
+use Rattle.std.proofs.lemmas.List.{drop_all, length-drop, length-take, take_all, take_at}
+use Rattle.std.proofs.lemmas.Bool.{lt-ltb, ne_eqb}
 use Rattle.std.specs.Io.KnownBytes.{Appends, Consumes}
 use Rattle.std.proofs.KnownBytes.{Appends-nil, Appends-trans, Consumes-nil, Consumes-trans}
-use Rattle.link_capture_grammar.specs.Body.{link_body}
+use Rattle.link_capture_grammar.specs.Captures.{IsOfFrames, first_fault, first_frame}
+use Rattle.link_capture_grammar.specs.Laws.{FaultsAreAtFrames}
+use Rattle.link_message_grammar.specs.Body.{link_body}
 use Rattle.link_capture_grammar.specs.declared.fault.CaptureFault.{CaptureFault}
 use Rattle.link_capture_grammar.specs.declared.fault.FaultKind.{FaultKind}
-use Rattle.link_capture_grammar.specs.declared.fault.FaultKind.TheVariants.{Cut, Memory, Read, Write, TooLong, Failed}
-use Rattle.link_capture_grammar.specs.Captures.{first_fault, texts, StopsAt}
-use Rattle.link_capture_grammar.specs.Laws.{PrefixTexts}
-use Rattle.link_capture_reader.specs.Readers.{ReaderState, IsConsistentWith, Gains, FeedFault}
+use Rattle.link_capture_grammar.specs.declared.fault.FaultKind.TheVariants.{Cut, ShortLength, OverLimit, Refused, EmptyPorts, Unfit, TextOverLimit, Memory, Read, Write, TooLong, Failed}
 use Rattle.link_capture_reader.specs.Devices.{counted, is_end}
 use Rattle.link_capture_reader.specs.Outcomes.{IsOpen, IsPrefix}
-use Rattle.link_capture_reader.proofs.Progress.{open_from, part_prefix, FeedOk, FeedErr}
-use Rattle.link_lines_texts.specs.Captures.{Choice, text_lines, lines}
-use Rattle.link_lines_texts.specs.Laws.{LinesAreJoined}
-use Rattle.link_lines.specs.Outcomes.{ShowsPrefix, ShownAt}
-use Rattle.link_lines.proofs.Joined.{on_ok, no_lines, lines_nil, lines_continue, lines_gained, lines_begin}
+use Rattle.link_capture_reader.proofs.Progress.{part_prefix}
+use Rattle.link_capture_refusals.specs.RefusalViews.{all_found}
+use Rattle.link_lines.specs.MessageLaws.{FirstFaultsAreReported, MessagesUnfold}
+use Rattle.link_lines.specs.MessageLines.{Selection, messages_lines, shown}
+use Rattle.link_lines.specs.Messages.{Message, Report, first_report, frame_of, last_fault, messages, messages_at, report_of}
+use Rattle.link_lines.specs.Outcomes.{IsReadThrough, Shown, ShownAt, ShowsPrefix, has_bytes}
+use Rattle.link_lines.specs.Refused.{reported_refusal, without_refusal}
+use Rattle.link_lines.specs.Walks.{Ends, FinishedWith, Passes, StopsThere, or_else, report_in}
+use Rattle.link_lines.specs.declared.refused.ShowFault.{ShowFault}
+use Rattle.link_lines.proofs.Passing.{last_there, lines_more, lines_of_none, open_more, or_none, reports_more}
+use Rattle.link_lines.proofs.Reaching.{AreCut, Concluded, Reaches, concluded, first_reported, nothing_reported, no_tail, open_tail, reached, reaches_piece, reaches_rest}
 
--- The bytes s were read and accepted, and their lines are written.
-pub record Came (ch : Choice) (limit : ℕ) (reader : ReaderState) (written : ℕ) (come_old come_new holds_old holds_new : Option (List ℕ)) (s : List ℕ) : Type 0 where
-  pub limit_is : reader.limit ≡ limit
-  pub stands_for : IsConsistentWith reader s
+-- The bytes s were read, and the lines of their messages are written. What isn't shown are the bytes `rest`, which begin
+-- at the offset `start`, after `padding` bytes.
+pub record Came (o : Selection) (limit start padding : ℕ) (rest : List ℕ) (found : Option ShowFault) (written : ℕ) (come_old come_new holds_old holds_new : Option (List ℕ)) (s : List ℕ) : Type 0 where
+  pub messages : List Message
+  pub reaches : Reaches o.keep_going limit s messages start padding rest
+  pub goes_on : last_fault messages ≡ None
+  pub reports : report_in found ≡ first_report messages
+  pub accepted : start + length rest ≡ length s
+  pub cut : AreCut limit padding rest
+  pub near : padding ≤ 3
+  pub fits : start + length rest < 2 ^ 64
   pub consumed : Consumes come_old come_new s
-  pub wrote : Appends holds_old holds_new (lines ch limit s)
-  pub count : written ≡ min (length (lines ch limit s)) (2 ^ 64 - 1)
+  pub wrote : Appends holds_old holds_new (messages_lines o messages)
+  pub count : written ≡ min (length (messages_lines o messages)) (2 ^ 64 - 1)
 
-pub nothing_came : (ch : Choice) → LinesAreJoined → (limit : ℕ) (reader : ReaderState) (come holds : Option (List ℕ)) → reader.limit ≡ limit → IsConsistentWith reader [] → Came ch limit reader 0 come come holds holds []
-nothing_came ch joined limit reader come holds e h = record {
-  limit_is = e;
-  stands_for = h;
+pub nothing_came : (o : Selection) (limit : ℕ) (come holds : Option (List ℕ)) → Came o limit 0 0 [] None 0 come come holds holds []
+nothing_came o limit come holds = record {
+  messages = [];
+  reaches = λ t. refl;
+  goes_on = refl;
+  reports = refl;
+  accepted = refl;
+  cut = inl refl;
+  near = omega arith;
+  fits = omega arith;
   consumed = Consumes-nil come;
-  wrote = subst (Appends holds holds) (sym (lines_nil ch joined limit)) (Appends-nil holds);
-  count = ap (λ (t : List ℕ). min (length t) (2 ^ 64 - 1)) (sym (lines_nil ch joined limit));
+  wrote = subst (Appends holds holds) (sym (lines_of_none o)) (Appends-nil holds);
+  count = ap (λ (t : List ℕ). min (length t) (2 ^ 64 - 1)) (sym (lines_of_none o));
 }
 
--- The text that `push_lines` leaves in an empty buffer.
-pub pushed : (ch : Choice) → {E : Type 0} (r : Result (Unit {0}) E) (old new slice out : List ℕ) → is_err r ≡ false → old ≡ [] → slice ≡ out → OnOk r (new ≡ old ++ text_lines ch slice) → new ≡ text_lines ch out
-pushed ch r old new slice out k e t h = on_ok r (new ≡ old ++ text_lines ch slice) k h ∙ ap (λ o. o ++ text_lines ch slice) e ∙ ap (text_lines ch) t
+-- The same statement for an empty buffer.
+pub nothing_came_for : (o : Selection) (limit : ℕ) (rest : List ℕ) → rest ≡ [] → (come holds : Option (List ℕ)) → Came o limit 0 0 rest None 0 come come holds holds []
+nothing_came_for o limit rest e come holds = subst (λ r. Came o limit 0 0 r None 0 come come holds holds []) (sym e) (nothing_came o limit come holds)
 
--- Reading is continued by a piece.
-pub reading_continues : (ch : Choice) → LinesAreJoined → (limit : ℕ) (reader then : ReaderState) (s p old out shown : List ℕ) (come_old come_between come_new holds_old holds_between holds_new : Option (List ℕ)) (written total : ℕ) → limit < 2 ^ 32 → Came ch limit reader written come_old come_between holds_old holds_between s → old ≡ [] → then.limit ≡ reader.limit → FeedOk reader then p old out → Consumes come_between come_new p → shown ≡ text_lines ch out → Appends holds_between holds_new shown → total ≡ min (written + length shown) (2 ^ 64 - 1) → Came ch limit then total come_old come_new holds_old holds_new (s ++ p)
-reading_continues ch joined limit reader then s p old out shown come_old come_between come_new holds_old holds_between holds_new written total b came e l fed consumed is wrote count =
-    let f = fed s came.stands_for in
-    let gains : Gains limit s (s ++ p) [] out = subst (λ n. Gains n s (s ++ p) [] out) came.limit_is (subst (λ o. Gains reader.limit s (s ++ p) o out) e f.2) in
-    let all : lines ch limit (s ++ p) ≡ lines ch limit s ++ shown = lines_gained ch joined limit s (s ++ p) out b gains ∙ ap (λ x. lines ch limit s ++ x) (sym is) in
-    let size : length (lines ch limit (s ++ p)) ≡ length (lines ch limit s) + length shown = ap length all ∙ length-append (lines ch limit s) shown in
-    record {
-      limit_is = l ∙ came.limit_is;
-      stands_for = f.1;
-      consumed = Consumes-trans come_old come_between come_new s p came.consumed consumed;
-      wrote = subst (Appends holds_old holds_new) (sym all) (Appends-trans holds_old holds_between holds_new (lines ch limit s) shown came.wrote wrote);
-      count = (let known = came.count in omega (arith, size, known, count));
-    }
+module _ (go : MessagesUnfold) (law : FirstFaultsAreReported) (o : Selection) (limit start padding : ℕ) (rest : List ℕ) (found : Option ShowFault) (written : ℕ) (come_old come_new holds_old holds_new : Option (List ℕ)) (s : List ℕ) (came : Came o limit start padding rest found written come_old come_new holds_old holds_new s) where
+  abbrev tail : List Message
+  tail = messages_at o.keep_going limit (start + padding) (drop padding rest)
 
--- A source that gave some bytes has not reported its end.
+  conclusion : Concluded o limit s came.messages tail
+  conclusion = concluded o limit s came.messages tail (reached o.keep_going limit s came.messages start padding rest came.reaches) came.goes_on
+
+  -- The lines that are written are those of all that was read.
+  pub lines_shown : messages_lines o came.messages ≡ shown o limit s
+  lines_shown =
+      sym (conclusion.lines ∙ ap (λ x. messages_lines o came.messages ++ x) (open_tail go o limit (start + padding) padding rest came.cut).no_lines ∙ append-nil (messages_lines o came.messages))
+
+  still_open : IsOpen (last_fault (messages o.keep_going limit s))
+  still_open = subst IsOpen (sym conclusion.fault) (open_tail go o limit (start + padding) padding rest came.cut).is_open
+
+  -- A further piece isn't shown.
+  pub before_piece : (p : List ℕ) (at : ℕ) → at ≡ start + length rest → ShowsPrefix o limit (s ++ p) (messages_lines o came.messages) at
+  before_piece p at e =
+      let size : length s ≡ at = sym came.accepted ∙ sym e in
+      let read : take at (s ++ p) ≡ s = take_at s p at size in
+      record {
+        inside = omega (arith, size, length-append s p);
+        is_open = subst (λ x. IsOpen (last_fault (messages o.keep_going limit x))) (sym read) still_open;
+        written = lines_shown ∙ ap (shown o limit) (sym read);
+      }
+
+  pub before_end : (at : ℕ) → at ≡ start + length rest → ShowsPrefix o limit s (messages_lines o came.messages) at
+  before_end at e = subst (λ x. ShowsPrefix o limit x (messages_lines o came.messages) at) (append-nil s) (before_piece [] at e)
+
+-- ---- results
+
+-- A fault that a frame can have.
+shown_frame : (o : Selection) (E R W : Type 0) (limit : ℕ) (s w : List ℕ) (kind : FaultKind) (at : ℕ) → IsOfFrames kind → first_fault limit s ≡ Some (record { kind = kind; offset = at }) → IsReadThrough (last_fault (messages o.keep_going limit s)) E → w ≡ shown o limit s → ShownAt o E R W limit s w kind at
+shown_frame o E R W limit s w Cut at k f e l = (f, e, l)
+shown_frame o E R W limit s w ShortLength at k f e l = (f, e, l)
+shown_frame o E R W limit s w OverLimit at k f e l = (f, e, l)
+shown_frame o E R W limit s w Refused at k f e l = (f, e, l)
+shown_frame o E R W limit s w EmptyPorts at k f e l = (f, e, l)
+shown_frame o E R W limit s w Unfit at k f e l = (f, e, l)
+shown_frame o E R W limit s w TextOverLimit at k f e l = (f, e, l)
+shown_frame o E R W limit s w Memory at k f e l = absurd k
+shown_frame o E R W limit s w Read at k f e l = absurd k
+shown_frame o E R W limit s w Write at k f e l = absurd k
+shown_frame o E R W limit s w TooLong at k f e l = absurd k
+shown_frame o E R W limit s w Failed at k f e l = absurd k
+
+-- The report of a result in code.
+abbrev reported_by : ShowFault → Report
+reported_by e = (e.fault, all_found e.refusal)
+
+-- The first fault is reported.
+pub fault_shown : FirstFaultsAreReported → FaultsAreAtFrames link_body → (o : Selection) (E R W : Type 0) (limit : ℕ) (s w : List ℕ) (e : ShowFault) → first_report (messages o.keep_going limit s) ≡ Some (reported_by e) → IsReadThrough (last_fault (messages o.keep_going limit s)) E → w ≡ shown o limit s →
+    Shown o E R W limit s w (Err e)
+fault_shown law frames o E R W limit s w e report ended lines =
+    let first = first_reported law o.keep_going limit s (reported_by e) report in
+    (shown_frame o E R W limit s w e.fault.kind e.fault.offset (frames limit s e.fault first.0).2 first.0 ended lines, first.1)
+
+-- A fault of a device, or out of memory, has no reason.
+pub device_shown : (o : Selection) (E R W : Type 0) (limit : ℕ) (s w : List ℕ) (e : ShowFault) (fault : CaptureFault) → e ≡ without_refusal fault → reported_refusal s fault.kind fault.offset ≡ None → ShownAt o E R W limit s w fault.kind fault.offset → Shown o E R W limit s w (Err e)
+device_shown o E R W limit s w e fault f n h = subst (λ x. Shown o E R W limit s w (Err x)) (sym f) (h, sym n)
+
+ends_through : (f : Option CaptureFault) (E : Type 0) → E → IsReadThrough f E
+ends_through None E e = e
+ends_through (Some f) E e = λ k. e
+
+has_length : (w : List ℕ) (n : ℕ) → n ≡ min (length w) (2 ^ 64 - 1) → nat_lt 0 n ≡ has_bytes w
+has_length [] n e = ap (nat_lt 0) (e ∙ refl)
+has_length (b ∷ w) n e = lt-ltb 0 n (omega (arith, e))
+
+-- ---- the end of the source
+
+module _ (go : MessagesUnfold) (law : FirstFaultsAreReported) (frames : FaultsAreAtFrames link_body) (o : Selection) (limit start padding : ℕ) (rest : List ℕ) (found : Option ShowFault) (written : ℕ) (come_old come_new holds_old holds_new : Option (List ℕ)) (s : List ℕ) (came : Came o limit start padding rest found written come_old come_new holds_old holds_new s) (E R W : Type 0) (ended : E) where
+  abbrev w : List ℕ
+  w = messages_lines o came.messages
+
+  abbrev all : List Message
+  all = messages o.keep_going limit s
+
+  abbrev left : List Message
+  left = messages_at o.keep_going limit (start + padding) (drop padding rest)
+
+  first : first_report all ≡ or_else (report_in found) (first_report left)
+  first =
+      (concluded o limit s came.messages left (reached o.keep_going limit s came.messages start padding rest came.reaches) came.goes_on).report
+      ∙ ap (λ x. or_else x (first_report left)) (sym came.reports)
+
+  lines_are : w ≡ shown o limit s
+  lines_are = lines_shown go law o limit start padding rest found written come_old come_new holds_old holds_new s came
+
+  by_report : (e : ShowFault) → first_report all ≡ Some (reported_by e) → Shown o E R W limit s w (Err e)
+  by_report e report = fault_shown law frames o E R W limit s w e report (ends_through (last_fault all) E ended) lines_are
+
+  cut_left : (x : ℕ) (c : List ℕ) → rest ≡ x ∷ c → first_report left ≡ Some (reported_by (without_refusal (record { kind = Cut; offset = start })))
+  cut_left x c e = elim came.cut [
+    | inl none ↦ absurd (let z : length (x ∷ c) ≡ 0 = ap length (sym e ∙ none) in omega (arith, z))
+    | inr cut ↦
+        let stop : first_frame limit (drop padding rest) ≡ Err Cut = subst (λ n. first_frame limit (drop n rest) ≡ Err Cut) (sym cut.0) cut.1 in
+        let some : 0 < length (drop padding rest) = subst (λ n. 0 < length (drop n rest)) (sym cut.0) (omega (arith, ap length e)) in
+        let at : start + padding ≡ start = omega (arith, cut.0) in
+        (last_there go o limit (start + padding) (drop padding rest) Cut some (stop, λ b. absurd (cc))).report
+        ∙ ap (λ n. Some (reported_by (without_refusal (record { kind = Cut; offset = n })))) at
+  ]
+
+  finished_in : (r : Option Report) → report_in found ≡ r → (c : List ℕ) → rest ≡ c → (result : Result Bool ShowFault) → FinishedWith r c start written result → Shown o E R W limit s w result
+  finished_in None e [] f (Ok b) h =
+      let none : left ≡ [] = ap (λ c. messages_at o.keep_going limit (start + padding) (drop padding c)) f ∙ no_tail go o limit (start + padding) padding in
+      (ended, nothing_reported law o.keep_going limit s (first ∙ ap (λ x. or_else x (first_report left)) e ∙ ap first_report none), lines_are, h ∙ has_length w written came.count)
+  finished_in None e [] f (Err x) h = absurd h
+  finished_in None e (x ∷ c) f (Ok b) h = absurd h
+  finished_in None e (x ∷ c) f (Err z) h =
+      subst (λ y. Shown o E R W limit s w (Err y)) (sym h) (by_report (without_refusal (record { kind = Cut; offset = start })) (first ∙ ap (λ y. or_else y (first_report left)) e ∙ cut_left x c f))
+  finished_in (Some r) e c f (Ok b) h = absurd h
+  finished_in (Some r) e c f (Err z) h = by_report z (first ∙ ap (λ y. or_else y (first_report left)) e ∙ ap (λ y. Some y) (sym h))
+
+  pub finished : (result : Result Bool ShowFault) → FinishedWith (report_in found) rest start written result → Shown o E R W limit s w result
+  finished result h = finished_in (report_in found) refl rest refl result h
+
+-- ---- a piece
+
+module _ (go : MessagesUnfold) (law : FirstFaultsAreReported) (o : Selection) (limit start padding : ℕ) (rest whole : List ℕ) (found then : Option ShowFault) (written : ℕ) (come_old come_between come_new holds_old holds_between : Option (List ℕ)) (s p : List ℕ) (came : Came o limit start padding rest found written come_old come_between holds_old holds_between s) (joined : whole ≡ rest ++ p) (to : ℕ) (old new : List ℕ) (none : old ≡ []) (passes : Passes o limit start whole padding to old new (report_in found) (report_in then)) where
+  abbrev ms : List Message
+  ms = came.messages ++ passes.messages
+
+  abbrev after : List Message
+  after = messages_at o.keep_going limit (start + to) (drop to whole)
+
+  reaches : Reaches o.keep_going limit (s ++ p) ms start to whole
+  reaches = reaches_piece o.keep_going limit s came.messages start padding rest p whole to passes.messages came.reaches joined passes.between
+
+  going : last_fault ms ≡ None
+  going = open_more came.messages passes.messages came.goes_on ∙ passes.goes_on
+
+  conclusion_then : Concluded o limit (s ++ p) ms after
+  conclusion_then = concluded o limit (s ++ p) ms after (reached o.keep_going limit (s ++ p) ms start to whole reaches) going
+
+  gained : new ≡ messages_lines o passes.messages
+  gained = passes.lines ∙ ap (λ x. x ++ messages_lines o passes.messages) none
+
+  pub lines_then : messages_lines o ms ≡ messages_lines o came.messages ++ new
+  lines_then = lines_more o came.messages passes.messages ∙ ap (λ x. messages_lines o came.messages ++ x) (sym gained)
+
+  reports_then : report_in then ≡ first_report ms
+  reports_then = passes.reports ∙ ap (λ x. or_else x (first_report passes.messages)) came.reports ∙ sym (reports_more came.messages passes.messages)
+
+  -- What is written and will be is a prefix of the lines.
+  pub prefix_shown : IsPrefix (messages_lines o came.messages ++ new) (shown o limit (s ++ p))
+  prefix_shown = (messages_lines o after, conclusion_then.lines ∙ ap (λ x. x ++ messages_lines o after) lines_then)
+
+  -- Showing stops at a message of the piece.
+  pub stopped_shown : FaultsAreAtFrames link_body → (E R W : Type 0) (kind : FaultKind) (e : ShowFault) → to < length whole → StopsThere o.keep_going limit (drop to whole) kind → (kind ≡ Cut → ⊥) → report_in (Some e) ≡ or_else (report_in then) (Some (report_of (start + to) kind (frame_of (drop to whole)))) →
+      Shown o E R W limit (s ++ p) (messages_lines o came.messages ++ new) (Err e)
+  stopped_shown frames E R W kind e l stop differs report =
+      let last = last_there go o limit (start + to) (drop to whole) kind (omega (arith, l, length-drop to whole)) stop in
+      let first : first_report (messages o.keep_going limit (s ++ p)) ≡ Some (reported_by e) =
+      conclusion_then.report ∙ ap (λ x. or_else x (first_report after)) (sym reports_then) ∙ ap (or_else (report_in then)) last.report ∙ sym report in
+      let lines : messages_lines o came.messages ++ new ≡ shown o limit (s ++ p) =
+      sym (conclusion_then.lines ∙ ap (λ x. messages_lines o ms ++ x) last.no_lines ∙ append-nil (messages_lines o ms) ∙ lines_then) in
+      fault_shown law frames o E R W limit (s ++ p) (messages_lines o came.messages ++ new) e first
+      (subst (λ f. IsReadThrough f E) (sym (conclusion_then.fault ∙ last.fault)) (λ k. absurd (differs k))) lines
+
+  -- All messages of the piece are shown, but perhaps a cut one.
+  continues_after : (total passed : ℕ) (holds_new : Option (List ℕ)) → Consumes come_between come_new p → Appends holds_between holds_new new → total ≡ min (written + length new) (2 ^ 64 - 1) → passed ≡ min to (length whole) → to ≤ length whole + 3 → start + length whole < 2 ^ 64 → AreCut limit (to - passed) (drop passed whole) →
+      Came o limit (start + passed) (to - passed) (drop passed whole) then total come_old come_new holds_old holds_new (s ++ p)
+  continues_after total passed holds_new consumed wrote count is near fits cut =
+      let within : passed ≤ length whole = omega (arith, is) in
+      let low : passed ≤ to = omega (arith, is) in
+      record {
+        messages = ms;
+        reaches = reaches_rest o.keep_going limit (s ++ p) ms start to whole passed reaches low within;
+        goes_on = going;
+        reports = reports_then;
+        accepted = omega (arith, came.accepted, length-drop passed whole, ap length joined, length-append rest p, length-append s p, within);
+        cut = cut;
+        near = omega (arith, is, near);
+        fits = omega (arith, fits, length-drop passed whole, within);
+        consumed = Consumes-trans come_old come_between come_new s p came.consumed consumed;
+        wrote = subst (Appends holds_old holds_new) (sym lines_then) (Appends-trans holds_old holds_between holds_new (messages_lines o came.messages) new came.wrote wrote);
+        count = omega (arith, count, came.count, ap length lines_then, length-append (messages_lines o came.messages) new);
+      }
+
+  -- The same statement for the bytes that are left.
+  pub continues : (total passed : ℕ) (left : List ℕ) (holds_new : Option (List ℕ)) → left ≡ drop passed whole → Consumes come_between come_new p → Appends holds_between holds_new new → total ≡ min (written + length new) (2 ^ 64 - 1) → passed ≡ min to (length whole) → to ≤ length whole + 3 → start + length whole < 2 ^ 64 → AreCut limit (to - passed) (drop passed whole) →
+      Came o limit (start + passed) (to - passed) left then total come_old come_new holds_old holds_new (s ++ p)
+  continues total passed left holds_new e consumed wrote count is near fits cut =
+      subst (λ x. Came o limit (start + passed) (to - passed) x then total come_old come_new holds_old holds_new (s ++ p)) (sym e) (continues_after total passed holds_new consumed wrote count is near fits cut)
+
+-- A failure of the sink has no reason.
+pub write_only : (s : List ℕ) (kind : FaultKind) (at : ℕ) → kind ≡ Write → reported_refusal s kind at ≡ None
+write_only s kind at e = subst (λ k. reported_refusal s k at ≡ None) (sym e) refl
+
+-- A read of some bytes doesn't report the end.
 pub unended : (n capacity m : ℕ) → n ≢ 0 → counted (is_end (Ok n) capacity) m ≡ m
 unended n capacity m h = let e : eqb n 0 ≡ false = ne_eqb n 0 h in ap (λ x. counted (x && ltb 0 capacity) m) e
 
--- The text that `feed` appends to nothing continues to the texts of a prefix of what was read.
-record Reaches (limit : ℕ) (s p out : List ℕ) : Type 0 where
-  prefix : List ℕ
-  is : texts limit prefix ≡ texts limit s ++ out
-  begins : IsPrefix (texts limit prefix) (texts limit (s ++ p))
+-- What isn't shown of a piece is a cut message, if no other message stops showing.
+pub are_cut : (k : Bool) (limit : ℕ) (whole : List ℕ) (to passed : ℕ) (last : Option FaultKind) → Ends k limit whole to last → (last ≡ None) ⊎ (last ≡ Some Cut) → passed ≡ min to (length whole) → AreCut limit (to - passed) (drop passed whole)
+are_cut k limit whole to passed last ends (inl none) is =
+    let end : length whole ≤ to = subst (Ends k limit whole to) none ends in
+    inl (drop_all passed whole (omega (arith, is, end)))
+are_cut k limit whole to passed last ends (inr cut) is =
+    let stop = subst (Ends k limit whole to) cut ends in
+    let same : to ≡ passed = omega (arith, is, stop.0) in
+    inr (omega (arith, same), subst (λ n. first_frame limit (drop n whole) ≡ Err Cut) same stop.1.0)
 
--- The text that was gained, after what was there.
-all_is : (limit : ℕ) (s t out : List ℕ) → Gains limit s t [] out → texts limit t ≡ texts limit s ++ out
-all_is limit s t out g = g.1 ∙ ap (λ x. texts limit s ++ x) (sym g.2)
-
-reaches_all : (limit : ℕ) (s p out : List ℕ) → Gains limit s (s ++ p) [] out → Reaches limit s p out
-reaches_all limit s p out g = record {
-  prefix = s ++ p;
-  is = all_is limit s (s ++ p) out g;
-  begins = ([], sym (append-nil (texts limit (s ++ p))));
-}
-
-reaches : PrefixTexts link_body → (limit : ℕ) (s p out : List ℕ) (kind : FaultKind) (at : ℕ) → FeedFault limit s p [] out kind at → Reaches limit s p out
-reaches stay limit s p out Cut at h = absurd h
-reaches stay limit s p out Memory at h = record {
-  prefix = take at (s ++ p);
-  is = all_is limit s (take at (s ++ p)) out h.2;
-  begins = subst (λ x. IsPrefix (texts limit (take at (s ++ p))) (texts limit x)) (take-append-drop at (s ++ p)) (stay limit (take at (s ++ p)) (drop at (s ++ p)));
-}
-reaches stay limit s p out Read at h = absurd h
-reaches stay limit s p out Write at h = absurd h
-reaches stay limit s p out TooLong at h = record {
-  prefix = s;
-  is = sym (append-nil (texts limit s)) ∙ ap (λ x. texts limit s ++ x) (sym h.2);
-  begins = stay limit s p;
-}
-reaches stay limit s p out Failed at h = absurd h
-reaches stay limit s p out kind at h = reaches_all limit s p out h.2
-
--- The lines of what it adds, after those that were written, are a prefix of the lines of what was read.
-lines_reach : (ch : Choice) → LinesAreJoined → (limit : ℕ) (s p out : List ℕ) → limit < 2 ^ 32 → Reaches limit s p out → IsPrefix (lines ch limit s ++ text_lines ch out) (lines ch limit (s ++ p))
-lines_reach ch joined limit s p out b r =
-    subst (λ x. IsPrefix x (lines ch limit (s ++ p))) (lines_continue ch joined limit s r.prefix out b r.is) (lines_begin ch joined limit r.prefix (s ++ p) b r.begins)
-
-pub fed_lines : (ch : Choice) → PrefixTexts link_body → LinesAreJoined → (limit : ℕ) (reader then : ReaderState) (s p old out : List ℕ) (r : Result (Unit {0}) CaptureFault) → limit < 2 ^ 32 → reader.limit ≡ limit → old ≡ [] → IsConsistentWith reader s → OnOk r (FeedOk reader then p old out) → IfErr r (FeedErr reader p old out) → IsPrefix (lines ch limit s ++ text_lines ch out) (lines ch limit (s ++ p))
-fed_lines ch stay joined limit reader then s p old out (Ok x) b l e h good bad =
-    lines_reach ch joined limit s p out b
-    (subst (λ n. Reaches n s p out) l (reaches_all reader.limit s p out (subst (λ o. Gains reader.limit s (s ++ p) o out) e (good s h).2)))
-fed_lines ch stay joined limit reader then s p old out (Err fault) b l e h good bad =
-    lines_reach ch joined limit s p out b
-    (subst (λ n. Reaches n s p out) l (reaches stay reader.limit s p out fault.kind fault.offset (subst (λ o. FeedFault reader.limit s p o out fault.kind fault.offset) e (bad s h))))
-
--- A failed write: a prefix of the lines that were to be written has been.
-pub failed_write : (ch : Choice) → (E R W : Type 0) (limit : ℕ) (s a out : List ℕ) (written n : ℕ) (fault : CaptureFault) → W → IsPrefix (a ++ out) (lines ch limit s) → n ≤ length out → written ≡ min (length a) (2 ^ 64 - 1) → fault.kind ≡ Write → fault.offset ≡ min (written + n) (2 ^ 64 - 1) → ShownAt ch E R W limit s (a ++ take n out) fault.kind fault.offset
-failed_write ch E R W limit s a out written n fault w p l c k o =
+-- A write failed after n bytes of the lines.
+pub failed_write : (o : Selection) (E R W : Type 0) (limit : ℕ) (s a out : List ℕ) (written n : ℕ) (fault : CaptureFault) → W → IsPrefix (a ++ out) (shown o limit s) → n ≤ length out → written ≡ min (length a) (2 ^ 64 - 1) → fault.kind ≡ Write → fault.offset ≡ min (written + n) (2 ^ 64 - 1) → ShownAt o E R W limit s (a ++ take n out) fault.kind fault.offset
+failed_write o E R W limit s a out written n fault w p l c k at =
     let size : length (a ++ take n out) ≡ length a + n = length-append a (take n out) ∙ omega (arith, length-take n out) in
-    subst (λ x. ShownAt ch E R W limit s (a ++ take n out) x fault.offset) (sym k) (w, omega (arith, size), part_prefix a out (lines ch limit s) n p)
-
--- The bytes before the piece are shown.
-pub before_piece : (ch : Choice) → (limit : ℕ) (s p : List ℕ) (at : ℕ) → at ≡ length s → IsOpen (first_fault limit s) → ShowsPrefix ch limit (s ++ p) (lines ch limit s) at
-before_piece ch limit s p at e o =
-    let t : take at (s ++ p) ≡ s = take_at s p at (sym e) in
-    record {
-      inside = omega (arith, e, length-append s p);
-      is_open = subst (λ x. IsOpen (first_fault limit x)) (sym t) o;
-      written = ap (lines ch limit) (sym t);
-    }
-
--- An allocation fails for the lines of a piece.
-pub lines_out_of_memory : (ch : Choice) → (limit : ℕ) (reader : ReaderState) (s p : List ℕ) (at : ℕ) → reader.limit ≡ limit → IsConsistentWith reader s → at ≡ reader.accepted → ShowsPrefix ch limit (s ++ p) (lines ch limit s) at
-lines_out_of_memory ch limit reader s p at l h e =
-    before_piece ch limit s p at (e ∙ h.accepted) (subst (λ n. IsOpen (first_fault n s)) l (open_from _ s reader.kept reader.owed h.rest))
-
--- A legal prefix has no fault.
-legal_prefix : (ch : Choice) → (limit : ℕ) (c w : List ℕ) (at : ℕ) → StopsAt limit c at → w ≡ lines ch limit (take at c) → ShowsPrefix ch limit c w at
-legal_prefix ch limit c w at h e = record {
-  inside = (let i = h.inside in omega arith);
-  is_open = subst IsOpen (sym h.legal) tt;
-  written = e;
-}
-
--- A fault of `feed` is returned once the lines of what it added are written.
-fed_fault : (ch : Choice) → LinesAreJoined → (E R W : Type 0) (limit : ℕ) (s p out : List ℕ) (kind : FaultKind) (at : ℕ) → limit < 2 ^ 32 → length p ≤ 65536 → IsOpen (first_fault limit s) → FeedFault limit s p [] out kind at → ShownAt ch E R W limit (s ++ p) (lines ch limit s ++ text_lines ch out) kind at
-fed_fault ch joined E R W limit s p out Cut at b z o h = absurd h
-fed_fault ch joined E R W limit s p out Memory at b z o h = legal_prefix ch limit (s ++ p) _ at h.1 (sym (lines_gained ch joined limit s (take at (s ++ p)) out b h.2))
-fed_fault ch joined E R W limit s p out Read at b z o h = absurd h
-fed_fault ch joined E R W limit s p out Write at b z o h = absurd h
-fed_fault ch joined E R W limit s p out TooLong at b z o h =
-    let none : lines ch limit s ++ text_lines ch out ≡ lines ch limit s = ap (λ x. lines ch limit s ++ text_lines ch x) h.2 ∙ ap (λ x. lines ch limit s ++ x) (no_lines ch joined) ∙ append-nil (lines ch limit s) in
-    record {
-      long = omega (arith, h.0, length-append s p);
-      last = omega (arith, h.1, length-append s p);
-      prefix = subst (λ x. ShowsPrefix ch limit (s ++ p) x at) (sym none) (before_piece ch limit s p at h.1 o);
-    }
-fed_fault ch joined E R W limit s p out Failed at b z o h = absurd h
-fed_fault ch joined E R W limit s p out kind at b z o h = (h.1, sym (lines_gained ch joined limit s (s ++ p) out b h.2))
-
-pub fed_outcome : (ch : Choice) → LinesAreJoined → (E R W : Type 0) (limit : ℕ) (reader : ReaderState) (s p old out : List ℕ) (fault : CaptureFault) → limit < 2 ^ 32 → reader.limit ≡ limit → old ≡ [] → length p ≤ 65536 → IsConsistentWith reader s → FeedErr reader p old out fault → ShownAt ch E R W limit (s ++ p) (lines ch limit s ++ text_lines ch out) fault.kind fault.offset
-fed_outcome ch joined E R W limit reader s p old out fault b l e z h bad =
-    let o : IsOpen (first_fault limit s) = subst (λ n. IsOpen (first_fault n s)) l (open_from _ s reader.kept reader.owed h.rest) in
-    let f : FeedFault limit s p [] out fault.kind fault.offset = subst (λ n. FeedFault n s p [] out fault.kind fault.offset) l (subst (λ x. FeedFault reader.limit s p x out fault.kind fault.offset) e (bad s h)) in
-    fed_fault ch joined E R W limit s p out fault.kind fault.offset b z o f
+    subst (λ x. ShownAt o E R W limit s (a ++ take n out) x fault.offset) (sym k) (w, omega (arith, size, c, at), part_prefix a out (shown o limit s) n p)

@@ -1,7 +1,14 @@
+pub mod Messages
+pub mod MessageLines
 pub mod Options
 pub mod Refused
 pub mod Outcomes
+pub mod MessageLaws
+pub mod Walks
 pub mod Meanings
+pub mod Words
+pub mod Types
+pub mod Without
 pub use Rattle.link_lines_texts.specs.Captures
 pub use Rattle.link_capture_reader.specs.Devices
 pub use Rattle.link_capture_reader.specs.Known

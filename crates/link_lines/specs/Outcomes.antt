@@ -1,12 +1,15 @@
 -- What a result says about the bytes that were read and the lines that were written.
-use Rattle.std.specs.Prelude.{◌≡◌, ℕ, ◌+◌, ◌-◌, ◌^◌, ◌≤◌, min, List, length, take, drop, Option, Some, Result, Ok, Err}
+use Rattle.std.specs.Prelude.{◌≡◌, ℕ, ◌+◌, ◌-◌, ◌^◌, ◌≤◌, min, Bool, true, false, List, [], ◌∷◌, length, take, drop}
+use Rattle.std.specs.Prelude.{Option, None, Some, Result, Ok, Err}
 use Rattle.std.specs.Io.KnownBytes.{Consumes, Appends}
+use Rattle.link_capture_grammar.specs.declared.fault.CaptureFault.{CaptureFault}
 use Rattle.link_capture_grammar.specs.declared.fault.FaultKind.{FaultKind}
 use Rattle.link_capture_grammar.specs.declared.fault.FaultKind.TheVariants.{Cut, Memory, Read, Write, TooLong, Failed}
 use Rattle.link_capture_grammar.specs.Captures.{first_fault, first_frame, IsLegal}
 use Rattle.link_capture_reader.specs.Outcomes.{IsOpen, IsPrefix}
 use Rattle.link_capture_refusals.specs.RefusalViews.{all_found}
-use Rattle.link_lines_texts.specs.Captures.{Choice, lines}
+use Rattle.link_lines.specs.MessageLines.{Selection, shown}
+use Rattle.link_lines.specs.Messages.{last_fault, messages}
 use Rattle.link_lines.specs.Refused.{reported_refusal}
 use Rattle.link_lines.specs.declared.refused.ShowFault.{ShowFault}
 
@@ -14,52 +17,62 @@ use Rattle.link_lines.specs.declared.refused.ShowFault.{ShowFault}
 abbrev pub NeedsMemoryAt : ℕ → List ℕ → ℕ → Type 0
 NeedsMemoryAt limit c at = (frame : ℕ × List ℕ) × (first_frame limit (drop at c) ≡ Ok frame)
 
--- The first `at` bytes of s have no fault or a cut frame, and w are their lines.
-pub record ShowsPrefix (o : Choice) (limit : ℕ) (s w : List ℕ) (at : ℕ) : Type 0 where
+-- The first `at` bytes of s were shown: showing doesn't stop in them, or at a message that is cut, and w are their
+-- lines.
+pub record ShowsPrefix (o : Selection) (limit : ℕ) (s w : List ℕ) (at : ℕ) : Type 0 where
   pub inside : at ≤ length s
-  pub is_open : IsOpen (first_fault limit (take at s))
-  pub written : w ≡ lines o limit (take at s)
+  pub is_open : IsOpen (last_fault (messages o.keep_going limit (take at s)))
+  pub written : w ≡ shown o limit (take at s)
 
--- More bytes were read than can be counted. All of them but the last piece, of at most 65,536 bytes, were accepted, and
--- their lines are written.
-pub record PassesLength (o : Choice) (limit : ℕ) (s w : List ℕ) (at : ℕ) : Type 0 where
+-- More bytes were read than can be counted. All of them but the last piece, of at most 65,536 bytes, were shown.
+pub record PassesLength (o : Selection) (limit : ℕ) (s w : List ℕ) (at : ℕ) : Type 0 where
   pub long : 2 ^ 64 ≤ length s
   pub last : length s ≤ at + 65536
   pub prefix : ShowsPrefix o limit s w at
 
+-- The source reported its end, unless showing stops at a message before it.
+abbrev pub IsReadThrough : Option CaptureFault → Type 0 → Type 0
+IsReadThrough None ended = ended
+IsReadThrough (Some fault) ended = fault.kind ≡ Cut → ended
+
 -- The bytes s were read, w was written, and the result is a fault of this kind at this offset. The propositions ended,
 -- read_failed and write_failed are what the devices reported.
-abbrev pub ShownAt : Choice → Type 0 → Type 0 → Type 0 → ℕ → List ℕ → List ℕ → FaultKind → ℕ → Type 0
-ShownAt o ended read_failed write_failed limit s w Cut at = ended ×
-    (first_fault limit s ≡ Some (record { kind = Cut; offset = at })) × (w ≡ lines o limit s)
+abbrev pub ShownAt : Selection → Type 0 → Type 0 → Type 0 → ℕ → List ℕ → List ℕ → FaultKind → ℕ → Type 0
 ShownAt o ended read_failed write_failed limit s w Memory at = ShowsPrefix o limit s w at
-ShownAt o ended read_failed write_failed limit s w Read at = read_failed × (at ≡ length s) ×
-    IsOpen (first_fault limit s) × (w ≡ lines o limit s)
+ShownAt o ended read_failed write_failed limit s w Read at = read_failed × (at ≡ length s) × ShowsPrefix o limit s w at
 ShownAt o ended read_failed write_failed limit s w Write at = write_failed × (at ≡ min (length w) (2 ^ 64 - 1)) ×
-    IsPrefix w (lines o limit s)
+    IsPrefix w (shown o limit s)
 ShownAt o ended read_failed write_failed limit s w TooLong at = PassesLength o limit s w at
 ShownAt o ended read_failed write_failed limit s w Failed at = ⊥
 ShownAt o ended read_failed write_failed limit s w kind at =
-    (first_fault limit s ≡ Some (record { kind = kind; offset = at })) × (w ≡ lines o limit s)
+    (first_fault limit s ≡ Some (record { kind = kind; offset = at })) ×
+    IsReadThrough (last_fault (messages o.keep_going limit s)) ended × (w ≡ shown o limit s)
 
--- The bytes s were read, w was written, and this is the result, with the reason of a refused body.
-abbrev pub Shown : Choice → Type 0 → Type 0 → Type 0 → ℕ → List ℕ → List ℕ → Result (Unit {0}) ShowFault → Type 0
-Shown o ended read_failed write_failed limit s w (Ok x) = ended × IsLegal limit s × (w ≡ lines o limit s)
+-- Whether bytes aren't empty.
+abbrev pub has_bytes : List ℕ → Bool
+has_bytes [] = false
+has_bytes (b ∷ w) = true
+
+-- The bytes s were read, w was written, and this is the result: whether w has lines; or a fault, with the reason of a
+-- refused body.
+abbrev pub Shown : Selection → Type 0 → Type 0 → Type 0 → ℕ → List ℕ → List ℕ → Result Bool ShowFault → Type 0
+Shown o ended read_failed write_failed limit s w (Ok has_lines) =
+    ended × IsLegal limit s × (w ≡ shown o limit s) × (has_lines ≡ has_bytes w)
 Shown o ended read_failed write_failed limit s w (Err e) =
     ShownAt o ended read_failed write_failed limit s w e.fault.kind e.fault.offset ×
     (all_found e.refusal ≡ reported_refusal s e.fault.kind e.fault.offset)
 
 -- What was read has left the source, which had the first bytes and has the second. What was written has come to the
 -- sink, which held the third and holds the fourth.
-abbrev pub Shows : Choice → Option (List ℕ) → Option (List ℕ) → Option (List ℕ) → Option (List ℕ)
-    → Type 0 → Type 0 → Type 0 → ℕ → Result (Unit {0}) ShowFault → Type 0
+abbrev pub Shows : Selection → Option (List ℕ) → Option (List ℕ) → Option (List ℕ) → Option (List ℕ)
+    → Type 0 → Type 0 → Type 0 → ℕ → Result Bool ShowFault → Type 0
 Shows o from left held holds ended read_failed write_failed limit result =
     (s w : List ℕ) × Consumes from left s × Appends held holds w ×
     Shown o ended read_failed write_failed limit s w result
 
 -- The same relation for a call that keeps the first bytes of what was read, which are these.
-abbrev pub ShowsKeeping : List ℕ → Choice → Option (List ℕ) → Option (List ℕ) → Option (List ℕ) → Option (List ℕ)
-    → Type 0 → Type 0 → Type 0 → ℕ → Result (Unit {0}) ShowFault → Type 0
+abbrev pub ShowsKeeping : List ℕ → Selection → Option (List ℕ) → Option (List ℕ) → Option (List ℕ) → Option (List ℕ)
+    → Type 0 → Type 0 → Type 0 → ℕ → Result Bool ShowFault → Type 0
 ShowsKeeping first o from left held holds ended read_failed write_failed limit result =
     (s w : List ℕ) × Consumes from left s × Appends held holds w ×
     Shown o ended read_failed write_failed limit s w result × (first ≡ take 4 s)

@@ -1,20 +1,24 @@
 //! The lines of a capture, from a source to a sink.
 
-ghost use Rattle.std.specs.Prelude.{◌≡◌, ◌≤◌};
+ghost use Rattle.std.specs.Prelude.{◌≡◌, ◌⊎◌, ◌≤◌, ◌++◌, length, drop, IfSome, IfNone, OnOk, Some, None};
+ghost use Rattle.netlink_packet_core_grammar.specs.Frames.{IsFrame};
+ghost use Rattle.link_capture_grammar.specs.declared.fault.FaultKind.{FaultKind};
 ghost use Rattle.link_capture_reader.specs.Devices.{Rises, ReportsItsEnd};
-ghost use Rattle.link_lines.specs.Options.{choice_of};
+ghost use Rattle.link_lines.specs.Messages.{frame_of, report_of};
+ghost use Rattle.link_lines.specs.Options.{selection_of};
 ghost use Rattle.link_lines.specs.Outcomes.{Shows, ShowsKeeping};
 ghost use Rattle.link_lines.specs.Refused.{without_refusal};
+ghost use Rattle.link_lines.specs.Walks.{FinishedWith, or_else, report_in};
 
-use crate::lines::push_lines;
-use crate::options::LineOptions;
-use crate::refused::{ShowFault, keep, with_refusal};
+use crate::faulty::fault_of;
+use crate::message_laws::{first_faults_are_reported, messages_unfold};
+use crate::messages::{Buffers, push_messages};
+use crate::options::ShowOptions;
+use crate::refused::ShowFault;
 use link_capture_grammar::fault::{CaptureFault, FaultKind};
-use link_capture_grammar::laws::{captures_unfold_by_frames, texts_of_a_prefix_stay};
-use link_capture_reader::{CaptureReader, FirstBytes, Sink, Source, keep_first, write_all};
-use link_capture_refusals::laws::refused_frames_are_whole;
-use link_lines_texts::laws::lines_are_joined;
-use std::alloc::Global;
+use link_capture_grammar::laws::faults_are_at_frames;
+use link_capture_reader::{FirstBytes, Sink, Source, keep_first, write_all};
+use std::alloc::{AllocError, Global};
 
 /// Returns a fault of this kind at an offset, without a refusal.
 fn fault_at(kind: FaultKind, offset: u64) -> ShowFault
@@ -23,32 +27,87 @@ fn fault_at(kind: FaultKind, offset: u64) -> ShowFault
     ShowFault::from(CaptureFault { kind, offset })
 }
 
+/// Appends a piece.
+fn append_piece(bytes: &mut Vec<u8>, piece: &[u8]) -> Result<(), AllocError>
+    ensures ok { OnOk result (bytes.new.items ≡ bytes.old.items ++ piece.now) }
+{
+    bytes.extend_from_slice(piece)
+}
+
+/// Removes the first `count` bytes.
+fn discard(bytes: &mut Vec<u8>, count: usize)
+    requires { count ≤ length bytes.old.items }
+    ensures { bytes.new.items ≡ drop count bytes.old.items }
+{
+    bytes.drain(..count);
+}
+
+/// Returns the fault of a message at which showing stops: not that of one which is cut, and which
+/// more bytes may complete.
+fn stopping_fault(last: Option<FaultKind>) -> Option<FaultKind>
+    ensures some { IfSome result (λ kind. (last ≡ Some kind) × (kind ≡ FaultKind.Cut → ⊥)) }
+    ensures none { IfNone result ((last ≡ None) ⊎ (last ≡ Some FaultKind.Cut)) }
+{
+    match last {
+        Some(FaultKind::Cut) | None => None,
+        Some(kind) => Some(kind),
+    }
+}
+
+/// Returns the first fault of a capture of which showing stops at the first message of `bytes`.
+fn stopped_by(found: Option<ShowFault>, kind: FaultKind, offset: u64, bytes: &[u8]) -> ShowFault
+    requires { kind ≡ FaultKind.Refused → IsFrame bytes.now }
+    ensures { report_in (Some result)
+        ≡ or_else (report_in found) (Some (report_of offset kind (frame_of bytes.now))) }
+{
+    match found {
+        Some(fault) => fault,
+        None => fault_of(kind, offset, bytes),
+    }
+}
+
+/// Returns the result for a capture that was read to its end, of which the bytes `rest`, at an
+/// offset, are a cut message if there are any.
+fn finish(
+    found: Option<ShowFault>,
+    rest: &[u8],
+    offset: u64,
+    written: u64,
+) -> Result<bool, ShowFault>
+    ensures { FinishedWith (report_in found) rest.now offset written result }
+{
+    match found {
+        Some(fault) => Err(fault),
+        None if rest.is_empty() => Ok(written != 0),
+        None => Err(fault_at(FaultKind::Cut, offset)),
+    }
+}
+
 /// Reads a capture to its end, in pieces of at most 65,536 bytes, and writes its lines as the
-/// frames come.
+/// messages come. Returns whether there are any lines.
 ///
 /// `limit` is the greatest length in bytes that a message, read or in its normal text, may have. Ok
 /// means that the source reported its end, the capture is legal, and its lines are written.
 ///
 /// # Errors
 ///
-/// - the capture's first fault, with its offset, and what `why` returns for a refused body;
+/// - the capture's first fault, with its offset, and what `why` returns for a refused body. The
+///   lines of the messages before it are written; with `keep_going` also those of messages with a
+///   fault of their body, and of those after them, up to a fault of another kind;
 /// - `Read` at the number of bytes read, if the source fails;
 /// - `Write` at the number of bytes taken, if the sink fails;
-/// - `Memory` at a frame, or, for a piece or its lines, at the number of bytes accepted before the
-///   piece;
-/// - `TooLong` at the number of bytes accepted.
-///
-/// The lines of the frames before the fault are written, unless a write failed, or an allocation
-/// for a piece.
+/// - `Memory` at the number of bytes read before a piece, if an allocation for it fails; the lines of
+///   its messages aren't written;
+/// - `TooLong` at the number of bytes read before a piece.
 pub fn show<S: Source, K: Sink>(
     alloc: Global,
     source: &mut S,
     sink: &mut K,
     limit: u32,
-    options: LineOptions<'_>,
-) -> Result<(), ShowFault>
+    options: ShowOptions<'_>,
+) -> Result<bool, ShowFault>
     requires { 16 ≤ limit }
-    ensures { Shows (choice_of options.entry) (S.to_come source.old) (S.to_come source.new)
+    ensures { Shows (selection_of options.entry) (S.to_come source.old) (S.to_come source.new)
         (K.holds sink.old) (K.holds sink.new)
         (ReportsItsEnd (S.ends_reported source.old) (S.ends_reported source.new) (S.to_come source.new))
         (Rises (S.failures source.old) (S.failures source.new))
@@ -67,50 +126,65 @@ pub fn show_keeping_first<S: Source, K: Sink>(
     source: &mut S,
     sink: &mut K,
     limit: u32,
-    options: LineOptions<'_>,
+    options: ShowOptions<'_>,
     first: &mut FirstBytes,
-) -> Result<(), ShowFault>
+) -> Result<bool, ShowFault>
     requires { 16 ≤ limit }
-    ensures { ShowsKeeping first.new.items (choice_of options.entry)
+    ensures { ShowsKeeping first.new.items (selection_of options.entry)
         (S.to_come source.old) (S.to_come source.new) (K.holds sink.old) (K.holds sink.new)
         (ReportsItsEnd (S.ends_reported source.old) (S.ends_reported source.new) (S.to_come source.new))
         (Rises (S.failures source.old) (S.failures source.new))
         (Rises (K.failures sink.old) (K.failures sink.new)) limit result }
 {
     first.clear();
-    texts_of_a_prefix_stay();
-    captures_unfold_by_frames();
-    refused_frames_are_whole();
-    lines_are_joined();
-    let mut reader = CaptureReader::new(alloc, limit);
+    messages_unfold();
+    first_faults_are_reported();
+    faults_are_at_frames();
     let mut buffer = [0u8; 65536];
-    let mut prefix = Vec::new(alloc);
-    let mut texts = Vec::new(alloc);
+    let mut buffers = Buffers::new(alloc);
+    let mut rest = Vec::new(alloc);
     let mut lines = Vec::new(alloc);
+    let mut found = None;
+    let mut start = 0u64;
+    let mut padding = 0usize;
     let mut written = 0u64;
     'pieces: loop {
-        let accepted = reader.accepted();
+        let accepted = start + rest.len() as u64;
         let Ok(size) = source.read(&mut buffer) else {
             return Err(fault_at(FaultKind::Read, accepted));
         };
         if size == 0 {
-            return Ok(reader.finish()?);
+            return finish(found, rest.as_slice(), start, written);
         }
         let piece = &buffer[..size];
         keep_first(first, piece);
-        if keep(&mut prefix, reader.kept_bytes(), piece).is_err() {
-            return Err(fault_at(FaultKind::Memory, accepted));
+        if size as u64 > u64::MAX - accepted {
+            return Err(fault_at(FaultKind::TooLong, accepted));
         }
-        let start = accepted - prefix.len() as u64;
-        let fed = reader.feed(piece, &mut texts);
-        if push_lines(texts.as_slice(), options, &mut lines).is_err() {
+        let Ok(()) = append_piece(&mut rest, piece) else {
             return Err(fault_at(FaultKind::Memory, accepted));
-        }
+        };
+        let Ok(walked) = push_messages(
+            rest.as_slice(),
+            start,
+            padding,
+            limit,
+            options,
+            &mut buffers,
+            &mut found,
+            &mut lines,
+        ) else {
+            return Err(fault_at(FaultKind::Memory, accepted));
+        };
         written = write_all(sink, lines.as_slice(), written)?;
-        if let Err(fault) = fed {
-            return Err(with_refusal(fault, start, &mut prefix, piece));
+        if let Some(kind) = stopping_fault(walked.last) {
+            let offset = start + walked.len as u64;
+            return Err(stopped_by(found, kind, offset, &rest.as_slice()[walked.len..]));
         }
-        texts.clear();
+        let passed = walked.len.min(rest.len());
+        discard(&mut rest, passed);
+        start += passed as u64;
+        padding = walked.len - passed;
         lines.clear();
     }
 }

@@ -2,10 +2,16 @@
 #![tactic(auto)]
 
 mod engine;
+mod faulty;
 mod lines;
+pub mod message_laws;
+mod messages;
 mod options;
 mod refused;
+mod types;
 mod whole;
+mod without;
+mod words;
 
 pub use engine::{show, show_keeping_first};
 pub use lines::push_lines;
@@ -16,7 +22,11 @@ pub use link_capture_reader::{
     WriteSink, normalize_bytes, read_all, write_all,
 };
 pub use link_capture_refusals::{Reason, Refusal};
+pub use link_lines_filter::Omission;
 pub use link_lines_texts::laws;
-pub use options::LineOptions;
+pub use options::{LineOptions, ShowOptions};
 pub use refused::ShowFault;
+pub use types::{Types, read_types};
 pub use whole::show_bytes;
+pub use without::Without;
+pub use words::WordError;

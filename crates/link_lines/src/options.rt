@@ -1,10 +1,14 @@
 //! The choice of what is shown of a capture.
 
-ghost use Rattle.std.specs.Prelude.{◌≡◌, option_map};
+ghost use Rattle.std.specs.Prelude.{◌≡◌, IsTrue};
 ghost use Rattle.link_lines_texts.specs.Captures.{is_among, is_chosen};
-ghost use Rattle.link_lines.specs.Options.{types_of};
+ghost use Rattle.link_lines.specs.MessageLines.{IsWhole, is_about_any};
+ghost use Rattle.link_lines.specs.MessageLaws.{plain};
+ghost use Rattle.link_lines.specs.Options.{choice_of, selection_of, types_of};
 
-/// The choice of what is shown of a capture; by default everything.
+use link_lines_filter::{Omission, is_about};
+
+/// The choice of what is shown of normal texts; by default everything.
 #[derive(Clone, Copy, Debug, Default, PartialEq, Eq, Drop)]
 pub struct LineOptions<'a> {
     /// Whether sequence and port numbers are left out: those of messages, and of the request's
@@ -13,6 +17,39 @@ pub struct LineOptions<'a> {
     pub without_numbers: bool,
     /// The types of the messages that are shown (netlink.h, rtnetlink.h); None shows all.
     pub only: Option<&'a [u16]>,
+}
+
+/// What is shown of a capture; by default everything up to its first fault.
+#[derive(Clone, Copy, Debug, Default, PartialEq, Eq, Drop)]
+pub struct ShowOptions<'a> {
+    /// Which messages are shown, and whether their numbers are.
+    pub lines: LineOptions<'a>,
+    /// The name or the index of the link that messages have to be about; None shows those about any.
+    pub link: Option<&'a [u8]>,
+    /// The lines and words that are left out.
+    pub omission: Omission<'a>,
+    /// Whether each message's first line ends with its offset in the capture, in bytes.
+    pub offsets: bool,
+    /// Whether messages with a fault of their body are shown too, and those after them.
+    pub keep_going: bool,
+}
+
+impl<'a> From<LineOptions<'a>> for ShowOptions<'a> {
+    ghost from_gives = { λ lines o. selection_of o ≡ plain (choice_of lines) };
+
+    fn from(lines: LineOptions<'a>) -> ShowOptions<'a> {
+        ShowOptions {
+            lines,
+            link: None,
+            omission: Omission {
+                names: &[],
+                counters: false,
+                indexes: false,
+            },
+            offsets: false,
+            keep_going: false,
+        }
+    }
 }
 
 /// Returns whether a type is one of these.
@@ -36,6 +73,25 @@ impl LineOptions<'_> {
     {
         match self.only {
             Some(types) => is_among(types, message_type),
+            None => true,
+        }
+    }
+}
+
+impl ShowOptions<'_> {
+    /// Returns whether messages are shown with all their lines, whatever link they are about.
+    pub(crate) fn selects_all(self) -> bool
+        ensures { IsTrue result → IsWhole (selection_of self.entry) }
+    {
+        self.link.is_none() && self.omission.is_empty()
+    }
+
+    /// Returns whether a message's lines are about the link, if one is given.
+    pub(crate) fn is_about_link(self, lines: &[u8]) -> bool
+        ensures { result ≡ is_about_any (selection_of self.entry).link lines.now }
+    {
+        match self.link {
+            Some(link) => is_about(lines, link),
             None => true,
         }
     }

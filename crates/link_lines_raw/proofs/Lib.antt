@@ -1,6 +1,7 @@
 pub mod Words
 pub mod Named
 pub mod RowsInCode
+pub mod NameSearch
 pub mod Whole
 pub mod Unfolding
 pub mod Spans

@@ -11,6 +11,7 @@ pub mod laws;
 mod link_rows;
 mod lists;
 mod multicast_rows;
+mod names;
 mod neighbour_rows;
 mod number_texts;
 mod raw;
@@ -21,6 +22,7 @@ mod rows;
 mod traffic_rows;
 
 pub use bodies::push_body;
+pub use names::find_name;
 pub use raw::{push_held, push_raw};
 pub use raw_tables::RawTable;
 pub use rows::{Raw, RawBy};

@@ -38,7 +38,7 @@ use std::alloc::AllocError;
 
 /// Returns the rows of a table.
 #[tactic(auto, unfolding(crate::specs::Tables::raw_rows_of))]
-fn raw_rows(table: RawTable) -> &'static [RawRow]
+pub(crate) fn raw_rows(table: RawTable) -> &'static [RawRow]
     ensures rows { raw_rows_in_code (λ b. b.now) (λ t. t.now) (λ r. r.now) result.now ≡ raw_rows_of table.0 }
     ensures dense { are_dense result.now ≡ true }
 {

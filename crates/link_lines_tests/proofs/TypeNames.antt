@@ -10,7 +10,7 @@ use Rattle.std.specs.Str.{bytes_eq, str_to_ascii_lowercase}
 use Rattle.link_lines_values.specs.Names.{Text, texts_of}
 use Rattle.link_lines_values.specs.declared.number_texts.TheConstants.{MESSAGE_TYPE}
 use Rattle.link_lines_tests.specs.Laws.{TypesHaveNames}
-use Rattle.linkshow_program.specs.Types.{is_underscore, is_word_of, named_in, named_type}
+use Rattle.link_lines.specs.Types.{is_underscore, is_word_of, named_in, named_type}
 
 abbrev lower : List ℕ → List ℕ
 lower w = str_to_ascii_lowercase w

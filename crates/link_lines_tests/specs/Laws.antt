@@ -9,7 +9,7 @@ use Rattle.link_lines_values.specs.declared.number_texts.TheConstants.{IP_VLAN_M
 use Rattle.link_lines_values.specs.declared.number_texts.TheConstants.{NETKIT_POLICY, NETKIT_SCRUB, STATE, LINK_MODE}
 use Rattle.link_lines_values.specs.declared.number_texts.TheConstants.{IN6_ADDR_GEN_MODE, MCTP_PHYS_BINDING}
 use Rattle.link_lines_values.specs.declared.number_texts.TheConstants.{LINK_LAYER_TYPE, MESSAGE_TYPE}
-use Rattle.linkshow_program.specs.Types.{is_word_of, named_type}
+use Rattle.link_lines.specs.Types.{is_word_of, named_type}
 use Rattle.link_info_types.specs.AmtTypes.{amt_mode_number, amt_mode_text, listed_amt_modes}
 use Rattle.link_info_types.specs.GeneveTypes.{geneve_df_number, geneve_df_text, listed_geneve_dfs}
 use Rattle.link_info_types.specs.GreTypes.{er_span_dir_number, er_span_dir_text, gre_encap_type_number}

@@ -1,10 +1,9 @@
 //! The first bytes that were read, which distinguish a capture from another kind of file. The
 //! expected line comes from an independent implementation.
-//! independent implementation.
 
 use link_capture_reader::read_all_keeping_first;
 use link_lines::{
-    DEFAULT_LIMIT, FirstBytes, LineOptions, SliceSource, VecSink, show_keeping_first,
+    DEFAULT_LIMIT, FirstBytes, LineOptions, ShowOptions, SliceSource, VecSink, show_keeping_first,
 };
 use std::test::Fail;
 
@@ -35,10 +34,10 @@ fn lines_are_written_and_first_bytes_are_kept(rt: HostRuntime) -> Result<(), Fai
         &mut SliceSource::new(&NOOP),
         &mut lines,
         DEFAULT_LIMIT,
-        LineOptions::default(),
+        ShowOptions::from(LineOptions::default()),
         &mut first,
     );
-    assert!(rt; shown.is_ok());
+    assert!(rt; shown == Ok(true));
     assert!(rt; lines.bytes() == b"NLMSG_NOOP flags 0x0 seq 1 port 0\n".as_slice());
     assert!(rt; first.as_slice() == [16, 0, 0, 0].as_slice());
     Ok(())

@@ -3,13 +3,19 @@
 #![tactic(auto)]
 
 #[cfg(test)]
+mod arguments;
+#[cfg(test)]
 mod bodies;
 #[cfg(test)]
 mod exact;
+#[cfg(test)]
+mod filter;
 #[cfg(test)]
 mod first_bytes;
 pub mod laws;
 #[cfg(test)]
 mod raw;
+#[cfg(test)]
+mod showing;
 #[cfg(test)]
 mod values;

@@ -1,11 +1,13 @@
 -- Lines determine frames, provided that they determine lists of attributes.
 use Rattle.std.proofs.Common.{◌≡◌, ℕ, ◌%◌, ◌≤◌, Bool, true, false, cond, List, [], ◌∷◌, ◌++◌, length, take, drop, get_or, Option, Some, None, Ok, Err, refl, sym, ap, subst, ◌∙◌, append_assoc, arith, inl, inr}
-use Rattle.std.specs.Prelude.{◌==◌, nat_le, codes}
-use Rattle.std.proofs.lemmas.Bool.{cond_both, eqb-true, leb-true, ltb-false, le-leb, ne_eqb}
+use Rattle.std.specs.Prelude.{◌==◌, bytes_eq, nat_le, codes}
+use Rattle.std.proofs.lemmas.Bool.{and_parts, cond_both, eqb-true, leb-true, ltb-false, le-leb, ne_eqb}
 use Rattle.std.proofs.lemmas.Bool.Decides.{eqb_tells}
 use Rattle.std.proofs.lemmas.List.{append_cancel_left, length-drop, length-take}
+use Rattle.std.proofs.lemmas.Slice.Eq.{bytes_eq-Decides}
 use Rattle.netlink_packet_core_grammar.specs.Bytes.{AreBytes}
 use Rattle.netlink_packet_core_grammar.specs.Numbers.{u16_at}
+use Rattle.attribute_tables_grammar.specs.Peers.{Peer, bytes_peer}
 use Rattle.link_message_grammar.specs.Body.{link_body, link_peer}
 use Rattle.link_capture_grammar.specs.Bodies.{refused, empty_ports, unfit, is_link_type, body_text, body_text_under, ruled_text}
 use Rattle.link_lines_values.specs.declared.values.ShownBy.TheVariants.{Signed, Bytes}
@@ -14,7 +16,10 @@ use Rattle.link_lines_values.specs.Values.{value_text}
 use Rattle.link_lines_values.proofs.BytesDetermined.{bytes_determined}
 use Rattle.link_lines_values.proofs.NumbersDetermined.{numbers_determined}
 use Rattle.link_lines_values.proofs.OneLine.{values_are_lines}
-use Rattle.link_lines_texts.specs.Frames.{after_code, bytes_line, body_lines, code_lines, frame_lines, has_request_flag, header_line, in_message, link_lines, or_bytes, other_lines, request_line, type_text}
+use Rattle.link_lines_texts.specs.Frames.{after_code, bytes_line, body_lines, code_lines, frame_lines, has_request_flag, header_line, in_message, is_canonical_peer, is_property_type, link_lines, or_bytes, other_lines, property_lines, request_line, type_text}
+use Rattle.link_lines_texts.specs.Links.{link_numbers}
+use Rattle.link_lines_texts.specs.Lists.{in_peer}
+use Rattle.link_lines_texts.specs.declared.format.Scope.{Scope}
 use Rattle.link_lines_raw.specs.declared.bodies.BodyRow.{BodyRow}
 use Rattle.link_lines_raw.specs.declared.bodies.Header.TheVariants as H
 use Rattle.link_lines_raw.specs.declared.bodies.TheConstants.{BODIES}
@@ -26,8 +31,8 @@ use Rattle.std.proofs.lemmas.Option.{same_Some}
 use Rattle.link_lines_texts.specs.Determination.{AreKnown, FramesAreDetermined, IsCanonicalFrame, NumbersAreKnown, StartsFrame}
 use Rattle.link_lines_texts.proofs.LineCuts.{following, cut_line}
 use Rattle.link_lines_texts.proofs.HeadersDetermined.{flags_part, header_determined, request_determined, type_starts}
-use Rattle.link_lines_texts.proofs.LinksDetermined.{lists_are_determined}
-use Rattle.link_lines_texts.proofs.LinkBodiesDetermined.{IsCanonicalLink, link_part, link_determined, canonical_link}
+use Rattle.link_lines_texts.proofs.LinksDetermined.{canonical_peer, lists_are_determined, peer_lists_are_determined}
+use Rattle.link_lines_texts.proofs.LinkBodiesDetermined.{FamiliesDetermined, IsCanonicalLink, link_part, link_determined, canonical_link}
 use Rattle.link_lines_values.proofs.ValuesDetermined.{both_parts}
 use Rattle.netlink_packet_core_grammar.proofs.Bytes.{AreBytes-drop, AreBytes-take}
 
@@ -122,30 +127,74 @@ canonical_body b a e =
     let r = ruled_is (link_body.accepted b) (link_body.empty_ports b) (link_body.fits b) (link_body.canonical b) b e in
     canonical_link link_peer b a r.0 r.1
 
-link_lines_are : (request : Bool) (b : List ℕ) → 16 ≤ length b → link_lines request b ≡ link_part 1 (in_message request) b
+link_lines_are : (scope : Scope) (b : List ℕ) → 16 ≤ length b → link_lines scope b ≡ link_part 1 scope b
 unfolding link_lines
-link_lines_are request b h = rw (le-leb 16 (length b) h)
+link_lines_are scope b h = rw (le-leb 16 (length b) h)
 
 shallow : (s : List ℕ) → StartsFrame s → IsShallow 1 s
 shallow s h r = no_space s (32 ∷ r) h
 
-body_determined : (request : Bool) (p q s t : List ℕ) → AreBytes p → AreBytes q → IsCanonicalLink link_peer p → IsCanonicalLink link_peer q → StartsFrame s → StartsFrame t → link_lines request p ++ s ≡ link_lines request q ++ t → (p ≡ q) × (s ≡ t)
-body_determined request p q s t a b h k i j e =
-    let lines = sym (ap (λ z. z ++ s) (link_lines_are request p h.size)) ∙ e ∙ ap (λ z. z ++ t) (link_lines_are request q k.size) in
-    link_determined link_peer (in_message request) (lists_are_determined request) 1 p q s t a b h k (shallow s i) (shallow t j) lines
+-- The lines of a canonical body of a link under a rule of peers determine it.
+body_determined : (peer : Peer) (scope : Scope) → FamiliesDetermined peer scope → (p q s t : List ℕ) → AreBytes p → AreBytes q → IsCanonicalLink peer p → IsCanonicalLink peer q → StartsFrame s → StartsFrame t →
+    link_lines scope p ++ s ≡ link_lines scope q ++ t → (p ≡ q) × (s ≡ t)
+body_determined peer scope lists p q s t a b h k i j e =
+    let lines = sym (ap (λ z. z ++ s) (link_lines_are scope p h.size)) ∙ e ∙ ap (λ z. z ++ t) (link_lines_are scope q k.size) in
+    link_determined peer scope lists 1 p q s t a b h k (shallow s i) (shallow t j) lines
+
+-- ---- a body about a link's properties
+
+-- What the attributes of such a body are in.
+abbrev in_properties : Bool → Scope
+in_properties request = in_peer (in_message request)
+
+canonical_properties : (p : List ℕ) → AreBytes p → is_canonical_peer p ≡ true → IsCanonicalLink bytes_peer p
+unfolding is_canonical_peer
+canonical_properties p a h =
+    let parts = and_parts (link_peer.accepted p) (bytes_eq (link_peer.canonical p) p) h in
+    canonical_peer p (record { bytes = a; accepted = parts.0; canonical = (bytes_eq-Decides (link_peer.canonical p) p).0 parts.1 })
+
+-- A link's lines are not a line of bytes, nor the start of what follows a frame's lines.
+link_differs : (scope : Scope) (p q s t : List ℕ) → 16 ≤ length p → StartsFrame t → link_lines scope p ++ s ≡ bytes_line (codes "body") q ++ t → ⊥
+unfolding bytes_line link_numbers
+link_differs scope p [] s t h j e = no_space t _ j (sym e ∙ ap (λ z. z ++ s) (link_lines_are scope p h))
+link_differs scope p (y ∷ q) s t h j e =
+    let third : ◌≡◌ {A = ℕ} 105 98 = ap (λ l. get_or l 2 0) (sym (ap (λ z. z ++ s) (link_lines_are scope p h)) ∙ e) in
+    omega arith
+
+properties_by : (request x y : Bool) (p q s t : List ℕ) → is_canonical_peer p ≡ x → is_canonical_peer q ≡ y → AreBytes p → AreBytes q → StartsFrame s → StartsFrame t →
+    cond x (link_lines (in_properties request) p) (bytes_line (codes "body") p) ++ s ≡ cond y (link_lines (in_properties request) q) (bytes_line (codes "body") q) ++ t → (p ≡ q) × (s ≡ t)
+properties_by request false false p q s t h k a b i j e = bytes_line_determined (codes "body") p q s t a b i j e
+properties_by request false true p q s t h k a b i j e = absurd (link_differs (in_properties request) q p t s (canonical_properties q b k).size i (sym e))
+properties_by request true false p q s t h k a b i j e = absurd (link_differs (in_properties request) p q s t (canonical_properties p a h).size j e)
+properties_by request true true p q s t h k a b i j e =
+    body_determined bytes_peer (in_properties request) (peer_lists_are_determined request) p q s t a b (canonical_properties p a h) (canonical_properties q b k) i j e
+
+properties_determined : (request : Bool) (p q s t : List ℕ) → AreBytes p → AreBytes q → StartsFrame s → StartsFrame t → property_lines request p ++ s ≡ property_lines request q ++ t → (p ≡ q) × (s ≡ t)
+unfolding property_lines
+properties_determined request p q s t = properties_by request (is_canonical_peer p) (is_canonical_peer q) p q s t refl refl
 
 -- ---- bodies by their type
+
+-- The types NLMSG_NOOP, NLMSG_ERROR and NLMSG_DONE (netlink.h).
+abbrev noop_type : ℕ
+noop_type = 1
+
+abbrev error_type : ℕ
+error_type = 2
+
+abbrev done_type : ℕ
+done_type = 3
 
 abbrev BodiesOfTypeAreDetermined : Bool → Bool → ℕ → Type 0
 BodiesOfTypeAreDetermined numbers request n = (p q s t : List ℕ) → AreBytes p → AreBytes q → body_text n p ≡ Ok p → body_text n q ≡ Ok q →
     RequestIsKnown numbers n p → RequestIsKnown numbers n q → StartsFrame s → StartsFrame t →
     body_lines numbers n request p ++ s ≡ body_lines numbers n request q ++ t → (p ≡ q) × (s ≡ t)
 
-noop_is : (p : List ℕ) → body_text 1 p ≡ Ok p → [] ≡ p
+noop_is : (p : List ℕ) → body_text noop_type p ≡ Ok p → [] ≡ p
 unfolding body_text_under
 noop_is p h = cc
 
-noops_determined : (numbers request : Bool) → BodiesOfTypeAreDetermined numbers request 1
+noops_determined : (numbers request : Bool) → BodiesOfTypeAreDetermined numbers request noop_type
 unfolding body_lines other_lines raw_body_lines bytes_line
 noops_determined numbers request [] [] s t a b h k f g i j e = (refl, e)
 noops_determined numbers request [] (y ∷ q) s t a b h k f g i j e = absurd (let none = noop_is (y ∷ q) k in cc)
@@ -155,7 +204,7 @@ code_by : (b : Bool) (p q : List ℕ) → cond b (Err refused) (Ok q) ≡ Ok p �
 code_by true p q h = absurd cc
 code_by false p q h = refl
 
-error_size : (p : List ℕ) → body_text 2 p ≡ Ok p → 4 ≤ length p
+error_size : (p : List ℕ) → body_text error_type p ≡ Ok p → 4 ≤ length p
 unfolding body_text_under
 error_size p h = let l = ltb-false (length p) 4 (code_by _ p p h) in omega (arith, l)
 
@@ -163,28 +212,28 @@ done_by : (a b : Bool) (p : List ℕ) → (a ≡ true → length p ≡ 0) → co
 done_by true b p l h = let zeros : 0 ∷ 0 ∷ 0 ∷ 0 ∷ [] ≡ p = cc in let size : 4 ≡ length p = ap length zeros in absurd (omega (arith, l refl))
 done_by false b p l h = code_by b p p h
 
-done_size : (p : List ℕ) → body_text 3 p ≡ Ok p → 4 ≤ length p
+done_size : (p : List ℕ) → body_text done_type p ≡ Ok p → 4 ≤ length p
 unfolding body_text_under
 done_size p h = let l = ltb-false (length p) 4 (done_by (length p == 0) _ p (eqb-true (length p) 0) h) in omega (arith, l)
 
-errors_determined : (numbers request : Bool) → BodiesOfTypeAreDetermined numbers request 2
+errors_determined : (numbers request : Bool) → BodiesOfTypeAreDetermined numbers request error_type
 unfolding body_lines
 errors_determined numbers request p q s t a b h k f g i j e =
-    code_determined numbers 2 (after_error numbers) p q s t a b (error_size p h) (error_size q k) f g i j e
+    code_determined numbers error_type (after_error numbers) p q s t a b (error_size p h) (error_size q k) f g i j e
 
-dones_determined : (numbers request : Bool) → BodiesOfTypeAreDetermined numbers request 3
+dones_determined : (numbers request : Bool) → BodiesOfTypeAreDetermined numbers request done_type
 unfolding body_lines
 dones_determined numbers request p q s t a b h k f g i j e =
-    code_determined numbers 3 (after_done numbers) p q s t a b (done_size p h) (done_size q k) f g i j e
+    code_determined numbers done_type (after_done numbers) p q s t a b (done_size p h) (done_size q k) f g i j e
 
--- A body of a type other than 1, 2 and 3.
-text_is : (n : ℕ) (p : List ℕ) → (n ≡ 1 → ⊥) → (n ≡ 2 → ⊥) → (n ≡ 3 → ⊥) → body_text n p ≡ cond (is_link_type n) (ruled_text link_body p) (Ok p)
+-- A body of another type.
+text_is : (n : ℕ) (p : List ℕ) → (n ≡ noop_type → ⊥) → (n ≡ error_type → ⊥) → (n ≡ done_type → ⊥) → body_text n p ≡ cond (is_link_type n) (ruled_text link_body p) (Ok p)
 unfolding body_text_under
-text_is n p a b c = rw (ne_eqb n 1 a, ne_eqb n 2 b, ne_eqb n 3 c)
+text_is n p a b c = rw (ne_eqb n noop_type a, ne_eqb n error_type b, ne_eqb n done_type c)
 
-lines_are : (numbers request : Bool) (n : ℕ) (p : List ℕ) → (n ≡ 2 → ⊥) → (n ≡ 3 → ⊥) → body_lines numbers n request p ≡ cond (is_link_type n) (link_lines request p) (other_lines n request p)
+lines_are : (numbers request : Bool) (n : ℕ) (p : List ℕ) → (n ≡ error_type → ⊥) → (n ≡ done_type → ⊥) → body_lines numbers n request p ≡ cond (is_link_type n) (link_lines (in_message request) p) (other_lines n request p)
 unfolding body_lines
-lines_are numbers request n p b c = rw (ne_eqb n 2 b, ne_eqb n 3 c)
+lines_are numbers request n p b c = rw (ne_eqb n error_type b, ne_eqb n done_type c)
 
 -- ---- bodies of other messages
 
@@ -223,29 +272,34 @@ others_by n request p q s t (Some x) None h k a b i j e = absurd (lines_differ n
 others_by n request p q s t None (Some y) h k a b i j e = absurd (lines_differ n request q p t s y k i (sym e))
 others_by n request p q s t (Some x) (Some y) h k a b i j e = bodies_are_determined.determined n request p q x y s t a b h k (shallow s i) (shallow t j) e
 
+others_of : (n : ℕ) (request l : Bool) (p q s t : List ℕ) → AreBytes p → AreBytes q → StartsFrame s → StartsFrame t →
+    cond l (property_lines request p) (or_bytes (raw_body_lines n request p) p) ++ s ≡ cond l (property_lines request q) (or_bytes (raw_body_lines n request q) q) ++ t → (p ≡ q) × (s ≡ t)
+others_of n request true p q s t a b i j e = properties_determined request p q s t a b i j e
+others_of n request false p q s t a b i j e = others_by n request p q s t (raw_body_lines n request p) (raw_body_lines n request q) refl refl a b i j e
+
 other_determined : (n : ℕ) (request : Bool) (p q s t : List ℕ) → AreBytes p → AreBytes q → StartsFrame s → StartsFrame t → other_lines n request p ++ s ≡ other_lines n request q ++ t → (p ≡ q) × (s ≡ t)
 unfolding other_lines
-other_determined n request p q s t = others_by n request p q s t (raw_body_lines n request p) (raw_body_lines n request q) refl refl
+other_determined n request p q s t = others_of n request (is_property_type n) p q s t
 
 other_by : (n : ℕ) (request l : Bool) (p q s t : List ℕ) → AreBytes p → AreBytes q → cond l (ruled_text link_body p) (Ok p) ≡ Ok p → cond l (ruled_text link_body q) (Ok q) ≡ Ok q → StartsFrame s → StartsFrame t →
-    cond l (link_lines request p) (other_lines n request p) ++ s ≡ cond l (link_lines request q) (other_lines n request q) ++ t → (p ≡ q) × (s ≡ t)
-other_by n request true p q s t a b h k i j e = body_determined request p q s t a b (canonical_body p a h) (canonical_body q b k) i j e
+    cond l (link_lines (in_message request) p) (other_lines n request p) ++ s ≡ cond l (link_lines (in_message request) q) (other_lines n request q) ++ t → (p ≡ q) × (s ≡ t)
+other_by n request true p q s t a b h k i j e = body_determined link_peer (in_message request) (lists_are_determined request) p q s t a b (canonical_body p a h) (canonical_body q b k) i j e
 other_by n request false p q s t a b h k i j e = other_determined n request p q s t a b i j e
 
-others_determined : (numbers request : Bool) (n : ℕ) → (n ≡ 1 → ⊥) → (n ≡ 2 → ⊥) → (n ≡ 3 → ⊥) → BodiesOfTypeAreDetermined numbers request n
+others_determined : (numbers request : Bool) (n : ℕ) → (n ≡ noop_type → ⊥) → (n ≡ error_type → ⊥) → (n ≡ done_type → ⊥) → BodiesOfTypeAreDetermined numbers request n
 others_determined numbers request n x y z p q s t a b h k f g i j e =
     let lines = sym (ap (λ l. l ++ s) (lines_are numbers request n p y z)) ∙ e ∙ ap (λ l. l ++ t) (lines_are numbers request n q y z) in
     other_by n request (is_link_type n) p q s t a b (sym (text_is n p x y z) ∙ h) (sym (text_is n q x y z) ∙ k) i j lines
 
 bodies_determined : (numbers request : Bool) (n : ℕ) → BodiesOfTypeAreDetermined numbers request n
 bodies_determined numbers request n =
-    elim (eqb_tells n 1) [
+    elim (eqb_tells n noop_type) [
       | inl x ↦ subst (BodiesOfTypeAreDetermined numbers request) (sym x.1) (noops_determined numbers request)
       | inr x ↦
-          elim (eqb_tells n 2) [
+          elim (eqb_tells n error_type) [
             | inl y ↦ subst (BodiesOfTypeAreDetermined numbers request) (sym y.1) (errors_determined numbers request)
             | inr y ↦
-                elim (eqb_tells n 3) [
+                elim (eqb_tells n done_type) [
                   | inl z ↦ subst (BodiesOfTypeAreDetermined numbers request) (sym z.1) (dones_determined numbers request)
                   | inr z ↦ others_determined numbers request n x.1 y.1 z.1
                 ]

@@ -51,8 +51,14 @@ canonical_bytes p o = record { bytes = o.bytes; accepted = refl; canonical = ref
 bytes_determined : (scope : Scope) → PeersDetermined bytes_peer (in_peer scope)
 bytes_determined scope level p q x y o u sx sy same under = (shapes_determined raw Bytes p q refl (canonical_bytes p o) (canonical_bytes q u) same, under)
 
+-- The lists of all families are determined inside a peer.
+pub peer_lists_are_determined : (is_request : Bool) → FamiliesDetermined bytes_peer (in_peer (in_message is_request))
+peer_lists_are_determined is_request =
+    let scope = in_message is_request in
+    families_determined bytes_peer (in_peer scope) (bytes_determined scope)
+
 -- Other peers are shown as links.
-canonical_peer : (p : List ℕ) → IsCanonical (peer_rule link_peer) p → IsCanonicalLink bytes_peer p
+pub canonical_peer : (p : List ℕ) → IsCanonical (peer_rule link_peer) p → IsCanonicalLink bytes_peer p
 unfolding link_peer
 canonical_peer p o =
     let r = body_rule bytes_peer in
@@ -66,7 +72,7 @@ peers_determined : (is_request : Bool) → PeersDetermined link_peer (in_message
 peers_determined is_request level p q x y o u sx sy same under =
     let a = canonical_peer p o in
     let b = canonical_peer q u in
-    link_determined bytes_peer (in_peer (in_message is_request)) (families_determined bytes_peer (in_peer (in_message is_request)) (bytes_determined (in_message is_request))) level p q x y o.bytes u.bytes a b sx sy
+    link_determined bytes_peer (in_peer (in_message is_request)) (peer_lists_are_determined is_request) level p q x y o.bytes u.bytes a b sx sy
     (sym (ap (λ z. z ++ x) (peer_lines (in_message is_request) level p a.size)) ∙ under ∙ ap (λ z. z ++ y) (peer_lines (in_message is_request) level q b.size))
 
 pub lists_are_determined : ListsAreDetermined

@@ -1,7 +1,8 @@
 -- The lines of a message: that of its header, of a link's header, and of its attributes.
 use Rattle.std.specs.Prelude.{ℕ, ◌%◌, ◌==◌, ◌||◌, ◌&&◌, nat_le, Bool, true, false, cond, List, [], ◌∷◌, ◌++◌, length}
-use Rattle.std.specs.Prelude.{take, drop, codes, decimal, Option, Some, None}
+use Rattle.std.specs.Prelude.{take, drop, bytes_eq, codes, decimal, Option, Some, None}
 use Rattle.netlink_packet_core_grammar.specs.Numbers.{u16_at, u32_at}
+use Rattle.link_message_grammar.specs.Body.{link_peer}
 use Rattle.link_capture_grammar.specs.Bodies.{is_link_type}
 use Rattle.link_lines_values.specs.declared.flags.TheConstants.{MESSAGE_FLAGS, MESSAGE_GET_FLAGS, MESSAGE_CREATE_FLAGS}
 use Rattle.link_lines_values.specs.declared.flags.TheConstants.{MESSAGE_DELETE_FLAGS, MESSAGE_ACK_FLAGS}
@@ -15,7 +16,7 @@ use Rattle.link_lines_raw.specs.Bodies.{body_lines as raw_body_lines}
 use Rattle.link_lines_raw.specs.Lines.{Line, lines_text}
 use Rattle.link_lines_texts.specs.declared.format.Scope.{Scope}
 use Rattle.link_lines_texts.specs.Links.{labelled, link_header_line}
-use Rattle.link_lines_texts.specs.Lists.{list_lines, of_link}
+use Rattle.link_lines_texts.specs.Lists.{in_peer, list_lines, of_link}
 
 -- The names of message types.
 unfoldable pub message_types : List Text
@@ -74,11 +75,26 @@ bytes_line name (b ∷ bytes) = codes "  " ++ (name ++ (bytes_text (b ∷ bytes)
 abbrev pub in_message : Bool → Scope
 in_message is_request = record { is_in_peer = false; is_request = is_request }
 
--- The lines of the body of a link message; one without a header, which no normal text has, is shown as bytes.
-unfoldable pub link_lines : Bool → List ℕ → List ℕ
-link_lines is_request b =
-    cond (nat_le 16 (length b)) (link_header_line 1 b ++
-    list_lines 1 (of_link (in_message is_request) b) (drop 16 b)) (bytes_line (codes "body") b)
+-- The lines of the body of a link message, or of a peer; one without a header, which no normal text has, is shown as
+-- bytes.
+unfoldable pub link_lines : Scope → List ℕ → List ℕ
+link_lines scope b =
+    cond (nat_le 16 (length b)) (link_header_line 1 b ++ list_lines 1 (of_link scope b) (drop 16 b))
+    (bytes_line (codes "body") b)
+
+-- Whether bytes are accepted as a peer, and are already canonical.
+unfoldable pub is_canonical_peer : List ℕ → Bool
+is_canonical_peer b = link_peer.accepted b && bytes_eq (link_peer.canonical b) b
+
+-- The types 108 to 110, RTM_NEWLINKPROP, RTM_DELLINKPROP and RTM_GETLINKPROP (rtnetlink.h), whose bodies are links'.
+abbrev pub is_property_type : ℕ → Bool
+is_property_type t = nat_le 108 t && nat_le t 110
+
+-- The lines of the body of a message about a link's properties, which the normal text keeps as it is: those of a link if
+-- it is a canonical peer, so that they determine its bytes, or else a line of its bytes.
+unfoldable pub property_lines : Bool → List ℕ → List ℕ
+property_lines is_request b =
+    cond (is_canonical_peer b) (link_lines (in_peer (in_message is_request)) b) (bytes_line (codes "body") b)
 
 -- The lines for what follows the code: for an NLMSG_ERROR (netlink.h, struct nlmsgerr) the request's header, if it is
 -- there, and the remaining bytes.
@@ -100,14 +116,15 @@ abbrev pub or_bytes : Option (List Line) → List ℕ → List ℕ
 or_bytes None b = bytes_line (codes "body") b
 or_bytes (Some lines) b = lines_text lines
 
--- The lines of the body of a message other than a link.
+-- The lines of the body of a message other than a link, by its type.
 unfoldable pub other_lines : ℕ → Bool → List ℕ → List ℕ
-other_lines t is_request b = or_bytes (raw_body_lines t is_request b) b
+other_lines t is_request b =
+    cond (is_property_type t) (property_lines is_request b) (or_bytes (raw_body_lines t is_request b) b)
 
 -- The lines of a message's body, by the message's type and whether it is a request.
 unfoldable pub body_lines : Bool → ℕ → Bool → List ℕ → List ℕ
 body_lines numbers t is_request b =
-    cond (is_link_type t) (link_lines is_request b) (cond (t == 2 ||
+    cond (is_link_type t) (link_lines (in_message is_request) b) (cond (t == 2 ||
     t == 3) (code_lines numbers t b) (other_lines t is_request b))
 
 -- Whether a frame is a request: the lowest bit of its flags (netlink.h, NLM_F_REQUEST).

@@ -8,3 +8,4 @@ pub mod Links
 pub mod Lists
 pub mod Determination
 pub mod AttributeNames
+pub mod NameSearch

@@ -89,7 +89,7 @@ macro_rules! family_name_row {
 
 /// Returns the names of a nested table, by its number in `link_tables`.
 #[tactic(auto, unfolding(crate::specs::AttributeNames::nested_names))]
-fn nested_table(table: u8) -> &'static [AttributeRow]
+pub(crate) fn nested_table(table: u8) -> &'static [AttributeRow]
     ensures attribute_names { attribute_rows_of (λ b. b.now) (λ t. t.now) (λ r. r.now) result.now ≡ get_or nested_names table [] }
     ensures dense { are_dense result.now ≡ true }
 {
@@ -114,7 +114,7 @@ fn nested_table(table: u8) -> &'static [AttributeRow]
 
 /// Returns the names of a table of data, by its number from that of `AMT` on.
 #[tactic(auto, unfolding(crate::specs::AttributeNames::data_names))]
-fn data_table(table: u8) -> &'static [AttributeRow]
+pub(crate) fn data_table(table: u8) -> &'static [AttributeRow]
     ensures attribute_names { attribute_rows_of (λ b. b.now) (λ t. t.now) (λ r. r.now) result.now ≡ get_or data_names table [] }
     ensures dense { are_dense result.now ≡ true }
 {
@@ -149,7 +149,7 @@ fn data_table(table: u8) -> &'static [AttributeRow]
 /// Returns the names of the rows that depend on the address family, by the number of a link's
 /// table.
 #[tactic(auto, unfolding(crate::specs::AttributeNames::family_names))]
-fn family_names_table(table: u8) -> &'static [AttributeRow]
+pub(crate) fn family_names_table(table: u8) -> &'static [AttributeRow]
     ensures attribute_names { attribute_rows_of (λ b. b.now) (λ t. t.now) (λ r. r.now) result.now ≡ get_or family_names table [] }
     ensures dense { are_dense result.now ≡ true }
 {
@@ -165,7 +165,7 @@ fn family_names_table(table: u8) -> &'static [AttributeRow]
 /// Returns the names of the rows that links of every address family have. The constant has a
 /// function of its own, since the prover spells it out in each function that names it.
 #[tactic(auto, unfolding(crate::specs::AttributeNames::link_rows))]
-fn link_rows() -> &'static [AttributeRow]
+pub(crate) fn link_rows() -> &'static [AttributeRow]
     ensures attribute_names { attribute_rows_of (λ b. b.now) (λ t. t.now) (λ r. r.now) result.now ≡ link_rows }
     ensures dense { are_dense result.now ≡ true }
 {
@@ -174,7 +174,7 @@ fn link_rows() -> &'static [AttributeRow]
 
 /// Returns the names of the attributes of link info.
 #[tactic(auto, unfolding(crate::specs::AttributeNames::info_attribute_names))]
-fn info_attribute_names() -> &'static [AttributeRow]
+pub(crate) fn info_attribute_names() -> &'static [AttributeRow]
     ensures attribute_names { attribute_rows_of (λ b. b.now) (λ t. t.now) (λ r. r.now) result.now ≡ info_attribute_names }
     ensures dense { are_dense result.now ≡ true }
 {

@@ -7,9 +7,11 @@ ghost use Rattle.link_lines_values.specs.Names.{text_in, texts_of};
 ghost use Rattle.link_lines_texts.specs.Frames.{type_text, flag_names, has_text, request_flag_names, message_types, numbers_text};
 ghost use Rattle.link_lines_texts.specs.Frames.{has_request_flag, header_line, request_line};
 ghost use Rattle.link_lines_texts.specs.Frames.{link_lines, bytes_line, after_code, code_lines};
-ghost use Rattle.link_lines_texts.specs.Frames.{body_lines, frame_lines, other_lines};
+ghost use Rattle.link_lines_texts.specs.Frames.{body_lines, frame_lines, in_message, is_property_type};
+ghost use Rattle.link_lines_texts.specs.Frames.{other_lines, property_lines};
 
 use crate::attributes::{ListTable, push_list};
+use crate::canonical_peers::is_canonical_peer;
 use crate::format::Scope;
 use crate::links::{push_labelled_decimal, push_labelled_flags, push_link_header};
 use link_capture_grammar::link_types::{RTM_NEWLINK, RTM_SETLINK};
@@ -27,6 +29,12 @@ use std::alloc::AllocError;
 
 /// The size in bytes of the code at the start of the body of an NLMSG_DONE or NLMSG_ERROR.
 const CODE_LEN: usize = 4;
+
+/// The first type of messages about a link's properties (rtnetlink.h), of which there are three.
+const RTM_NEWLINKPROP: u16 = 108;
+
+/// The last type of messages about a link's properties.
+const RTM_GETLINKPROP: u16 = 110;
 
 /// Returns the name of a message type; empty if it has none. The constant has a function of its
 /// own, since the prover spells it out in each function that names it.
@@ -125,8 +133,12 @@ fn push_request(numbers: bool, header: &[u8], out: &mut Vec<u8>) -> Result<(), A
 }
 
 /// Appends a line of a name and bytes; no line if there are no bytes.
+///
+/// # Errors
+///
+/// `AllocError` if `out` can't grow; it may then have a part of the line.
 #[tactic(auto, unfolding(crate::specs::Frames::bytes_line))]
-fn push_bytes_line(name: &[u8], bytes: &[u8], out: &mut Vec<u8>) -> Result<(), AllocError>
+pub fn push_bytes_line(name: &[u8], bytes: &[u8], out: &mut Vec<u8>) -> Result<(), AllocError>
     ensures ok { OnOk result (out.new.items ≡ out.old.items ++ bytes_line name.now bytes.now) }
 {
     if bytes.is_empty() {
@@ -138,10 +150,10 @@ fn push_bytes_line(name: &[u8], bytes: &[u8], out: &mut Vec<u8>) -> Result<(), A
     out.extend_from_slice(b"\n")
 }
 
-/// Appends the lines of the body of a link message.
+/// Appends the lines of the body of a link message, or of a peer.
 #[tactic(auto, unfolding(crate::specs::Frames::link_lines))]
-fn push_link(is_request: bool, body: &[u8], out: &mut Vec<u8>) -> Result<(), AllocError>
-    ensures ok { OnOk result (out.new.items ≡ out.old.items ++ link_lines is_request body.now) }
+fn push_link(scope: Scope, body: &[u8], out: &mut Vec<u8>) -> Result<(), AllocError>
+    ensures ok { OnOk result (out.new.items ≡ out.old.items ++ link_lines scope body.now) }
 {
     if body.len() < LINK_HEADER_LEN {
         return push_bytes_line(b"body", body, out);
@@ -149,12 +161,25 @@ fn push_link(is_request: bool, body: &[u8], out: &mut Vec<u8>) -> Result<(), All
     push_link_header(1, body, out)?;
     let list_table = ListTable {
         table: family_table(body[0]),
-        scope: Scope {
-            is_in_peer: false,
-            is_request,
-        },
+        scope,
     };
     push_list(1, list_table, &body[LINK_HEADER_LEN..], out)
+}
+
+/// Appends the lines of the body of a message about a link's properties: those of a link if the body
+/// is a canonical peer, or else its bytes. Peers inside it are shown as bytes, as inside a peer.
+#[tactic(auto, unfolding(crate::specs::Frames::property_lines))]
+fn push_properties(is_request: bool, body: &[u8], out: &mut Vec<u8>) -> Result<(), AllocError>
+    ensures ok { OnOk result (out.new.items ≡ out.old.items ++ property_lines is_request body.now) }
+{
+    if !is_canonical_peer(body, out)? {
+        return push_bytes_line(b"body", body, out);
+    }
+    let scope = Scope {
+        is_in_peer: true,
+        is_request,
+    };
+    push_link(scope, body, out)
 }
 
 /// Appends the lines for what follows the code of an NLMSG_ERROR or NLMSG_DONE.
@@ -195,7 +220,15 @@ fn push_code(
     push_after_code(numbers, message_type, rest, out)
 }
 
-/// Appends the lines of the body of a message other than a link, by its row, or else its bytes.
+/// Returns whether a message type is one of those about a link's properties.
+fn is_property_type(message_type: u16) -> bool
+    ensures { result ≡ is_property_type message_type }
+{
+    RTM_NEWLINKPROP <= message_type && message_type <= RTM_GETLINKPROP
+}
+
+/// Appends the lines of the body of a message other than a link: as a link's if it is about the
+/// properties of one, else by the row of its type, or else its bytes.
 #[tactic(auto, unfolding(crate::specs::Frames::other_lines))]
 fn push_other(
     message_type: u16,
@@ -206,10 +239,23 @@ fn push_other(
     requires { length body.now + 1 < 2 ^ 63 }
     ensures ok { OnOk result (out.new.items ≡ out.old.items ++ other_lines message_type is_request body.now) }
 {
+    if is_property_type(message_type) {
+        return push_properties(is_request, body, out);
+    }
     if push_raw_body(message_type, is_request, body, out)? {
         return Ok(());
     }
     push_bytes_line(b"body", body, out)
+}
+
+/// Returns what the attributes of a link message are in.
+fn in_message(is_request: bool) -> Scope
+    ensures { result ≡ in_message is_request }
+{
+    Scope {
+        is_in_peer: false,
+        is_request,
+    }
 }
 
 /// Appends the lines of a message's body, by the message's type.
@@ -227,7 +273,7 @@ fn push_body(
 {
     match message_type {
         NLMSG_ERROR | NLMSG_DONE => push_code(numbers, message_type, body, out),
-        RTM_NEWLINK..=RTM_SETLINK => push_link(is_request, body, out),
+        RTM_NEWLINK..=RTM_SETLINK => push_link(in_message(is_request), body, out),
         _ => push_other(message_type, is_request, body, out),
     }
 }

@@ -1,5 +1,3 @@
 pub mod ArgumentsAsked
-pub mod Typing
-pub mod TypeNames
 pub mod Reporting
 pub mod NotesWritten

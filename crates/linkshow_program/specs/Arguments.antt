@@ -1,108 +1,284 @@
 -- The meaning of the program's arguments.
-use Rattle.std.specs.Prelude.{◌≡◌, ◌≤◌, ◌==◌, ℕ, true, false, List, [], ◌∷◌, codes, cond, bytes_eq, length, None, Some}
-use Rattle.std.specs.Prelude.{option_map}
+use Rattle.std.specs.Prelude.{◌≡◌, ◌≤◌, ◌==◌, ◌⊎◌, ℕ, Bool, true, false, List, [], ◌∷◌, codes, cond, bytes_eq}
+use Rattle.std.specs.Prelude.{Option, None, Some, option_map, Result, Ok, Err}
+use Rattle.std.specs.Result.{result_map_both}
 use Rattle.std.specs.Str.Parse.{digits_value}
 use Rattle.link_capture_commands.specs.Commands.{IsLimitArgument}
+use Rattle.link_lines.specs.Types.{TakesType}
+use Rattle.link_lines.specs.Without.{Exclusion, TakesWord, exclusion_of, nothing_excluded}
+use Rattle.link_lines.specs.Words.{Reads, WordFault, parts}
 use Rattle.linkshow_program.specs.declared.arguments.Argument.{Argument}
-use Rattle.linkshow_program.specs.declared.arguments.Argument.TheVariants.{Kernels, WithoutNumbers, Only, Limit, Input}
-use Rattle.linkshow_program.specs.declared.arguments.Argument.TheVariants.{Name, Invalid}
-use Rattle.arrayvec.specs.ArrayVec.{ArrayVec}
-use Rattle.linkshow_program.specs.Types.{AreTypeWords, parts}
-use Rattle.linkshow_program.specs.declared.arguments.Options.{Options}
+use Rattle.linkshow_program.specs.declared.arguments.Argument.TheVariants.{Flag, Valued, Input, Name, Invalid}
 use Rattle.linkshow_program.specs.declared.arguments.Asked.{Asked}
 use Rattle.linkshow_program.specs.declared.arguments.Asked.TheVariants.{Help, Version, Show}
+use Rattle.linkshow_program.specs.declared.arguments.FlagOption.{FlagOption}
+use Rattle.linkshow_program.specs.declared.arguments.FlagOption.TheVariants.{Kernels, WithoutNumbers, Offsets}
+use Rattle.linkshow_program.specs.declared.arguments.FlagOption.TheVariants.{KeepGoing}
+use Rattle.linkshow_program.specs.declared.arguments.Options.{Options}
+use Rattle.linkshow_program.specs.declared.arguments.UsageError.{UsageError}
+use Rattle.linkshow_program.specs.declared.arguments.UsageError.TheVariants as Errors
+use Rattle.linkshow_program.specs.declared.arguments.ValueOption.{ValueOption}
+use Rattle.linkshow_program.specs.declared.arguments.ValueOption.TheVariants.{Only, Link, Without, Limit}
+
+-- ---- arguments
 
 -- An argument that begins with `-` and isn't an option, or is empty, is invalid; any other is a name.
 abbrev pub name_of : List ℕ → Argument
 name_of [] = Invalid
 name_of (c ∷ more) = cond (c == 45) Invalid Name
 
--- The meaning of an argument where no number is expected.
+-- The meaning of an argument that isn't the value of an option.
 abbrev pub argument_of : List ℕ → Argument
 argument_of w =
-    cond (bytes_eq w (codes "--kernels")) Kernels (cond (bytes_eq w (codes "--without-numbers")) WithoutNumbers
-    (cond (bytes_eq w (codes "--only")) Only
-    (cond (bytes_eq w (codes "--limit")) Limit (cond (bytes_eq w (codes "-")) Input (name_of w)))))
+    cond (bytes_eq w (codes "--kernels")) (Flag Kernels)
+    (cond (bytes_eq w (codes "--without-numbers")) (Flag WithoutNumbers)
+    (cond (bytes_eq w (codes "--offsets")) (Flag Offsets)
+    (cond (bytes_eq w (codes "--keep-going")) (Flag KeepGoing)
+    (cond (bytes_eq w (codes "--only")) (Valued Only)
+    (cond (bytes_eq w (codes "--link")) (Valued Link)
+    (cond (bytes_eq w (codes "--without")) (Valued Without)
+    (cond (bytes_eq w (codes "--limit")) (Valued Limit)
+    (cond (bytes_eq w (codes "-")) Input (name_of w)))))))))
 
--- Lists of at most 32 message types.
-abbrev pub Types : Type 0
-Types = ArrayVec ℕ
+-- ---- options
+
+-- What options say, by the bytes of their words.
+pub record Settings : Type 0 where
+  pub limit : ℕ
+  pub kernels : Bool
+  pub without_numbers : Bool
+  pub only : Option (List ℕ)
+  pub link : Option (List ℕ)
+  pub without : Option Exclusion
+  pub offsets : Bool
+  pub keep_going : Bool
+  pub file : Option (List ℕ)
+
+-- What options in code say.
+abbrev pub settings_of : Options → Settings
+settings_of o =
+    record {
+      limit = o.limit;
+      kernels = o.kernels;
+      without_numbers = o.without_numbers;
+      only = option_map (λ types. types.items) o.only;
+      link = option_map (λ word. word.now) o.link;
+      without = option_map exclusion_of o.without;
+      offsets = o.offsets;
+      keep_going = o.keep_going;
+      file = option_map (λ name. name.now) o.file;
+    }
 
 -- The options without any argument.
-abbrev pub defaults : Options
-defaults = record { limit = 1048576; kernels = false; without_numbers = false; only = None; file = None }
+abbrev pub defaults : Settings
+defaults =
+    record {
+      limit = 1048576;
+      kernels = false;
+      without_numbers = false;
+      only = None;
+      link = None;
+      without = None;
+      offsets = false;
+      keep_going = false;
+      file = None;
+    }
+
+-- Options with one more that has no value.
+abbrev pub with_flag : FlagOption → Settings → Settings
+with_flag Kernels o =
+    record {
+      limit = o.limit;
+      kernels = true;
+      without_numbers = o.without_numbers;
+      only = o.only;
+      link = o.link;
+      without = o.without;
+      offsets = o.offsets;
+      keep_going = o.keep_going;
+      file = o.file;
+    }
+with_flag WithoutNumbers o =
+    record {
+      limit = o.limit;
+      kernels = o.kernels;
+      without_numbers = true;
+      only = o.only;
+      link = o.link;
+      without = o.without;
+      offsets = o.offsets;
+      keep_going = o.keep_going;
+      file = o.file;
+    }
+with_flag Offsets o =
+    record {
+      limit = o.limit;
+      kernels = o.kernels;
+      without_numbers = o.without_numbers;
+      only = o.only;
+      link = o.link;
+      without = o.without;
+      offsets = true;
+      keep_going = o.keep_going;
+      file = o.file;
+    }
+with_flag KeepGoing o =
+    record {
+      limit = o.limit;
+      kernels = o.kernels;
+      without_numbers = o.without_numbers;
+      only = o.only;
+      link = o.link;
+      without = o.without;
+      offsets = o.offsets;
+      keep_going = true;
+      file = o.file;
+    }
 
 -- Options with this limit.
-abbrev pub with_limit : ℕ → Options → Options
+abbrev pub with_limit : ℕ → Settings → Settings
 with_limit n o =
-    record { limit = n; kernels = o.kernels; without_numbers = o.without_numbers; only = o.only; file = o.file }
-
--- Options that ask for notes of encoding quirks.
-abbrev pub with_kernels : Options → Options
-with_kernels o =
-    record { limit = o.limit; kernels = true; without_numbers = o.without_numbers; only = o.only; file = o.file }
-
--- Options that leave out sequence and port numbers.
-abbrev pub leaving_numbers : Options → Options
-leaving_numbers o =
-    record { limit = o.limit; kernels = o.kernels; without_numbers = true; only = o.only; file = o.file }
+    record {
+      limit = n;
+      kernels = o.kernels;
+      without_numbers = o.without_numbers;
+      only = o.only;
+      link = o.link;
+      without = o.without;
+      offsets = o.offsets;
+      keep_going = o.keep_going;
+      file = o.file;
+    }
 
 -- Options that show only these types.
-abbrev pub with_only : Types → Options → Options
+abbrev pub with_only : List ℕ → Settings → Settings
 with_only types o =
     record {
       limit = o.limit;
       kernels = o.kernels;
       without_numbers = o.without_numbers;
       only = Some types;
-      file =
-          o.file;
+      link = o.link;
+      without = o.without;
+      offsets = o.offsets;
+      keep_going = o.keep_going;
+      file = o.file;
     }
 
--- Options for standard input.
-abbrev pub of_input : Options → Options
-of_input o = record {
-  limit = o.limit;
-  kernels = o.kernels;
-  without_numbers = o.without_numbers;
-  only = o.only;
-  file =
-      None;
-}
+-- Options that show only messages about this link.
+abbrev pub with_link : List ℕ → Settings → Settings
+with_link word o =
+    record {
+      limit = o.limit;
+      kernels = o.kernels;
+      without_numbers = o.without_numbers;
+      only = o.only;
+      link = Some word;
+      without = o.without;
+      offsets = o.offsets;
+      keep_going = o.keep_going;
+      file = o.file;
+    }
 
--- The options p ask for the file of this name what o asks for.
-abbrev pub AreOf : List ℕ → Options → Options → Type 0
-AreOf name o p = (option_map (λ n. n.now) p.file ≡ Some name) × (of_input p ≡ of_input o)
+-- Options that leave this out.
+abbrev pub with_exclusion : Exclusion → Settings → Settings
+with_exclusion excluded o =
+    record {
+      limit = o.limit;
+      kernels = o.kernels;
+      without_numbers = o.without_numbers;
+      only = o.only;
+      link = o.link;
+      without = Some excluded;
+      offsets = o.offsets;
+      keep_going = o.keep_going;
+      file = o.file;
+    }
+
+-- Options for the file of this name.
+abbrev pub of_file : List ℕ → Settings → Settings
+of_file name o =
+    record {
+      limit = o.limit;
+      kernels = o.kernels;
+      without_numbers = o.without_numbers;
+      only = o.only;
+      link = o.link;
+      without = o.without;
+      offsets = o.offsets;
+      keep_going = o.keep_going;
+      file = Some name;
+    }
+
+-- ---- faults
+
+-- Why arguments are invalid, by the bytes of their words.
+pub data UsageFault : Type 0 where
+  Usage : UsageFault
+  UnknownType : List ℕ → UsageFault
+  UnknownName : List ℕ → UsageFault
+
+-- The fault that an error in code represents.
+abbrev pub usage_fault : UsageError → UsageFault
+usage_fault Errors.Usage = UsageFault.Usage
+usage_fault (Errors.UnknownType word) = UsageFault.UnknownType word.now
+usage_fault (Errors.UnknownName word) = UsageFault.UnknownName word.now
+
+-- The fault of types that aren't read.
+abbrev pub type_fault : WordFault → UsageFault
+type_fault (WordFault.Unknown word) = UsageFault.UnknownType word
+type_fault WordFault.TooMany = UsageFault.Usage
+
+-- The fault of names that aren't read.
+abbrev pub name_fault : WordFault → UsageFault
+name_fault (WordFault.Unknown word) = UsageFault.UnknownName word
+name_fault WordFault.TooMany = UsageFault.Usage
+
+-- ---- arguments, one after the other
+
+-- The options with an option that has this value, or a fault.
+abbrev pub Takes : ValueOption → Settings → List ℕ → Result Settings UsageFault → Type 0
+Takes Only o w r = (types : Result (List ℕ) WordFault) × Reads TakesType [] (parts w) types ×
+    (r ≡ result_map_both (λ ts. with_only ts o) type_fault types)
+Takes Link o w r = r ≡ Ok (with_link w o)
+Takes Without o w r = (excluded : Result Exclusion WordFault) × Reads TakesWord nothing_excluded (parts w) excluded ×
+    (r ≡ result_map_both (λ x. with_exclusion x o) name_fault excluded)
+Takes Limit o w r = (IsLimitArgument w × (r ≡ Ok (with_limit (digits_value 10 w) o))) ⊎
+    ((IsLimitArgument w → ⊥) × (r ≡ Err UsageFault.Usage))
+
+-- The options, if no argument is left.
+abbrev pub if_last : List (List ℕ) → Settings → Result Settings UsageFault
+if_last [] o = Ok o
+if_last (w ∷ rest) o = Err UsageFault.Usage
 
 -- What is expected next: an option, a file or nothing; or the value of an option.
 pub data Expected : Type 0 where
   Nothing : Expected
-  ALimit : Expected
-  SomeTypes : Expected
+  ValueOf : ValueOption → Expected
 
--- The arguments ask for p, if this is expected next and the arguments before them asked for o.
-abbrev pub Gives : Expected → Options → List (List ℕ) → Options → Type 0
-Gives ALimit o [] p = ⊥
-Gives ALimit o (w ∷ rest) p = IsLimitArgument w × Gives Nothing (with_limit (digits_value 10 w) o) rest p
-Gives SomeTypes o [] p = ⊥
-Gives SomeTypes o (w ∷ rest) p = (types : Types) × AreTypeWords (parts w) types.items × (length types.items ≤ 32) ×
-    Gives Nothing (with_only types o) rest p
-Gives Nothing o [] p = p ≡ o
-Gives Nothing o (w ∷ rest) p = elim (argument_of w) [
-  | Kernels ↦ Gives Nothing (with_kernels o) rest p
-  | WithoutNumbers ↦ Gives Nothing (leaving_numbers o) rest p
-  | Only ↦ Gives SomeTypes o rest p
-  | Limit ↦ Gives ALimit o rest p
-  | Input ↦ (rest ≡ []) × (p ≡ o)
-  | Name ↦ (rest ≡ []) × AreOf w o p
-  | Invalid ↦ ⊥
+-- What the arguments give, if this is expected next and the arguments before them asked for o.
+abbrev pub Gives : Expected → Settings → List (List ℕ) → Result Settings UsageFault → Type 0
+Gives (ValueOf option) o [] r = r ≡ Err UsageFault.Usage
+Gives (ValueOf option) o (w ∷ rest) r = (next : Result Settings UsageFault) × Takes option o w next × elim next [
+  | Ok p ↦ Gives Nothing p rest r
+  | Err e ↦ r ≡ Err e
+]
+Gives Nothing o [] r = r ≡ Ok o
+Gives Nothing o (w ∷ rest) r = elim (argument_of w) [
+  | Flag flag ↦ Gives Nothing (with_flag flag o) rest r
+  | Valued option ↦ Gives (ValueOf option) o rest r
+  | Input ↦ r ≡ if_last rest o
+  | Name ↦ r ≡ if_last rest (of_file w o)
+  | Invalid ↦ r ≡ Err UsageFault.Usage
 ]
 
--- The arguments ask for this.
-abbrev pub Asks : List (List ℕ) → Asked → Type 0
-Asks arguments Help = arguments ≡ codes "--help" ∷ []
-Asks arguments Version = arguments ≡ codes "--version" ∷ []
-Asks arguments (Show options) = Gives Nothing defaults arguments options
+-- The arguments ask for this, or have this fault.
+abbrev pub Asks : List (List ℕ) → Result Asked UsageError → Type 0
+Asks arguments (Ok Help) = arguments ≡ codes "--help" ∷ []
+Asks arguments (Ok Version) = arguments ≡ codes "--version" ∷ []
+Asks arguments (Ok (Show options)) = Gives Nothing defaults arguments (Ok (settings_of options))
+Asks arguments (Err e) = (arguments ≡ codes "--help" ∷ [] → ⊥) × (arguments ≡ codes "--version" ∷ [] → ⊥) ×
+    Gives Nothing defaults arguments (Err (usage_fault e))
 
 -- The limit is one that a run can have.
 abbrev pub HasLimit : Asked → Type 0

@@ -1,27 +1,29 @@
 -- The reports on a capture, and the program's status.
 use Rattle.std.specs.Prelude.{◌≡◌, ℕ, Bool, true, false, List, [], ◌∷◌, ◌++◌, ◌⊎◌, length, take, codes, cond, Option}
-use Rattle.std.specs.Prelude.{None, Some, not, Result, Ok, Err, option_map, ⊤}
+use Rattle.std.specs.Prelude.{None, Some, not, Result, Ok, Err, map, option_map, ◌||◌}
 use Rattle.std.specs.Io.KnownBytes.{Consumes}
 use Rattle.std.specs.declared.io.ErrorKind.{ErrorKind}
 use Rattle.link_capture_grammar.specs.declared.fault.CaptureFault.{CaptureFault}
 use Rattle.link_capture_grammar.specs.declared.fault.FaultKind.{FaultKind}
 use Rattle.link_capture_grammar.specs.declared.fault.FaultKind.TheVariants.{Read, Write}
 use Rattle.link_capture_grammar.specs.Faults.{fault_text}
-use Rattle.link_capture_commands.specs.Commands.{status_of}
 use Rattle.link_capture_reader.specs.Devices.{Rises, ReportsItsEnd, risen}
 use Rattle.link_capture_reader.specs.Outcomes.{ReadFault}
 use Rattle.link_capture_quirks.specs.declared.quirk_at.QuirkAt.{QuirkAt}
 use Rattle.link_capture_quirks.specs.QuirkTexts.{quirk_text}
 use Rattle.link_capture_quirks.specs.CaptureQuirks.{capture_quirks}
-use Rattle.link_lines.specs.Captures.{Choice}
+use Rattle.link_lines_filter.specs.Remaining.{Omitted, nothing_omitted}
+use Rattle.link_lines.specs.MessageLines.{Selection}
 use Rattle.link_lines.specs.Outcomes.{Shows, ShowsKeeping}
 use Rattle.link_lines.specs.Refused.{fault_message}
 use Rattle.link_lines.specs.declared.refused.ShowFault.{ShowFault}
 use Rattle.linkshow_program.specs.declared.arguments.Options.{Options}
 use Rattle.linkshow_program.specs.declared.arguments.Asked.{Asked}
 use Rattle.linkshow_program.specs.declared.arguments.Asked.TheVariants.{Help, Version, Show}
-use Rattle.linkshow_program.specs.Arguments.{Asks}
-use Rattle.linkshow_program.specs.Texts.{cause, advice}
+use Rattle.linkshow_program.specs.declared.arguments.UsageError.{UsageError}
+use Rattle.link_lines.specs.declared.without.Without.{Without}
+use Rattle.linkshow_program.specs.Arguments.{Asks, UsageFault, usage_fault}
+use Rattle.linkshow_program.specs.Texts.{cause, advice, usage_text}
 use Rattle.linkshow_program.specs.declared.texts.TheConstants as Texts
 use Rattle.link_capture_reader.specs.States.{IsReported, SinkState, SourceState, IsReportedOrCut}
 use Rattle.linkshow_program.specs.Devices.{Opening, Run}
@@ -44,15 +46,20 @@ name_report file unread = []
 abbrev pub fault_report : Option (List ℕ) → List ℕ → ShowFault → List ℕ
 fault_report file first e = name_report file (is_unread e.fault.kind) ++ (fault_message e ++ (10 ∷ advice first))
 
--- The report on a legal capture: that it has no messages, if no byte was read.
-abbrev pub nothing_read : List ℕ → List ℕ
-nothing_read [] = codes "no messages" ++ 10 ∷ []
-nothing_read (x ∷ more) = []
+-- The report on a legal capture: that there are no messages, if no line was written.
+abbrev pub nothing_shown : Bool → List ℕ
+nothing_shown true = []
+nothing_shown false = codes "no messages" ++ 10 ∷ []
 
 -- The report on a capture that was shown, which begins with these bytes.
-abbrev pub report_of : Option (List ℕ) → List ℕ → Result ⊤ ShowFault → List ℕ
-report_of file first (Ok x) = nothing_read first
+abbrev pub report_of : Option (List ℕ) → List ℕ → Result Bool ShowFault → List ℕ
+report_of file first (Ok has_lines) = nothing_shown has_lines
 report_of file first (Err e) = fault_report file first e
+
+-- The status after a capture was shown, or not.
+abbrev pub status_of : Result Bool ShowFault → ℕ
+status_of (Ok has_lines) = 0
+status_of (Err e) = 2
 
 -- The report of a file that couldn't be opened.
 abbrev pub unopened : List ℕ → ErrorKind → List ℕ
@@ -60,14 +67,34 @@ unopened name kind = name_report (Some name) true ++ (cause kind ++ 10 ∷ [])
 
 -- ---- lines
 
--- The choice of what is shown that options make.
-abbrev pub chosen : Options → Choice
-chosen o = record { numbers = not o.without_numbers; only = option_map (λ types. types.items) o.only }
+-- Whether numbers are among what is left out.
+abbrev pub excludes_numbers : Option Without → Bool
+excludes_numbers None = false
+excludes_numbers (Some x) = x.numbers
+
+-- What is left out of lines.
+abbrev pub omitted_by : Option Without → Omitted
+omitted_by None = nothing_omitted
+omitted_by (Some x) =
+    record { names = map (λ name. name.now) x.names.items; counters = x.counters; indexes = x.indexes }
+
+-- What is shown of a capture, as options say.
+abbrev pub chosen : Options → Selection
+chosen o = record {
+  choice = record {
+    numbers = not (o.without_numbers || excludes_numbers o.without);
+    only = option_map (λ types. types.items) o.only;
+  };
+  link = option_map (λ link. link.now) o.link;
+  omitted = omitted_by o.without;
+  offsets = o.offsets;
+  keep_going = o.keep_going;
+}
 
 -- A capture was shown, this was reported of it and of the first bytes that were read, and this is the status.
-abbrev pub ShowRun : Choice → Run → Option (List ℕ) → ℕ → ℕ → Type 0
+abbrev pub ShowRun : Selection → Run → Option (List ℕ) → ℕ → ℕ → Type 0
 ShowRun ch r file limit status =
-    (outcome : Result ⊤ ShowFault) × (first : List ℕ)
+    (outcome : Result Bool ShowFault) × (first : List ℕ)
     × ShowsKeeping first ch r.from.to_come r.left.to_come r.held.holds r.holds.holds
     (ReportsItsEnd r.from.ends_reported r.left.ends_reported r.left.to_come)
     (Rises r.from.failures r.left.failures) (Rises r.held.failures r.holds.failures) limit outcome
@@ -85,7 +112,7 @@ notes_text [] = []
 notes_text (x ∷ xs) = note_text x ++ notes_text xs
 
 -- The bytes that were read are shown as from a source that never fails.
-abbrev pub ShowsWhole : Choice → List ℕ → SinkState → SinkState → ℕ → Result ⊤ ShowFault → Type 0
+abbrev pub ShowsWhole : Selection → List ℕ → SinkState → SinkState → ℕ → Result Bool ShowFault → Type 0
 ShowsWhole ch s held holds limit outcome =
     (left : Option (List ℕ)) × (old new : ℕ) ×
     Shows ch (Some s) left held.holds holds.holds (ReportsItsEnd old new left) (Rises 0 0)
@@ -93,11 +120,11 @@ ShowsWhole ch s held holds limit outcome =
 
 -- All was read, noted and then shown; or reading failed, only this was reported, and nothing was written to the sink of
 -- the lines.
-abbrev pub NotesRun : Choice → Run → Type 0 → Option (List ℕ) → ℕ → ℕ → Type 0
+abbrev pub NotesRun : Selection → Run → Type 0 → Option (List ℕ) → ℕ → ℕ → Type 0
 NotesRun ch r unwritten file limit status =
     (s : List ℕ) × Consumes r.from.to_come r.left.to_come s × (
     (ReportsItsEnd r.from.ends_reported r.left.ends_reported r.left.to_come ×
-    ((outcome : Result ⊤ ShowFault) × ShowsWhole ch s r.held r.holds limit outcome
+    ((outcome : Result Bool ShowFault) × ShowsWhole ch s r.held r.holds limit outcome
     × ReportsBoth r.reported r.reported_after (notes_text (capture_quirks limit s)) (report_of file (take 4 s) outcome)
     × (status ≡ status_of outcome)))
     ⊎ ((fault : CaptureFault) × ReadFault r.from.failures r.left.failures s fault.kind × (fault.offset ≡ length s) ×
@@ -112,7 +139,7 @@ NotesRun ch r unwritten file limit status =
 -- ---- the arguments
 
 -- A capture was shown, with notes or without.
-abbrev pub CaptureRun : Bool → Choice → Run → Type 0 → Option (List ℕ) → ℕ → ℕ → Type 0
+abbrev pub CaptureRun : Bool → Selection → Run → Type 0 → Option (List ℕ) → ℕ → ℕ → Type 0
 CaptureRun true ch r unwritten file limit status = NotesRun ch r unwritten file limit status
 CaptureRun false ch r unwritten file limit status = ShowRun ch r file limit status
 
@@ -120,7 +147,7 @@ CaptureRun false ch r unwritten file limit status = ShowRun ch r file limit stat
 -- are those known of it.
 abbrev pub FileRun : {File : Type 0} → (File → SourceState) → Option (List ℕ) → Option ErrorKind → List ℕ → SinkState →
     SinkState → SinkState → SinkState → Type 0
-    → Bool → Choice → ℕ → ℕ → Type 0
+    → Bool → Selection → ℕ → ℕ → Type 0
 FileRun {File} state known refusal name held holds reported reported_after unwritten kernels ch limit status =
     ((kind : ErrorKind) × (refusal ≡ Some kind) × unwritten ×
     IsReportedOrCut reported reported_after (unopened name kind) × (status ≡ 2))
@@ -143,32 +170,26 @@ PrintRun held holds reported reported_after text status =
     10 ∷ [])) × (status ≡ cond printed 0 2)
 
 -- A usage error was reported, and this is the status.
-abbrev pub UsageRun : SinkState → SinkState → ℕ → Type 0
-UsageRun reported reported_after status =
-    IsReportedOrCut reported reported_after
-    (codes "usage: linkshow [--without-numbers] [--only TYPE,..] [--kernels] [--limit N] [FILE]; linkshow --help says more" ++ 10 ∷ []) × (status ≡ 3)
-
--- The arguments ask for this, or are invalid.
-abbrev pub Gives : List (List ℕ) → Option Asked → Type 0
-Gives arguments None = (asked : Asked) → Asks arguments asked → ⊥
-Gives arguments (Some asked) = Asks arguments asked
+abbrev pub UsageRun : SinkState → SinkState → UsageFault → ℕ → Type 0
+UsageRun reported reported_after fault status = IsReportedOrCut reported reported_after (usage_text fault) ×
+    (status ≡ 3)
 
 -- A capture is shown from standard input, or from a file.
 abbrev pub ShowsFrom : Type 0 → (List ℕ → Type 0) → Option (List ℕ) → Type 0
 ShowsFrom FromInput FromFile None = FromInput
 ShowsFrom FromInput FromFile (Some name) = FromFile name
 
--- What the program does when the arguments ask for this. If they ask for help or the version, or are invalid, no file
--- is opened and nothing is read; if they name a file, the source isn't read.
-abbrev pub Does : {File : Type 0} → Type 0 → Type 0 → Type 0 → Run → Opening → (File → SourceState) → ℕ → Option Asked →
-    Type 0
-Does unopened unread unwritten r o state status None = unopened × unread × unwritten ×
-    UsageRun r.reported r.reported_after status
-Does unopened unread unwritten r o state status (Some Help) = unopened × unread ×
+-- What the program does when the arguments ask for this, or have this fault. If they ask for help or the version, or
+-- are invalid, no file is opened and nothing is read; if they name a file, the source isn't read.
+abbrev pub Does : {File : Type 0} → Type 0 → Type 0 → Type 0 → Run → Opening → (File → SourceState) → ℕ →
+    Result Asked UsageError → Type 0
+Does unopened unread unwritten r o state status (Err e) = unopened × unread × unwritten ×
+    UsageRun r.reported r.reported_after (usage_fault e) status
+Does unopened unread unwritten r o state status (Ok Help) = unopened × unread ×
     PrintRun r.held r.holds r.reported r.reported_after Texts.HELP.now status
-Does unopened unread unwritten r o state status (Some Version) = unopened × unread ×
+Does unopened unread unwritten r o state status (Ok Version) = unopened × unread ×
     PrintRun r.held r.holds r.reported r.reported_after Texts.VERSION.now status
-Does unopened unread unwritten r o state status (Some (Show options)) =
+Does unopened unread unwritten r o state status (Ok (Show options)) =
     ShowsFrom (unopened × CaptureRun options.kernels (chosen options) r unwritten None options.limit status)
     (λ name. unread × (o.asks ≡ risen o.asked)
     × FileRun state (o.contents name) o.refusal name r.held r.holds r.reported r.reported_after unwritten
@@ -178,5 +199,5 @@ Does unopened unread unwritten r o state status (Some (Show options)) =
 -- The program did what the arguments ask for.
 abbrev pub RunsAsAsked : {File : Type 0} → List (List ℕ) → Type 0 → Type 0 → Type 0 → Run → Opening →
     (File → SourceState) → ℕ → Type 0
-RunsAsAsked arguments unopened unread unwritten r o state status = (given : Option Asked) × Gives arguments given ×
-    Does unopened unread unwritten r o state status given
+RunsAsAsked arguments unopened unread unwritten r o state status = (given : Result Asked UsageError) ×
+    Asks arguments given × Does unopened unread unwritten r o state status given

@@ -6,6 +6,7 @@ ghost use Rattle.std.specs.Prelude.{◌≡◌, ◌≤◌, map, option_map, strin
 ghost use Rattle.std.specs.Process.{exit_status};
 ghost use Rattle.link_capture_reader.specs.Devices.{risen};
 ghost use Rattle.link_capture_reader.specs.States.{sink_state, source_state};
+ghost use Rattle.linkshow_program.specs.Arguments.{usage_fault};
 ghost use Rattle.linkshow_program.specs.Devices.{opening, run_of};
 ghost use Rattle.linkshow_program.specs.Runs.{RunsAsAsked, CaptureRun, FileRun, UsageRun, chosen};
 
@@ -17,13 +18,13 @@ mod printing;
 mod refusals;
 mod showing;
 mod texts;
-mod types;
+mod usage;
 
-pub use arguments::{Asked, Options, read_words};
+pub use arguments::{Asked, Options, UsageError, read_words};
 pub use files::Files;
 use files::HostFiles;
 use link_capture_commands::arguments;
-use link_capture_reader::{ReadSource, Sink, Source, WriteSink, report_text};
+use link_capture_reader::{ReadSource, Sink, Source, WriteSink};
 pub use notes::run_notes;
 use printing::print;
 use showing::report_unopened;
@@ -31,15 +32,15 @@ pub use showing::run_show;
 use std::alloc::Global;
 use std::io;
 use std::process::ExitCode;
-use texts::{HELP, USAGE, VERSION};
-pub use types::Types;
+use texts::{HELP, VERSION};
+use usage::report_usage;
 
-/// Writes the usage line to the error writer, and returns the status of a usage error.
-fn run_usage<E: Sink>(errors: &mut E) -> ExitCode
+/// Reports why arguments are invalid, and returns the status of a usage error.
+fn run_usage<E: Sink>(errors: &mut E, error: UsageError<'_>) -> ExitCode
     ensures { UsageRun (sink_state E.holds E.failures errors.old)
-        (sink_state E.holds E.failures errors.new) (exit_status result) }
+        (sink_state E.holds E.failures errors.new) (usage_fault error.entry) (exit_status result) }
 {
-    report_text(errors, USAGE);
+    report_usage(errors, error);
     ExitCode::from(3)
 }
 
@@ -115,10 +116,10 @@ pub fn run<F: Files, S: Source, K: Sink, E: Sink>(
         (source_state F.File.to_come F.File.failures F.File.ends_reported) (exit_status result) }
 {
     match read_words(arguments) {
-        None => run_usage(errors),
-        Some(Asked::Help) => print(sink, errors, HELP),
-        Some(Asked::Version) => print(sink, errors, VERSION),
-        Some(Asked::Show(options)) => match options.file {
+        Err(error) => run_usage(errors, error),
+        Ok(Asked::Help) => print(sink, errors, HELP),
+        Ok(Asked::Version) => print(sink, errors, VERSION),
+        Ok(Asked::Show(options)) => match options.file {
             Some(name) => run_file(alloc, files, sink, errors, name, &options),
             None => run_capture(alloc, source, sink, errors, &options),
         },

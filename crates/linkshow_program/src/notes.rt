@@ -8,7 +8,7 @@ ghost use Rattle.linkshow_program.specs.Devices.{run_of};
 ghost use Rattle.linkshow_program.specs.Runs.{chosen, notes_text, NotesRun};
 
 use super::lines::note;
-use super::showing::{line_options, report};
+use super::showing::{report, show_options};
 use crate::arguments::Options;
 use link_capture_quirks::quirks;
 use link_capture_reader::{
@@ -64,7 +64,7 @@ pub fn run_notes<S: Source, K: Sink, E: Sink>(
                 &mut whole,
                 sink,
                 options.limit,
-                line_options(options),
+                show_options(options),
             );
             report(errors, options.file, first.as_slice(), outcome)
         }

@@ -2,11 +2,12 @@
 
 ghost use Rattle.std.specs.Prelude.{◌≡◌, ◌≤◌, ◌++◌, option_map};
 ghost use Rattle.std.specs.Process.{exit_status};
-ghost use Rattle.link_lines.specs.Options.{choice_of};
-ghost use Rattle.link_capture_commands.specs.Commands.{status_of};
+ghost use Rattle.link_lines.specs.Options.{selection_of};
+ghost use Rattle.link_lines_filter.specs.Remaining.{omitted_of};
 ghost use Rattle.link_capture_reader.specs.States.{IsReported, IsReportedOrCut, sink_state, source_state};
 ghost use Rattle.linkshow_program.specs.Devices.{run_of};
-ghost use Rattle.linkshow_program.specs.Runs.{chosen, fault_report, is_unread, name_report, nothing_read, report_of, ShowRun, unopened};
+ghost use Rattle.linkshow_program.specs.Runs.{chosen, excludes_numbers, fault_report, is_unread, name_report};
+ghost use Rattle.linkshow_program.specs.Runs.{nothing_shown, omitted_by, report_of, ShowRun, status_of, unopened};
 
 use super::lines::report_texts;
 use super::refusals::report_fault_message;
@@ -14,7 +15,9 @@ use crate::arguments::Options;
 use crate::texts::{advice, cause};
 use link_capture_grammar::fault::FaultKind;
 use link_capture_reader::{Sink, Source, report_text};
-use link_lines::{FirstBytes, LineOptions, ShowFault, show_keeping_first};
+use link_lines::{
+    FirstBytes, LineOptions, Omission, ShowFault, ShowOptions, Without, show_keeping_first,
+};
 use std::alloc::Global;
 use std::io::ErrorKind;
 use std::process::ExitCode;
@@ -75,25 +78,19 @@ pub(crate) fn report_unopened<E: Sink>(errors: &mut E, name: &str, kind: ErrorKi
     report_texts(errors, &[cause(kind), "\n"])
 }
 
-/// Returns the report on a legal capture that begins with these bytes: `no messages` if it is
-/// empty, else nothing.
-fn nothing_read(first: &[u8]) -> &'static str
-    ensures { result.now ≡ nothing_read first.now }
+/// Returns the report on a legal capture: nothing, or `no messages` if it has no lines.
+fn nothing_shown(has_lines: bool) -> &'static str
+    ensures { result.now ≡ nothing_shown has_lines }
 {
-    if first.is_empty() {
-        "no messages\n"
-    } else {
-        ""
-    }
+    if has_lines { "" } else { "no messages\n" }
 }
 
-/// Reports in one line what went wrong, or that the capture has no messages. Returns the program's
-/// status.
+/// Reports in one line what went wrong, or that no message was shown. Returns the program's status.
 pub(crate) fn report<E: Sink>(
     errors: &mut E,
     file: Option<&str>,
     first: &[u8],
-    outcome: Result<(), ShowFault>,
+    outcome: Result<bool, ShowFault>,
 ) -> ExitCode
     ensures status { exit_status result ≡ status_of outcome }
     ensures reported { IsReportedOrCut (sink_state E.holds E.failures errors.old)
@@ -101,8 +98,8 @@ pub(crate) fn report<E: Sink>(
         (report_of (option_map (λ name. name.now) file.entry) first.now outcome) }
 {
     match outcome {
-        Ok(()) => {
-            report_text(errors, nothing_read(first));
+        Ok(has_lines) => {
+            report_text(errors, nothing_shown(has_lines));
             ExitCode::from(0)
         }
         Err(found) => {
@@ -112,13 +109,49 @@ pub(crate) fn report<E: Sink>(
     }
 }
 
-/// Returns the choice of what is shown that the options make.
-pub(crate) fn line_options<'a>(options: &'a Options<'_>) -> LineOptions<'a>
-    ensures { choice_of result ≡ chosen options.now }
+/// Returns whether numbers are among what is left out.
+fn excludes_numbers(without: &Option<Without>) -> bool
+    ensures { result ≡ excludes_numbers without.now }
 {
-    LineOptions {
-        without_numbers: options.without_numbers,
-        only: options.only.as_ref().map(|types| types.as_slice()),
+    match without {
+        Some(without) => without.numbers,
+        None => false,
+    }
+}
+
+/// Returns what is left out of lines, besides numbers.
+fn omission(without: &Option<Without>) -> Omission<'_>
+    ensures { omitted_of result ≡ omitted_by without.now }
+{
+    match without {
+        Some(without) => Omission {
+            names: without.names.as_slice(),
+            counters: without.counters,
+            indexes: without.indexes,
+        },
+        None => Omission {
+            names: &[],
+            counters: false,
+            indexes: false,
+        },
+    }
+}
+
+/// Returns the choice of what is shown that the options make.
+pub(crate) fn show_options<'a>(options: &'a Options<'_>) -> ShowOptions<'a>
+    ensures { selection_of result ≡ chosen options.now }
+{
+    let excludes = excludes_numbers(&options.without);
+    let omission = omission(&options.without);
+    ShowOptions {
+        lines: LineOptions {
+            without_numbers: options.without_numbers | excludes,
+            only: options.only.as_ref().map(|types| types.as_slice()),
+        },
+        link: options.link.map(|link| link.as_bytes()),
+        omission,
+        offsets: options.offsets,
+        keep_going: options.keep_going,
     }
 }
 
@@ -139,7 +172,7 @@ pub fn run_show<S: Source, K: Sink, E: Sink>(
         (exit_status result) }
 {
     let mut first = FirstBytes::new();
-    let shown = line_options(options);
+    let shown = show_options(options);
     let outcome = show_keeping_first(alloc, source, sink, options.limit, shown, &mut first);
     report(errors, options.file, first.as_slice(), outcome)
 }

@@ -1,20 +1,22 @@
 //! The texts that the program writes.
 
 ghost use Rattle.std.specs.Prelude.{◌≡◌};
-ghost use Rattle.linkshow_program.specs.Texts.{cause, is_pcap, is_pcapng, advice};
+ghost use Rattle.linkshow_program.specs.Texts.{cause, is_lines, is_pcap, is_pcapng, advice};
 
 use std::io::ErrorKind;
 
 /// The usage line.
 pub const USAGE: &str =
-    "usage: linkshow [--without-numbers] [--only TYPE,..] [--kernels] [--limit N] [FILE]; linkshow --help says more\n";
+    "usage: linkshow [--only TYPE,..] [--link WORD] [--without NAME,..] [--without-numbers] \
+     [--offsets] [--keep-going] [--kernels] [--limit N] [FILE]; linkshow --help says more\n";
 
 /// The version of the program, and the format version of its lines.
 pub const VERSION: &str = "linkshow 0.1.0, lines 3\n";
 
 /// The help.
-pub const HELP: &str =
-    "usage: linkshow [--without-numbers] [--only TYPE,..] [--kernels] [--limit N] [FILE]
+pub const HELP: &str = "usage: linkshow [--only TYPE,..] [--link WORD] [--without NAME,..]
+                [--without-numbers] [--offsets] [--keep-going] [--kernels]
+                [--limit N] [FILE]
        linkshow --help
        linkshow --version
 
@@ -23,10 +25,17 @@ input if there is no FILE or it is -. A capture is a byte string of netlink
 messages, one after the other, each at a multiple of 4. Its lines are those
 of its normal text: captures that mean the same have the same lines.
 
-  --without-numbers  leave out sequence and port numbers, which change from
-                     run to run
   --only TYPE,..     show only messages of these types, by name or number:
                      newlink,setlink,77
+  --link WORD        show only messages about this link, by name or index
+  --without NAME,..  leave out these attributes, by name, and these groups:
+                     numbers, as --without-numbers; counters, as statistics
+                     and timers; indexes, of links and of namespaces
+  --without-numbers  leave out sequence and port numbers, which change from
+                     run to run
+  --offsets          show each message's offset in bytes
+  --keep-going       show messages with a fault in their body too, with the
+                     reason, and the messages after them
   --limit N          the greatest length of a message in bytes, from 16 to
                      4294967295; without it, 1048576
   --kernels          first note on standard error each encoding that kernels
@@ -78,6 +87,14 @@ fn is_pcapng(first: &[u8]) -> bool
     first == b"\n\r\r\n".as_slice()
 }
 
+/// Returns whether bytes begin lines of this program: with the name of a message's type, or `type`
+/// for one without a name.
+fn is_lines(first: &[u8]) -> bool
+    ensures { result ≡ is_lines first.now }
+{
+    first == b"RTM_".as_slice() || first == b"NLMS".as_slice() || first == b"type".as_slice()
+}
+
 /// Returns the advice for a capture with a fault that begins with these four bytes: a line, or
 /// nothing.
 pub fn advice(first: &[u8]) -> &'static str
@@ -87,6 +104,8 @@ pub fn advice(first: &[u8]) -> &'static str
         "linkshow: this is a pcap file: linkrec pcap FILE makes a capture of it\n"
     } else if is_pcapng(first) {
         "linkshow: this is a pcapng file: linkrec pcap FILE makes a capture of it\n"
+    } else if is_lines(first) {
+        "linkshow: these are lines of linkshow already: linkdiff and linkjson read them\n"
     } else {
         ""
     }

@@ -7,8 +7,8 @@ ghost use Rattle.vectors.specs.Show.{expected_line, chosen, outcome_line};
 
 use crate::cases::{Case, LEAST_LIMIT, PIECES, read_words};
 use link_lines::{
-    CaptureFault, CaptureReader, FaultKind, LineOptions, SliceSource, VecSink, push_lines, show,
-    show_bytes,
+    CaptureFault, CaptureReader, FaultKind, LineOptions, ShowOptions, SliceSource, VecSink,
+    push_lines, show, show_bytes,
 };
 use std::alloc::{AllocError, Global};
 use std::io::{self, ErrorKind, Write};
@@ -140,8 +140,9 @@ fn agrees(alloc: Global, shown: &Shown) -> Result<bool, AllocError>
         &mut source,
         &mut sink,
         shown.case.limit,
-        shown.options(),
+        ShowOptions::from(shown.options()),
     )
+    .map(|_| ())
     .map_err(|found| found.fault);
     if from_source != whole || sink.bytes() != lines.as_slice() {
         return Ok(false);

@@ -1,12 +1,11 @@
 use Rattle.std.proofs.Common.{◌≡◌, ℕ, List, Some, Err, take, refl, subst, ◌∙◌, inl, inr}
 use Rattle.std.specs.Prelude.{option_map}
 use Rattle.std.specs.Process.{exit_status}
-use Rattle.link_capture_commands.specs.Commands.{status_of}
 use Rattle.link_capture_reader.specs.Devices.{Rises, ReportsItsEnd}
 use Rattle.link_capture_quirks.specs.CaptureQuirks.{capture_quirks}
 use Rattle.link_lines.specs.Outcomes.{Shows}
 use Rattle.link_capture_reader.specs.States.{IsReportedOrCut, sink_state}
-use Rattle.linkshow_program.specs.Runs.{chosen, notes_text, report_of}
+use Rattle.linkshow_program.specs.Runs.{chosen, notes_text, report_of, status_of}
 use Rattle.linkshow_program.proofs.notes.run_notes.Goals as goal
 
 pub returns-in-Ok : goal.returns-in-Ok
@@ -29,7 +28,7 @@ returns-in-Ok g c =
             c.new-whole.result.ends_reported,
             c.show-outcome.new.source.ends_reported,
             subst Lined whole (subst (λ ch. Shows ch (Some c.new-whole.result.rest.now) (Some c.show-outcome.new.source.rest.now) (g.K.Sink.holds c.args.sink.now) (g.K.Sink.holds c.show-outcome.new.sink)
-                (ReportsItsEnd c.new-whole.result.ends_reported c.show-outcome.new.source.ends_reported (Some c.show-outcome.new.source.rest.now)) (Rises 0 0) (Rises (g.K.Sink.failures c.args.sink.now) (g.K.Sink.failures c.show-outcome.new.sink)) c.args.options.now.limit c.show-outcome.result) c.line_options.ensures c.show-outcome.ensures),
+                (ReportsItsEnd c.new-whole.result.ends_reported c.show-outcome.new.source.ends_reported (Some c.show-outcome.new.source.rest.now)) (Rises 0 0) (Rises (g.K.Sink.failures c.args.sink.now) (g.K.Sink.failures c.show-outcome.new.sink)) c.args.options.now.limit c.show-outcome.result) c.show_options.ensures c.show-outcome.ensures),
           ),
           (
             sink_state g.E.Sink.holds g.E.Sink.failures c.report_notes.new.errors,

@@ -1,0 +1,13 @@
+-- All lines of a message are shown.
+use Rattle.std.proofs.Common.{◌≡◌, ℕ, Bool, true, false, cond, List, [], Option, None, Some, refl, sym, ap, ◌∙◌}
+use Rattle.link_lines_filter.specs.Laws.{NothingOmittedKeepsAll}
+use Rattle.link_lines_filter.specs.Remaining.{nothing_omitted, remaining_lines}
+use Rattle.link_lines.specs.MessageLines.{IsWhole, Selection, is_about_any, placed_lines, selected}
+
+pub all_selected : NothingOmittedKeepsAll → (o : Selection) → IsWhole o → (lines : List ℕ) → selected o lines ≡ lines
+all_selected all o w lines =
+    ap (λ link. cond (is_about_any link lines) (remaining_lines o.omitted lines) []) w.link
+    ∙ ap (λ omitted. remaining_lines omitted lines) w.omitted ∙ all lines
+
+pub all_lines : NothingOmittedKeepsAll → (o : Selection) → IsWhole o → o.offsets ≡ false → (offset : ℕ) (lines : List ℕ) → placed_lines o offset lines ≡ lines
+all_lines all o w e offset lines = rw (e) (all_selected all o w lines)

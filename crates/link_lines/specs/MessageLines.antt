@@ -1,0 +1,85 @@
+-- The lines of a capture's messages.
+use Rattle.std.specs.Prelude.{◌≡◌, ℕ, Bool, true, false, cond, List, [], ◌∷◌, ◌++◌, codes, take, drop, flat_map}
+use Rattle.std.specs.Prelude.{Option, None, Some}
+use Rattle.netlink_packet_core_grammar.specs.Frames.{frame_type}
+use Rattle.link_capture_grammar.specs.Faults.{words}
+use Rattle.link_capture_grammar.specs.declared.fault.FaultKind.{FaultKind}
+use Rattle.link_capture_grammar.specs.declared.fault.FaultKind.TheVariants.{Refused}
+use Rattle.link_capture_refusals.specs.ReasonTexts.{words as reason_words}
+use Rattle.link_capture_refusals.specs.Refusals.{Found, frame_refusal}
+use Rattle.link_capture_refusals.specs.RefusalTexts.{path_text}
+use Rattle.link_lines_filter.specs.About.{is_about}
+use Rattle.link_lines_filter.specs.Offsets.{with_offset}
+use Rattle.link_lines_filter.specs.Remaining.{Omitted, nothing_omitted, remaining_lines}
+use Rattle.link_lines_texts.specs.Captures.{Choice, is_chosen, text_lines}
+use Rattle.link_lines_texts.specs.Frames.{bytes_line, frame_lines}
+use Rattle.link_lines.specs.Messages.{Message, Message.Accepted, Message.Faulty, Message.Last, messages}
+
+-- What is shown of a capture: which types, and whether numbers; the link that messages have to be about, if one is
+-- given; what is left out of lines; whether each message's offset is shown; and whether messages with a fault of their
+-- body are shown too, and those after them.
+pub record Selection : Type 0 where
+  pub choice : Choice
+  pub link : Option (List ℕ)
+  pub omitted : Omitted
+  pub offsets : Bool
+  pub keep_going : Bool
+
+-- Whether a message's lines are about a link, if one is given.
+abbrev pub is_about_any : Option (List ℕ) → List ℕ → Bool
+is_about_any None lines = true
+is_about_any (Some link) lines = is_about lines link
+
+-- What is shown of a message's lines: if they are about the link, those that remain.
+abbrev pub selected : Selection → List ℕ → List ℕ
+selected o lines = cond (is_about_any o.link lines) (remaining_lines o.omitted lines) []
+
+-- All lines of messages about any link are shown.
+pub record IsWhole (o : Selection) : Type 0 where
+  pub link : o.link ≡ None
+  pub omitted : o.omitted ≡ nothing_omitted
+
+-- The text of a refusal without its offset.
+abbrev pub refusal_words : Option Found → List ℕ
+refusal_words None = []
+refusal_words (Some f) = path_text f.path ++ reason_words f.reason
+
+-- Why a message's body isn't accepted.
+abbrev pub body_reason : FaultKind → List ℕ → List ℕ
+body_reason Refused frame = refusal_words (frame_refusal 0 frame)
+body_reason kind frame = words kind
+
+-- The line with the reason why a message's body isn't accepted.
+unfoldable pub refusal_line : FaultKind → List ℕ → List ℕ
+refusal_line kind frame = codes "  refused: " ++ (body_reason kind frame ++ 10 ∷ [])
+
+-- The lines of a message with a fault of its body: its header's, the reason, and the body's bytes.
+unfoldable pub faulty_lines : Bool → FaultKind → List ℕ → List ℕ
+faulty_lines numbers kind frame =
+    frame_lines numbers (take 16 frame) ++ (refusal_line kind frame ++ bytes_line (codes "body") (drop 16 frame))
+
+-- Lines with the message's offset, if it is shown; none if there are none.
+abbrev pub located : Bool → ℕ → List ℕ → List ℕ
+located false offset lines = lines
+located true offset [] = []
+located true offset (b ∷ lines) = with_offset offset (b ∷ lines)
+
+-- What is shown of the lines of a message at an offset.
+abbrev pub placed_lines : Selection → ℕ → List ℕ → List ℕ
+placed_lines o offset lines = located o.offsets offset (selected o lines)
+
+-- The lines of a message. One at which showing stops has none.
+abbrev pub message_lines : Selection → Message → List ℕ
+message_lines o (Accepted offset text) = placed_lines o offset (text_lines o.choice text)
+message_lines o (Faulty offset kind frame) =
+    placed_lines o offset
+    (cond (is_chosen o.choice.only (frame_type frame)) (faulty_lines o.choice.numbers kind frame) [])
+message_lines o (Last offset kind frame) = []
+
+-- The lines of messages.
+unfoldable pub messages_lines : Selection → List Message → List ℕ
+messages_lines o ms = flat_map (message_lines o) ms
+
+-- The lines of a capture that are shown.
+abbrev pub shown : Selection → ℕ → List ℕ → List ℕ
+shown o limit c = messages_lines o (messages o.keep_going limit c)

@@ -1,0 +1,80 @@
+-- The messages of a capture in order: up to the first fault, or past messages with a fault of their body.
+use Rattle.std.specs.Prelude.{ℕ, zero, suc, ◌+◌, ◌-◌, ◌^◌, nat_lt, Bool, true, false, cond, List, [], ◌∷◌, length, take}
+use Rattle.std.specs.Prelude.{Option, None, Some, Ok, Err}
+use Rattle.netlink_packet_core_grammar.specs.Attributes.{nla_align}
+use Rattle.netlink_packet_core_grammar.specs.Frames.{frame_length}
+use Rattle.link_capture_grammar.specs.Captures.{Judged, first_frame}
+use Rattle.link_capture_grammar.specs.declared.fault.CaptureFault.{CaptureFault}
+use Rattle.link_capture_grammar.specs.declared.fault.FaultKind.{FaultKind}
+use Rattle.link_capture_grammar.specs.declared.fault.FaultKind.TheVariants.{EmptyPorts, Refused, TextOverLimit, Unfit}
+use Rattle.link_capture_refusals.specs.Refusals.{Found, frame_refusal}
+
+-- A message at an offset: accepted, with its normal text; or with a fault of its body, and its bytes, and followed by
+-- others; or with the fault at which showing stops, and its bytes if the fault is one of its body.
+pub data Message : Type 0 where
+  Accepted : ℕ → List ℕ → Message
+  Faulty : ℕ → FaultKind → List ℕ → Message
+  Last : ℕ → FaultKind → List ℕ → Message
+
+-- Whether a fault is one of a message's body, so that the message's end is known.
+abbrev pub is_of_body : FaultKind → Bool
+is_of_body Refused = true
+is_of_body EmptyPorts = true
+is_of_body Unfit = true
+is_of_body TextOverLimit = true
+is_of_body kind = false
+
+-- The first frame's bytes, by the length in its header.
+abbrev pub frame_of : List ℕ → List ℕ
+frame_of c = take (frame_length c) c
+
+-- The messages of c, which is at an offset, from the result for its first frame and the messages after that.
+abbrev pub next_messages : Bool → ℕ → List ℕ → Judged → (ℕ → List Message) → List Message
+next_messages keep_going offset c (Ok frame) after = Accepted offset frame.1 ∷ after (nla_align frame.0 - 1)
+next_messages keep_going offset c (Err kind) after =
+    cond (is_of_body kind) (cond keep_going (Faulty offset kind (frame_of c) ∷ after (nla_align (frame_length c) - 1))
+    (Last offset kind (frame_of c) ∷ [])) (Last offset kind [] ∷ [])
+
+-- The messages of c, which is at an offset, after its first `skip` bytes.
+unfoldable pub messages_after : Bool → ℕ → ℕ → ℕ → List ℕ → List Message
+messages_after keep_going limit offset skip [] = []
+messages_after keep_going limit offset (suc skip) (b ∷ c) = messages_after keep_going limit (offset + 1) skip c
+messages_after keep_going limit offset zero (b ∷ c) =
+    next_messages keep_going offset (b ∷ c) (first_frame limit (b ∷ c))
+    (λ skip. messages_after keep_going limit (offset + 1) skip c)
+
+-- The messages of bytes at an offset of a capture.
+unfoldable pub messages_at : Bool → ℕ → ℕ → List ℕ → List Message
+messages_at keep_going limit offset c = messages_after keep_going limit offset 0 c
+
+-- The messages of a capture.
+abbrev pub messages : Bool → ℕ → List ℕ → List Message
+messages keep_going limit c = messages_at keep_going limit 0 c
+
+-- The fault at which showing stops, if it stops before the end.
+abbrev pub last_fault : List Message → Option CaptureFault
+last_fault [] = None
+last_fault (Accepted offset text ∷ more) = last_fault more
+last_fault (Faulty offset kind frame ∷ more) = last_fault more
+last_fault (Last offset kind frame ∷ more) = Some (record { kind = kind; offset = offset })
+
+-- The reason of a refused body, given its message and the message's offset; none if the message ends 2^63 bytes or more
+-- after the capture's start.
+abbrev pub frame_reason : FaultKind → ℕ → List ℕ → Option Found
+frame_reason Refused offset frame = cond (nat_lt (offset + length frame) (2 ^ 63)) (frame_refusal offset frame) None
+frame_reason kind offset frame = None
+
+-- A fault with the reason of a refused body.
+abbrev pub Report : Type 0
+Report = CaptureFault × Option Found
+
+-- The report of a fault of a message at an offset.
+abbrev pub report_of : ℕ → FaultKind → List ℕ → Report
+report_of offset kind frame = (record { kind = kind; offset = offset }, frame_reason kind offset frame)
+
+-- The report of the first fault.
+abbrev pub first_report : List Message → Option Report
+first_report [] = None
+first_report (Accepted offset text ∷ more) = first_report more
+first_report (Faulty offset kind frame ∷ more) = Some (report_of offset kind frame)
+first_report (Last offset kind frame ∷ more) = Some (report_of offset kind frame)

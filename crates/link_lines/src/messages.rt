@@ -1,0 +1,277 @@
+//! The messages of a capture, one after the other.
+
+ghost use Rattle.std.specs.Prelude.{◌≡◌, ◌≤◌, ◌<◌, ◌+◌, ◌^◌, ◌++◌, length, IfOk, OnOk, Some};
+ghost use Rattle.netlink_packet_core_grammar.specs.Frames.{IsFrame, frame_length};
+ghost use Rattle.link_lines.specs.MessageLines.{located, message_lines, placed_lines};
+ghost use Rattle.link_lines.specs.Messages.{Message.Accepted, Message.Faulty, frame_of, report_of};
+ghost use Rattle.link_lines.specs.Options.{selection_of};
+ghost use Rattle.link_lines.specs.Walks.{Ends, IsJudged, Passes, Steps, or_else, report_in};
+
+use crate::faulty::{fault_of, frame_of, is_of_body, push_faulty};
+use crate::lines::push_lines;
+use crate::message_laws::messages_unfold;
+use crate::options::ShowOptions;
+use crate::refused::ShowFault;
+use link_capture_checks::{frame_len, push_frame as push_text};
+use link_capture_grammar::fault::FaultKind;
+use link_capture_grammar::laws::{frames_are_independent, frames_are_judged};
+use link_lines_filter::laws::nothing_omitted_keeps_all;
+use link_lines_filter::{push_remaining, push_with_offset};
+use netlink_packet_core::{NetlinkBuffer, nla_align};
+use std::alloc::{AllocError, Global};
+
+/// The result for the first message of some bytes, with its length in bytes if that is known.
+#[derive(Clone, Copy)]
+pub(crate) enum Judgement {
+    /// It is accepted.
+    Accepted(usize),
+    /// Its body has a fault.
+    Faulty(FaultKind, usize),
+    /// Its header has a fault, or it is cut.
+    Invalid(FaultKind),
+}
+
+/// What follows the judgement of a message.
+#[derive(Clone, Copy)]
+pub(crate) enum Step {
+    /// The message, of that many bytes, is shown.
+    Next(usize),
+    /// Showing stops at the message, which has that fault.
+    Stop(FaultKind),
+}
+
+/// The end of a walk over messages.
+#[derive(Clone, Copy)]
+pub(crate) struct Walked {
+    /// The offset in the bytes after the last message that is shown and its padding.
+    pub len: usize,
+    /// The fault of the message at that offset; None if the bytes end there or before.
+    pub last: Option<FaultKind>,
+}
+
+/// Buffers that are used message by message.
+#[derive(Drop)]
+pub(crate) struct Buffers {
+    /// The normal text of a message.
+    pub text: Vec<u8>,
+    /// The lines of a message.
+    pub lines: Vec<u8>,
+    /// What is shown of the lines.
+    pub selected: Vec<u8>,
+}
+
+impl Buffers {
+    /// Returns empty buffers.
+    pub fn new(alloc: Global) -> Buffers {
+        Buffers {
+            text: Vec::new(alloc),
+            lines: Vec::new(alloc),
+            selected: Vec::new(alloc),
+        }
+    }
+}
+
+/// Judges the first message, whose length is known, and leaves its normal text in `text` if it is
+/// accepted.
+fn judge_frame(
+    bytes: &[u8],
+    len: usize,
+    limit: u32,
+    text: &mut Vec<u8>,
+) -> Result<Judgement, AllocError>
+    requires frame { IsFrame bytes.now }
+    requires len { len ≡ frame_length bytes.now }
+    ensures { IfOk result (λ judgement. IsJudged limit bytes.now text.new.items judgement) }
+{
+    text.clear();
+    match push_text(bytes, limit, text) {
+        Ok(len) => Ok(Judgement::Accepted(len)),
+        Err(kind) => match kind {
+            FaultKind::Memory => Err(AllocError),
+            _ if is_of_body(kind) => Ok(Judgement::Faulty(kind, len)),
+            _ => Ok(Judgement::Invalid(kind)),
+        },
+    }
+}
+
+/// Judges the first message, and leaves its normal text in `text` if it is accepted.
+fn judge(bytes: &[u8], limit: u32, text: &mut Vec<u8>) -> Result<Judgement, AllocError>
+    ensures { IfOk result (λ judgement. IsJudged limit bytes.now text.new.items judgement) }
+{
+    frames_are_judged();
+    match frame_len(bytes, limit) {
+        Ok(len) => judge_frame(bytes, len, limit, text),
+        Err(kind) => Ok(Judgement::Invalid(kind)),
+    }
+}
+
+/// Appends a message's lines, with its offset if that is shown.
+fn push_located(
+    offsets: bool,
+    offset: u64,
+    lines: &[u8],
+    out: &mut Vec<u8>,
+) -> Result<(), AllocError>
+    ensures ok { OnOk result (out.new.items ≡ out.old.items ++ located offsets offset lines.now) }
+{
+    if offsets && !lines.is_empty() {
+        push_with_offset(lines, offset, out)
+    } else {
+        out.extend_from_slice(lines)
+    }
+}
+
+/// Appends what is shown of the lines of a message at an offset.
+fn push_placed(
+    options: ShowOptions<'_>,
+    offset: u64,
+    lines: &[u8],
+    selected: &mut Vec<u8>,
+    out: &mut Vec<u8>,
+) -> Result<(), AllocError>
+    ensures ok { OnOk result (out.new.items ≡ out.old.items
+        ++ placed_lines (selection_of options.entry) offset lines.now) }
+{
+    selected.clear();
+    if options.is_about_link(lines) {
+        push_remaining(lines, options.omission, selected)?;
+    }
+    push_located(options.offsets, offset, selected.as_slice(), out)
+}
+
+/// Appends the lines of an accepted message, whose normal text is in the buffers.
+#[tactic(auto, using(crate::proofs::AllLines::all_lines))]
+fn push_accepted(
+    options: ShowOptions<'_>,
+    offset: u64,
+    buffers: &mut Buffers,
+    out: &mut Vec<u8>,
+) -> Result<(), AllocError>
+    ensures ok { OnOk result (out.new.items ≡ out.old.items
+        ++ message_lines (selection_of options.entry) (Accepted offset buffers.old.text.items)) }
+{
+    nothing_omitted_keeps_all();
+    let Buffers {
+        text,
+        lines,
+        selected,
+    } = buffers;
+    if options.selects_all() && !options.offsets {
+        return push_lines(text.as_slice(), options.lines, out);
+    }
+    lines.clear();
+    push_lines(text.as_slice(), options.lines, lines)?;
+    push_placed(options, offset, lines.as_slice(), selected, out)
+}
+
+/// Appends the lines of a message with a fault of its body, if its type is shown.
+fn push_refused(
+    options: ShowOptions<'_>,
+    offset: u64,
+    kind: FaultKind,
+    frame: &[u8],
+    buffers: &mut Buffers,
+    out: &mut Vec<u8>,
+) -> Result<(), AllocError>
+    requires { IsFrame frame.now }
+    ensures ok { OnOk result (out.new.items ≡ out.old.items
+        ++ message_lines (selection_of options.entry) (Faulty offset kind frame.now)) }
+{
+    let Buffers {
+        lines,
+        selected,
+        ..
+    } = buffers;
+    lines.clear();
+    if options
+        .lines
+        .shows(NetlinkBuffer::new(frame).message_type())
+    {
+        push_faulty(!options.lines.without_numbers, kind, frame, lines)?;
+    }
+    push_placed(options, offset, lines.as_slice(), selected, out)
+}
+
+/// Keeps the fault of the first message of `bytes`, if none was kept before.
+fn keep_fault(found: &mut Option<ShowFault>, kind: FaultKind, offset: u64, bytes: &[u8])
+    requires { IsFrame bytes.now }
+    ensures { report_in found.new
+        ≡ or_else (report_in found.old) (Some (report_of offset kind (frame_of bytes.now))) }
+{
+    if found.is_none() {
+        *found = Some(fault_of(kind, offset, bytes));
+    }
+}
+
+/// Appends the lines of the first message of `bytes`, which is at an offset of the capture, unless
+/// showing stops there. Keeps the first fault in `found`.
+fn push_message(
+    bytes: &[u8],
+    offset: u64,
+    limit: u32,
+    options: ShowOptions<'_>,
+    buffers: &mut Buffers,
+    found: &mut Option<ShowFault>,
+    out: &mut Vec<u8>,
+) -> Result<Step, AllocError>
+    ensures { IfOk result (λ step. Steps (selection_of options.entry) limit offset bytes.now
+        out.old.items out.new.items (report_in found.old) (report_in found.new) step) }
+{
+    messages_unfold();
+    frames_are_independent();
+    match judge(bytes, limit, &mut buffers.text)? {
+        Judgement::Accepted(len) => {
+            push_accepted(options, offset, buffers, out)?;
+            Ok(Step::Next(len))
+        }
+        Judgement::Faulty(kind, len) if options.keep_going => {
+            keep_fault(found, kind, offset, bytes);
+            push_refused(options, offset, kind, frame_of(bytes), buffers, out)?;
+            Ok(Step::Next(len))
+        }
+        Judgement::Faulty(kind, _) | Judgement::Invalid(kind) => Ok(Step::Stop(kind)),
+    }
+}
+
+/// Appends the lines of the messages of `bytes`, which begin at the offset `start` of the capture,
+/// from the offset `from` on. Keeps the first fault in `found`.
+pub(crate) fn push_messages(
+    bytes: &[u8],
+    start: u64,
+    from: usize,
+    limit: u32,
+    options: ShowOptions<'_>,
+    buffers: &mut Buffers,
+    found: &mut Option<ShowFault>,
+    out: &mut Vec<u8>,
+) -> Result<Walked, AllocError>
+    requires fits { start + length bytes.now < 2 ^ 64 }
+    requires near { from ≤ 3 }
+    ensures passes { IfOk result (λ w. Passes (selection_of options.entry) limit start bytes.now from w.len
+        out.old.items out.new.items (report_in found.old) (report_in found.new)) }
+    ensures ends { IfOk result (λ w. Ends options.entry.keep_going limit bytes.now w.len w.last) }
+    ensures bounds { IfOk result (λ w. w.len ≤ length bytes.now + 3) }
+{
+    let mut len = from;
+    'messages: while len < bytes.len() {
+        let step = push_message(
+            &bytes[len..],
+            start + len as u64,
+            limit,
+            options,
+            buffers,
+            found,
+            out,
+        )?;
+        match step {
+            Step::Next(size) => len += nla_align(size),
+            Step::Stop(kind) => {
+                return Ok(Walked {
+                    len,
+                    last: Some(kind),
+                });
+            }
+        }
+    }
+    Ok(Walked { len, last: None })
+}

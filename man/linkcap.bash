@@ -24,7 +24,7 @@ _linkshow() {
 }
 
 _linkdiff() {
-    _linkshow_words "--quiet --without-numbers --without --link --only --ignore-order --empty --limit --kernels --label --color --help"
+    _linkshow_words "--quiet --without-numbers --without --link --only --ignore-order --empty --offsets --keep-going --limit --kernels --label --color --help"
 }
 
 _linkrec() {
@@ -49,7 +49,7 @@ _linkgold() {
 }
 
 _linkjson() {
-    _linkshow_words "--without-numbers --without --link --only --limit --help"
+    _linkshow_words "--without-numbers --without --link --only --offsets --keep-going --limit --help"
 }
 
 complete -o filenames -F _linkcap linkcap

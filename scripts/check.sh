@@ -192,15 +192,42 @@ expect "a next hop in a file of lines" 1 "" "$linkdiff" --without-numbers --only
        RTA_GATEWAY 192.0.2.3
 END
 expect "no next hops" 0 "" "$linkdiff" --without numbers,RTA_MULTIPATH routes.lines weight < /dev/null
+# a request for all links as glibc's getifaddrs sends it: its body has 4 bytes and not 16
+printf '\x14\0\0\0\x12\0\1\3\1\0\0\0\0\0\0\0\0\0\0\0' > "$work/short"
+cat "$work/a" "$work/short" "$work/b" > "$work/mixed"
+cat "$work/mixed" <(head -c 20 "$work/a") > "$work/mixed-cut"
+refused="refused body at 48: a header of 4 bytes at 64"
+expect "invalid messages" 2 "linkdiff: mixed: $refused" "$linkdiff" a mixed < /dev/null
+expect "equal invalid messages" 0 "linkdiff: mixed: $refused"$'\n'"linkdiff: mixed: $refused" "$linkdiff" --keep-going mixed mixed < /dev/null
+expect "invalid messages that differ" 1 "linkdiff: mixed: $refused" "$linkdiff" --keep-going --offsets mixed <(cat "$work/a" "$work/b") \
+    --label mixed --label valid << 'END'
+--- mixed
++++ valid
+@@ -2,9 +2,6 @@ RTM_GETLINK at 48 of mixed
+   ifinfomsg family 0 (AF_UNSPEC) type 0 (netrom) index 0 flags 0x0 change 0x0
+   IFLA_EXT_MASK 0x9 (Vf | SkipStats)
+   IFLA_IFNAME "lo"
+-RTM_GETLINK flags 0x301 (REQUEST | ROOT | MATCH) seq 1 port 0
+-  refused: a header of 4 bytes
+-  body 00000000
+ RTM_GETLINK flags 0x301 (REQUEST | ROOT | MATCH) seq 1526271540 port 0
+   ifinfomsg family 0 (AF_UNSPEC) type 0 (netrom) index 0 flags 0x0 change 0x0
+   IFLA_EXT_MASK 0x9 (Vf | SkipStats)
+END
+expect "a cut frame after invalid messages" 2 "linkdiff: mixed-cut: $refused"$'\n'"linkdiff: mixed-cut: no whole message at 116" \
+    "$linkdiff" --keep-going a mixed-cut < /dev/null
+"$LINKSHOW" --offsets --keep-going "$work/mixed" > "$work/mixed.lines" 2> /dev/null
+expect "offsets don't count" 0 "linkdiff: mixed: $refused" "$linkdiff" --keep-going mixed.lines mixed < /dev/null
+expect "a file of lines with offsets and without numbers" 0 "linkdiff: mixed: $refused" \
+    "$linkdiff" --keep-going --without numbers mixed.lines mixed < /dev/null
+succeeds "an offset in a heading" bash -c '"$0" --offsets routes prefix | grep -qx "@@ .* @@ RTM_NEWADDR index 3 at 48 of routes"' "$linkdiff"
 for arguments in a "a a a" "--unknown a a" "- -" "--without IFLA_NAM a a" "--label a --label b --label c a a"; do
     succeeds "usage: $arguments" bash -c '"$0" $1 2> usage; [ $? -eq 2 ] && grep -q "^usage: linkdiff" usage' "$linkdiff" "$arguments"
 done
 
 # ---- linkjson
 
-# a request for all links as glibc's getifaddrs sends it: its body has 4 bytes and not 16
-printf '\x14\0\0\0\x12\0\1\3\1\0\0\0\0\0\0\0\0\0\0\0' > "$work/short"
-cat "$work/a" "$work/short" "$work/b" > "$work/mixed"
+cat "$work/a" "$work/b" "$work/a" > "$work/three"
 json='{"type": "RTM_GETLINK", "flags": {"value": 769, "flags": ["REQUEST", "ROOT", "MATCH"]}, "seq": 1526271540, "port": 0, '
 json+='"attributes": [{"name": "IFLA_EXT_MASK", "value": 9, "flags": ["Vf", "SkipStats"]}, {"name": "IFLA_IFNAME", "value": "lo", "quoted": true}], '
 json+='"header": {"struct": "ifinfomsg", "family": {"value": 0, "text": "AF_UNSPEC"}, "type": {"value": 0, "text": "netrom"}, "index": 0, '
@@ -223,7 +250,25 @@ succeeds "JSON of a fault in a later piece" bash -c '{ cat a; sleep 1; cat mixed
     grep -qx "refused body at 96: a header of 4 bytes at 112" report' "$linkjson"
 expect "JSON of nothing" 0 "no messages" "$linkjson" none < /dev/null
 expect "JSON of a missing file" 2 "linkjson: missing: no such file or directory" "$linkjson" missing < /dev/null
-expect "JSON of an option for captures" 2 "linkjson: --only and --limit are for captures: give them to linkshow" "$linkjson" --only newlink a.lines < /dev/null
+for option in "--only newlink" --limit=48 --offsets --keep-going; do
+    expect "JSON of an option for captures: $option" 2 "linkjson: --only, --limit, --offsets and --keep-going are for captures: give them to linkshow" \
+        bash -c '"$0" $1 a.lines' "$linkjson" "$option" < /dev/null
+done
+at() { sed "s/\"port\": 0, /&\"offset\": $1, /" <<< "${2:-$json}"; }
+invalid='{"type": "RTM_GETLINK", "flags": {"value": 769, "flags": ["REQUEST", "ROOT", "MATCH"]}, "seq": 1, "port": 0, "attributes": [], '
+invalid+='"refused": "a header of 4 bytes", "body": "00000000"}'
+expect "JSON with offsets" 0 "" "$linkjson" --offsets three < <(at 0; at 48 "${json/lo/l1}"; at 96)
+expect "JSON with offsets and without numbers" 0 "" "$linkjson" --offsets --without numbers three \
+    < <({ at 0; at 48 "${json/lo/l1}"; at 96; } | sed 's/"seq.*"offset/"offset/')
+expect "JSON up to an invalid message" 2 "$refused" "$linkjson" mixed <<< "$json"
+expect "JSON of an invalid message" 2 "$refused" "$linkjson" --keep-going mixed < <(echo "$json"; echo "$invalid"; echo "${json/lo/l1}")
+expect "JSON of an invalid message with its offset" 2 "$refused" "$linkjson" --keep-going --offsets mixed < <(at 0; at 48 "$invalid"; at 68 "${json/lo/l1}")
+expect "JSON of invalid messages and a cut frame" 2 "$refused"$'\n'"cut frame at 116" "$linkjson" --keep-going mixed-cut \
+    < <(echo "$json"; echo "$invalid"; echo "${json/lo/l1}")
+expect "JSON of a file of lines with offsets" 0 "" "$linkjson" mixed.lines < <(at 0; at 48 "$invalid"; at 68 "${json/lo/l1}")
+succeeds "JSON of invalid messages in later pieces" bash -c '{ cat a; sleep 1; cat mixed; sleep 1; cat mixed; } | "$0" --keep-going --offsets 2> report > made
+    [ ${PIPESTATUS[1]} -eq 2 ] && [ "$(cat report)" = "refused body at 96: a header of 4 bytes at 112" ] &&
+    [ "$(grep -o "\"offset\": [0-9]*" made | cut -d " " -f 2 | paste -sd " ")" = "0 48 96 116 164 212 232" ]' "$linkjson"
 { head -n 2 "$work/a.lines"; echo "   IFLA_IFNAME"; } > "$work/odd.lines"
 expect "JSON of other lines" 2 "linkjson: no line of linkshow:    IFLA_IFNAME" "$linkjson" odd.lines < /dev/null
 succeeds "JSON of standard input" bash -c '[ "$("$0" < a)" = "$1" ] && [ "$("$0" - < a.lines)" = "$1" ]' "$linkjson" "$json"
@@ -270,7 +315,6 @@ expect "a pcap file of other packets" 1 "linkrec: no route message in the file: 
 expect "an empty pcap file" 1 "linkrec: no pcap or pcapng file" "$linkrec" pcap none < /dev/null
 expect "no pcap file" 1 "linkrec: no pcap or pcapng file" "$linkrec" pcap a < /dev/null
 expect "a missing file" 1 "linkrec: missing: No such file or directory" "$linkrec" pcap missing < /dev/null
-cat "$work/a" "$work/b" "$work/a" > "$work/three"
 expect "cut by offset" 0 "" "$linkrec" cut --at 48 three < <(cat "$work/a" "$work/a")
 expect "cut by type" 0 "" "$linkrec" cut --type getlink three < /dev/null
 expect "cut at no message" 1 "linkrec: no message starts at 4" "$linkrec" cut --at 4 a < "$work/a"
@@ -446,7 +490,8 @@ else
     fi
     succeeds "a dump" bash -c '"$0" dump > dumped && "$LINKSHOW" dumped | grep -q "^NLMSG_DONE"' "$linkrec"
     succeeds "a dump from a port" bash -c '"$0" dump --port 7777 > dumped && "$LINKSHOW" dumped | grep -q "^RTM_NEWLINK.* port 7777$"' "$linkrec"
-    succeeds "all tables" bash -c '"$0" dump --all > dumped && "$LINKSHOW" dumped | grep -q "^RTM_NEWADDR"' "$linkrec"
+    succeeds "all tables" bash -c '"$0" dump --all > dumped && "$LINKSHOW" dumped > shown &&
+        grep -q "^RTM_NEWADDR" shown && grep -q "^RTM_NEWNETCONF" shown' "$linkrec"
     succeeds "a dump to a closed pipe" bash -c '"$0" dump | { exec 0<&-; sleep 1; }; [ ${PIPESTATUS[0]} -eq 141 ]' "$linkrec"
     succeeds "a watch ends" "$linkrec" watch 0.1
     succeeds "a watch" unshare --map-root-user --net bash -c '"$0" watch 2 --all --time > seen 2> times & sleep 1; ip link set lo up; wait
@@ -455,7 +500,10 @@ else
     succeeds "Ctrl-C ends a command" bash -c 'timeout --preserve-status -s INT 5 env --default-signal=INT "$0" run --netns -o made -- sh -c "ip link show dev lo; sleep 60" 2> report
         [ $? -eq 130 ] && "$LINKSHOW" made | grep -q "IFLA_IFNAME \"lo\""' "$linkrec"
     succeeds "Ctrl-C ends a comparison" bash -c 'timeout --preserve-status -s INT 5 env --default-signal=INT "$0" golden/lo.lines -- sleep 60 2> report; [ $? -eq 130 ] && ! grep Traceback report' "$linkgold"
-    succeeds "Ctrl-C ends a watch" bash -c 'timeout --preserve-status -s INT 5 env --default-signal=INT "$0" watch > seen 2> report; [ $? -eq 0 ] && [ ! -s report ]' "$linkrec"
+    # The watch has begun when it has a socket.
+    succeeds "Ctrl-C ends a watch" bash -c 'env --default-signal=INT "$0" watch > seen 2> report & watch=$!
+        for _ in {1..300}; do ls -l "/proc/$watch/fd" | grep -q socket: && break; sleep 0.1; done; sleep 1
+        kill -INT "$watch"; wait "$watch"; status=$?; cat report; [ "$status" -eq 0 ] && [ ! -s report ]' "$linkrec"
 fi
 
 echo "$passed passed, $failed failed, $skipped skipped"

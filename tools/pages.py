@@ -45,7 +45,8 @@ from pathlib import Path
 
 TOP = Path(__file__).resolve().parent.parent
 PAGES = ["README.md", "CHANGELOG.md", "CONTRIBUTING.md", "docs/*.md", "samples/*.md", "bench/**/*.md", "bindings/**/*.md", "tools/**/*.md"]
-MOST_WORDS = {"README.md": 1000, "docs/*.md": 22000}
+MOST_WORDS = {"README.md": 1000, "docs/*.md": 20300}
+GENERATED = {"docs/rows.md"}  # not counted, since nobody reads it from start to end
 SECONDS = 120
 MARK = re.compile(r"\s*<!--\s*(.*?)\s*-->\s*")
 MARKS = re.compile(r"wants .+|status \d+|given .+|output|file: \S+|run by \S+|written by \S+|sketch")
@@ -135,7 +136,7 @@ class Page:
 
 def check_words(pages):
     for pattern, most in MOST_WORDS.items():
-        count = sum(page.words() for page in pages if page.name in names_of(pattern))
+        count = sum(page.words() for page in pages if page.name in names_of(pattern) - GENERATED)
         if count > most:
             yield "%s: %d words, at most %d" % (pattern, count, most)
 

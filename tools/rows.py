@@ -2,13 +2,13 @@
 """Writes docs/rows.md, the rows of all tables, from the lists that the interpreter and linkshow are made of.
 
     tools/rows.py            writes the page
-    tools/rows.py --raw      prints the raw attributes that have names, from the independent implementation's tables
     tools/rows.py --check    ends with status 1 if the page differs from the lists, or if a comment of the grammar
                              names another attribute than the list
 
 The lists are in src/message_lists.rt and src/info_lists.rt of link_tables. Their order is that of src/table_rows.rt, and the
 names of kinds are in src/kinds.rt there. A row's variant is the variant of its type's enum whose docstring begins with the
-row's name, or to which `field` gives the row's constant. It needs only Python.
+row's name, or to which `field` gives the row's constant. Raw attributes and bodies are those of the independent implementation,
+tools/oracle/raw.tsv, which the vectors compare with linkshow's. It needs only Python.
 """
 import glob
 import os
@@ -284,24 +284,65 @@ def page():
     return "\n".join(out)
 
 
-def raw_rows():
-    """A line for each row of raw attributes, below a line for each table, by the independent implementation's tables."""
-    table = None
+RAW_HEAD = """What `linkshow` shows of attributes that normalising keeps as they are, by the table of their list, and in the bodies of messages of other types than links. Rows have the kind, the name and the [format](../tools/oracle/lines.md#raw-attributes); `*` is any other kind, and `[]` a name that is the kind.
+"""
+
+
+def raw_tables():
+    """The rows of tools/oracle/raw.tsv by their first column: bodies, places of lists, and raw attributes."""
+    rows = {"body": [], "list": [], "raw": []}
     for line in open(os.path.join(TOP, "tools", "oracle", "raw.tsv"), encoding="utf-8"):
-        row_type, *columns = line.rstrip("\n").split("\t")
-        if row_type != "raw":
-            continue
-        if columns[0] != table:
-            table = columns[0]
-            yield f"- `{table}`"
-        yield f"  - {columns[1]} {columns[2]}: {columns[3]}"
+        first, *columns = line.rstrip("\n").split("\t")
+        if first in rows:
+            rows[first].append(columns)
+    return rows
+
+
+def common_prefix(names):
+    """The longest prefix that ends with an underscore and that all of several names have."""
+    prefix = os.path.commonprefix(names)
+    return prefix[: prefix.rfind("_") + 1] if len(names) > 1 else ""
+
+
+def raw_lines(table, rows):
+    """The lines of a table of raw attributes: its name and the prefix of all names, then a line for all rows of one format."""
+    prefix = common_prefix([name for _, name, _ in rows])
+    groups = {}
+    for kind, name, style in rows:
+        groups.setdefault(style, []).append(f"{kind} {name[len(prefix):]}")
+    yield f"- `{table}`" + (f", {prefix}" if prefix else "")
+    for style, names in groups.items():
+        yield f"  - {', '.join(names)}: `{style}`"
+
+
+def body_lines(rows):
+    """A line for the types of messages whose bodies have one header and one table."""
+    for types, request, first_byte, header, table in rows:
+        limits = {"0": ", not in requests", "1": ", in requests"}.get(request, "")
+        limits += "" if first_byte == "*" else f", first byte {first_byte}"
+        yield f"- {types}{limits}: `{header}`" + ("" if table == "-" else f", `{table}`")
+
+
+def raw_section():
+    rows = raw_tables()
+    tables = {}
+    for table, *row in rows["raw"]:
+        tables.setdefault(table, []).append(row)
+    yield "## Raw attributes\n"
+    yield RAW_HEAD
+    for table, table_rows in tables.items():
+        yield from raw_lines(table, table_rows)
+    yield "\n### Lists of raw attributes in links\n"
+    yield "`data` is IFLA_INFO_DATA under a kind in force, `port` IFLA_INFO_SLAVE_DATA under a port kind, `family` an attribute of links of an address family.\n"
+    yield from (f"- {place}: `{table}`" for place, table in rows["list"])
+    yield "\n### Bodies of other messages\n"
+    yield "Types of messages (rtnetlink.h), the record at the start of the body (`peer`: as a link's), and the table of the list after it.\n"
+    yield from body_lines(rows["body"])
+    yield ""
 
 
 def main():
-    if sys.argv[1:] == ["--raw"]:
-        print("\n".join(raw_rows()))
-        return
-    text = page()
+    text = "\n".join([page(), *raw_section()])
     if sys.argv[1:] == ["--check"]:
         faults = [*differences("message_lists.rt", "link_message_grammar"), *differences("info_lists.rt", "link_info_grammar")]
         if open(PAGE, encoding="utf-8").read() != text:

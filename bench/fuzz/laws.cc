@@ -225,6 +225,24 @@ static void check_pieces(const Bytes &capture, uint32_t limit, const LineChoice 
     LAW(text.status == LINKCAP_OK || piece.fault.kind == text.fault.kind);
 }
 
+// Without options the selected lines are all; if messages after the first fault are shown too, all are a prefix.
+static void check_selections(const Bytes &capture, uint32_t limit, const Result &listing)
+{
+    Result selection = selected_lines(capture, limit, 0, "");
+    LAW(selection.status == listing.status && selection.written == listing.written);
+    LAW(listing.status == LINKCAP_OK || is_same_fault(selection.fault, listing.fault));
+    Result more = selected_lines(capture, limit, LINKCAP_KEEP_GOING, "");
+    LAW(more.status == listing.status && more.written.size() >= listing.written.size());
+    LAW(std::equal(listing.written.begin(), listing.written.end(), more.written.begin()));
+    LAW(listing.status == LINKCAP_OK || is_same_fault(more.fault, listing.fault));
+    LAW(is_text(more.written, true));
+    Result unnumbered = selected_lines(capture, limit, LINKCAP_WITHOUT_NUMBERS, "");
+    LAW(unnumbered.written == lines(capture, limit, {true, {}}).written);
+    LAW(unnumbered.written == selected_lines(capture, limit, 0, "NUMBERS").written);
+    Result rest = selected_lines(capture, limit, LINKCAP_OFFSETS, "counters,indexes,IFLA_MTU");
+    LAW(rest.status == listing.status && is_text(rest.written, true));
+}
+
 static void check_one(const Bytes &capture, uint32_t limit, std::minstd_rand &random)
 {
     Result text = normalize(capture, limit), listing = lines(capture, limit, {}), verdict = check(capture, limit);
@@ -244,6 +262,7 @@ static void check_one(const Bytes &capture, uint32_t limit, std::minstd_rand &ra
     }
     check_messages(capture, limit, text);
     check_quirks(capture, limit, text);
+    check_selections(capture, limit, listing);
     check_pieces(capture, limit, nullptr, text, random);
     LineChoice choice = {random() % 2 == 0, random() % 2 ? std::vector<uint16_t>{} : std::vector<uint16_t>{16, 3}};
     check_pieces(capture, limit, &choice, lines(capture, limit, choice), random);

@@ -118,6 +118,15 @@ Result lines(const Bytes &capture, uint32_t limit, const LineChoice &choice)
     });
 }
 
+Result selected_lines(const Bytes &capture, uint32_t limit, uint32_t flags, const char *names)
+{
+    const uint8_t *at = first_input.store(capture), *without = reinterpret_cast<const uint8_t *>(names);
+    return write(9 * capture.size() + 64, [&](uint8_t *out, size_t capacity, uint64_t *written, linkcap_fault *fault) {
+        return linkcap_show_selected(at, capture.size(), limit, flags, nullptr, 0, nullptr, 0, without, strlen(names), out, capacity,
+                                     written, fault);
+    });
+}
+
 Reason why(const Bytes &capture, uint32_t limit)
 {
     Reason reason = {};

@@ -77,6 +77,8 @@ Result normalize(const Bytes &capture, uint32_t limit);
 // Calls linkcap_normalize with a buffer of `capacity` bytes, which is too small and has to stay unchanged.
 uint64_t get_required_capacity(const Bytes &capture, uint32_t limit, size_t capacity);
 Result lines(const Bytes &capture, uint32_t limit, const LineChoice &choice);
+// Calls linkcap_show_selected with the flags and, as `without`, these names.
+Result selected_lines(const Bytes &capture, uint32_t limit, uint32_t flags, const char *names);
 Reason why(const Bytes &capture, uint32_t limit);
 Piece normalize_some(const Bytes &piece, bool is_last, uint32_t limit, size_t capacity);
 Piece show_some(const Bytes &piece, bool is_last, uint32_t limit, const LineChoice &choice, size_t capacity);

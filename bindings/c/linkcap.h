@@ -8,10 +8,10 @@
  *
  * What holds of every function:
  *
- * - Pointers. Each points to what its type says. Captures, pieces, `types`, `quirks` and buffers may be null if their
- *   length is 0; no other pointer may be null. A capture is `length` bytes that nobody writes to during the call; a buffer
- *   `out` is `room` bytes that may be written, and hold any values. What is written overlaps nothing that is read or
- *   written by the same call. Lengths are under 2^63. Nothing is kept of a pointer after the call.
+ * - Pointers. Each points to what its type says. Captures, pieces, `types`, texts, `quirks` and buffers may be null if
+ *   their length is 0; no other pointer may be null. A capture is `length` bytes that nobody writes to during the call; a
+ *   buffer `out` is `room` bytes that may be written, and hold any values. What is written overlaps nothing that is read
+ *   or written by the same call. Lengths are under 2^63. Nothing is kept of a pointer after the call.
  * - Memory. linkcap_normalize, linkcap_show, those that begin with these names, and linkcap_why call malloc, realloc and
  *   free, and have freed all blocks when they return. The others allocate nothing. If malloc or realloc returns null, a
  *   function returns LINKCAP_NO_MEMORY, or a result that needed no memory; none ends the process. The three come from one
@@ -53,10 +53,17 @@ enum linkcap_status {
     LINKCAP_OK = 0,        /* the capture is legal; two are legal and mean the same */
     LINKCAP_DIFFERENT = 1, /* both captures are legal and don't mean the same */
     LINKCAP_FAULT = 2,     /* a fault, which *fault has */
-    LINKCAP_WRONG = 3,     /* a limit under 16, or a fault or quirk that is none; nothing was written */
+    LINKCAP_WRONG = 3,     /* a limit under 16, a fault or quirk that is none, or an unknown word; nothing was written */
     LINKCAP_NO_ROOM = 4,   /* the buffer is too small for what is to be written */
     LINKCAP_NO_MEMORY = 5, /* out of memory; *fault has the offset */
-    LINKCAP_NONE = 6       /* there is no further message, or no refused body */
+    LINKCAP_NONE = 6       /* there is no further message, no refused body, or no unknown word */
+};
+
+/* Flags of linkcap_show_selected: the options of the program linkshow that have no value. */
+enum linkcap_show_flag {
+    LINKCAP_WITHOUT_NUMBERS = 1, /* without sequence and port numbers */
+    LINKCAP_OFFSETS = 2,         /* each message's first line ends with its offset in the capture, in bytes */
+    LINKCAP_KEEP_GOING = 4       /* a message with a fault in its body is shown too, in hex, and those after it */
 };
 
 /* Kinds of faults. Captures in memory have the first eight; the last four are those of the program. */
@@ -220,6 +227,42 @@ uint32_t linkcap_show(const uint8_t *capture, size_t length, uint32_t limit, uin
 uint32_t linkcap_show_with(const uint8_t *capture, size_t length, uint32_t limit, bool without_numbers,
                            const uint16_t *types, size_t types_length, uint8_t *out, size_t room, uint64_t *written,
                            struct linkcap_fault *fault);
+
+/*
+ * As linkcap_show, with the options of the program linkshow: `flags` of enum linkcap_show_flag, joined by `|`, and texts as
+ * on the command line, without a null byte at the end. A text of length 0 stands for no option.
+ *
+ * only       types of messages, with commas between them: numbers, or names as `newlink` or `RTM_NEWLINK`. At most 32.
+ * link       the name, alternative name or index of the link that messages have to be about.
+ * without    attributes that are left out with what they nest, by the kernel's names, with commas between them: at most
+ *            32; and the groups `numbers`, `counters` and `indexes`.
+ *
+ * The case of ASCII letters counts only in `link`. The results are those of linkcap_show, except that
+ *
+ * LINKCAP_FAULT        may, with LINKCAP_KEEP_GOING, come with the lines of messages after the first fault: all up to a
+ *                      fault that isn't one of a body.
+ * LINKCAP_WRONG        is also returned for a flag that is none, a list that is too long, and a word that isn't known,
+ *                      which linkcap_unknown_word writes. Nothing is written.
+ * LINKCAP_NO_MEMORY    has the offset of the message for whose lines there was no memory.
+ *
+ * Memory is allocated for the lines, and for the text and the lines of one message at a time.
+ */
+uint32_t linkcap_show_selected(const uint8_t *capture, size_t length, uint32_t limit, uint32_t flags, const uint8_t *only,
+                               size_t only_length, const uint8_t *link, size_t link_length, const uint8_t *without,
+                               size_t without_length, uint8_t *out, size_t room, uint64_t *written,
+                               struct linkcap_fault *fault);
+
+/*
+ * Writes the word for which linkcap_show_selected returns LINKCAP_WRONG, given the same lists, to the start of out, and its
+ * length to *written: the first that isn't known of `only`, or else of `without`. It allocates nothing.
+ *
+ * LINKCAP_OK           the word is written, without a null byte after it.
+ * LINKCAP_WRONG        a list isn't UTF-8, or is too long. Nothing is written.
+ * LINKCAP_NO_ROOM      out is too small for the word: *written has its length, and nothing else is written.
+ * LINKCAP_NONE         all words are known: *written is 0.
+ */
+uint32_t linkcap_unknown_word(const uint8_t *only, size_t only_length, const uint8_t *without, size_t without_length,
+                              uint8_t *out, size_t room, uint64_t *written);
 
 /*
  * Writes the lines of the messages that are whole in one piece of a capture, as linkcap_show_with chooses them, and as

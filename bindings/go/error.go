@@ -75,9 +75,30 @@ func (e *Error) words() string {
 var (
 	// ErrLimit is returned for a limit under 16.
 	ErrLimit = errors.New("linkcap: limit under 16")
+	// ErrTooMany is returned for a selection of more than 32 types, or without more than 32 attributes.
+	ErrTooMany = errors.New("linkcap: more than 32 types or attributes")
 	// ErrMemory is returned if the library ran out of memory, or the result doesn't fit in memory.
 	ErrMemory = errors.New("linkcap: out of memory")
 )
+
+// An UnknownNameError is returned for a selection without a name that no attribute and no group has: this one.
+type UnknownNameError string
+
+// Error returns the words of the error.
+func (e UnknownNameError) Error() string {
+	return fmt.Sprintf("linkcap: no attribute or group is called %q", string(e))
+}
+
+// listError returns the error for lists that the library doesn't read.
+func listError(without []byte) error {
+	name := make([]byte, len(without))
+	var written C.uint64_t
+	status := C.linkcap_unknown_word(nil, 0, address(without), C.size_t(len(without)), address(name), C.size_t(len(name)), &written)
+	if status != C.LINKCAP_OK {
+		return ErrTooMany
+	}
+	return UnknownNameError(name[:written])
+}
 
 // failure returns the error for a status that isn't a success. The fault is that of the given capture.
 func failure(status C.uint32_t, fault C.struct_linkcap_fault, capture, written []byte, limit Limit) error {

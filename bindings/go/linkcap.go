@@ -8,6 +8,7 @@ import "C"
 import (
 	"fmt"
 	"math"
+	"strconv"
 	"strings"
 	"unsafe"
 )
@@ -49,6 +50,46 @@ func (o *LineOptions) types() *C.uint16_t {
 		return nil
 	}
 	return (*C.uint16_t)(unsafe.Pointer(&o.Only[0]))
+}
+
+// A Selection selects lines of a capture, as the options of the program linkshow do. The zero value selects all up to the
+// first fault.
+type Selection struct {
+	// Of LineOptions, Only has at most 32 types.
+	LineOptions
+	// Link is the name, alternative name or index of the link that messages have to be about; about any if it is empty.
+	Link string
+	// Without has attributes that are left out, by the kernel's names with commas between them, at most 32; and the groups
+	// numbers, counters and indexes. The case of ASCII letters doesn't count.
+	Without string
+	// Offsets ends each message's first line with its offset in the capture, in bytes.
+	Offsets bool
+	// KeepGoing also shows messages with a fault of their body, and those after them.
+	KeepGoing bool
+}
+
+// flags returns the flags for the library.
+func (s *Selection) flags() C.uint32_t {
+	var flags C.uint32_t
+	if s.WithoutNumbers {
+		flags |= C.LINKCAP_WITHOUT_NUMBERS
+	}
+	if s.Offsets {
+		flags |= C.LINKCAP_OFFSETS
+	}
+	if s.KeepGoing {
+		flags |= C.LINKCAP_KEEP_GOING
+	}
+	return flags
+}
+
+// typeList returns the list of types for the library.
+func (s *Selection) typeList() []byte {
+	words := make([]string, len(s.Only))
+	for i, number := range s.Only {
+		words[i] = strconv.Itoa(int(number))
+	}
+	return []byte(strings.Join(words, ","))
 }
 
 // A Refusal says which attribute made a body invalid, why, and at which offset.
@@ -211,6 +252,26 @@ func (l Limit) Lines(capture []byte, options LineOptions) (string, error) {
 	return string(lines), nil
 }
 
+// SelectedLines returns a legal capture's lines that a selection has. Else it returns the first fault, whose Written has
+// the lines before it, or with KeepGoing all lines up to a fault of a header. A selection that isn't valid has an
+// [UnknownNameError], or [ErrTooMany].
+func (l Limit) SelectedLines(capture []byte, selection Selection) (string, error) {
+	types, link, without := selection.typeList(), []byte(selection.Link), []byte(selection.Without)
+	lines, err := l.appendWritten(nil, capture, 4*len(capture)+256,
+		func(out *C.uint8_t, capacity C.size_t, written *C.uint64_t, fault *C.struct_linkcap_fault) C.uint32_t {
+			return C.linkcap_show_selected(address(capture), C.size_t(len(capture)), C.uint32_t(l), selection.flags(),
+				address(types), C.size_t(len(types)), address(link), C.size_t(len(link)), address(without),
+				C.size_t(len(without)), out, capacity, written, fault)
+		})
+	if err == ErrLimit && l >= C.LINKCAP_MIN_LIMIT {
+		return "", listError(without)
+	}
+	if err != nil {
+		return "", err
+	}
+	return string(lines), nil
+}
+
 // Why returns the refusal of a capture's first fault if this is of the kind [Refused]; else nil.
 func (l Limit) Why(capture []byte) (*Refusal, error) {
 	words := make([]byte, 512)
@@ -258,6 +319,11 @@ func Normalize(capture []byte) ([]byte, error) { return DefaultLimit.Normalize(c
 // Lines is DefaultLimit.Lines.
 func Lines(capture []byte, options LineOptions) (string, error) {
 	return DefaultLimit.Lines(capture, options)
+}
+
+// SelectedLines is DefaultLimit.SelectedLines.
+func SelectedLines(capture []byte, selection Selection) (string, error) {
+	return DefaultLimit.SelectedLines(capture, selection)
 }
 
 // Why is DefaultLimit.Why.

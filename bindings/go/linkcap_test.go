@@ -8,6 +8,7 @@ import (
 	"math/rand"
 	"os"
 	"path/filepath"
+	"strings"
 	"sync"
 	"testing"
 	"testing/iotest"
@@ -98,6 +99,46 @@ func TestFaults(t *testing.T) {
 		if got, want := (&linkcap.Error{Kind: kind, Offset: 7}).Error(), kind.Error()+" at 7"; got != want {
 			t.Errorf("%q, want %q", got, want)
 		}
+	}
+}
+
+// TestSelectedLines compares lines with those of the independent implementation.
+func TestSelectedLines(t *testing.T) {
+	request := []byte("\x28\x00\x00\x00\x12\x00\x01\x00\x01\x00\x00\x00" + strings.Repeat("\x00", 20) + "\x07\x00\x03\x00lo\x00\x00")
+	both := append(append([]byte(nil), refusedRequest...), request...)
+	for want, selection := range map[string]linkcap.Selection{
+		`RTM_NEWLINK flags 0x0 offset 0
+  refused: IFLA_MTU: a payload of 3 bytes
+  body 000000000000000000000000000000000700040001020300
+RTM_GETLINK flags 0x1 (REQUEST) offset 40
+  ifinfomsg family 0 (AF_UNSPEC) type 0 (netrom) index 0 flags 0x0 change 0x0
+  IFLA_IFNAME "lo"
+`: {LineOptions: linkcap.LineOptions{WithoutNumbers: true}, Offsets: true, KeepGoing: true},
+		`RTM_GETLINK flags 0x1 (REQUEST) seq 1 port 0
+  ifinfomsg family 0 (AF_UNSPEC) type 0 (netrom) flags 0x0 change 0x0
+  IFLA_IFNAME "lo"
+`: {LineOptions: linkcap.LineOptions{Only: []uint16{18, 77}}, Link: "lo", Without: "indexes", KeepGoing: true},
+		"": {Offsets: true},
+	} {
+		lines, err := linkcap.SelectedLines(both, selection)
+		fault := requireFault(t, err)
+		if lines != "" || string(fault.Written) != want || fault.Kind != linkcap.Refused || fault.Offset != 0 {
+			t.Errorf("%+v: %q, %v, %s", selection, lines, fault, fault.Written)
+		}
+	}
+	if lines, err := linkcap.SelectedLines(request, linkcap.Selection{Link: "1"}); lines != "" || err != nil {
+		t.Error(lines, err)
+	}
+	_, err := linkcap.SelectedLines(request, linkcap.Selection{Without: "counters,mtu"})
+	if name := linkcap.UnknownNameError(""); !errors.As(err, &name) || name != "mtu" {
+		t.Error(err)
+	}
+	many := linkcap.LineOptions{Only: make([]uint16, 33)}
+	if _, err := linkcap.SelectedLines(request, linkcap.Selection{LineOptions: many}); err != linkcap.ErrTooMany {
+		t.Error(err)
+	}
+	if _, err := linkcap.Limit(15).SelectedLines(request, linkcap.Selection{}); err != linkcap.ErrLimit {
+		t.Error(err)
 	}
 }
 

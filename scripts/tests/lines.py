@@ -1,11 +1,12 @@
 #!/usr/bin/env python3
-"""Compares the results of lines_json and lines_filter on stored lines with those of an independent implementation.
+"""Compares the results of lines_json and lines_filter with those of an independent implementation.
 
     scripts/tests/lines.py
 
-json.tsv has digests of the JSON of all samples' lines and of all stored results of `show`; it skips lines that are newer
-than json.tsv. filters.tsv has digests of lines that lines_filter filtered. format3.lines has lines of format version 3, also
-of options that linkshow doesn't have, and format3.json their JSON. The status is 0 if all agree.
+The JSON of lines has to be that of tools/oracle, which has to make the lines of it again: of all samples, of all stored
+results of `show`, and of the captures of the stored cases `refusal`, with refused bodies and offsets. filters.tsv has
+digests of lines that lines_filter filtered. format3.lines has lines of format version 3, and format3.json their JSON.
+The status is 0 if all agree.
 """
 import hashlib
 import json
@@ -15,6 +16,7 @@ from pathlib import Path
 TOP = Path(__file__).resolve().parents[2]
 sys.dont_write_bytecode = True
 sys.path += [str(TOP / "bindings/python/linkcap"), str(TOP / "tools/oracle")]
+import json_of_lines  # noqa: E402
 import lines_filter  # noqa: E402
 import lines_json  # noqa: E402
 import linkshow  # noqa: E402
@@ -35,19 +37,25 @@ def stored_lines():
         yield "".join(result.splitlines(True)[:-1])
 
 
+def lines_with_refusals():
+    """The lines of the captures of cases `refusal`, with the options --offsets and --keep-going."""
+    for case in vectors.cases("refusal"):
+        limit, capture = case.split(" ")
+        yield linkshow.lines(bytes.fromhex(capture), int(limit), offsets=True, keep_going=True)[0]
+
+
 def as_json(lines):
     return list(lines_json.to_json(lines.splitlines(True)))
 
 
 def json_faults():
-    """The lines whose JSON has another digest than the stored one."""
-    expected = dict(row.split("\t") for row in (HERE / "json.tsv").read_text().splitlines()[1:])
-    known = [lines for lines in stored_lines() if digest(lines) in expected]
-    different = [lines for lines in known if digest(json.dumps(as_json(lines), sort_keys=True)) != expected[digest(lines)]]
-    if {digest(lines) for lines in known} != set(expected):
-        yield "json.tsv has lines that aren't stored any more"
-    for lines in different:
-        yield "the JSON of: " + lines[:200]
+    """The lines whose JSON differs, or from whose JSON other lines are made."""
+    for lines in [*stored_lines(), *lines_with_refusals()]:
+        made = as_json(lines)
+        if json.dumps(made, sort_keys=True) != json.dumps(json_of_lines.json_of_lines(lines), sort_keys=True):
+            yield "the JSON of: " + lines[:200]
+        if json_of_lines.lines_of_json(json.loads(json.dumps(made))) != lines:
+            yield "the lines of the JSON of: " + lines[:200]
 
 
 def format3_faults():
@@ -66,31 +74,8 @@ def filter_faults():
             yield f"the lines of {name} with --{option} {argument}"
 
 
-def value_formats():
-    """Each attribute's name with the format of its value, by the tables of the independent implementation."""
-    for name, style in [*linkshow.ROWS.values(), *linkshow.RAW_ROWS.values()]:
-        if name != "[]":
-            yield name, style.split()[0]
-
-
-def names_with(*formats):
-    return {name for name, style in value_formats() if style in formats}
-
-
-def name_faults():
-    names = {name for name, _ in value_formats()}
-    if names != lines_filter.NAMES:
-        yield "NAMES of lines_filter: %s" % sorted(names ^ lines_filter.NAMES)
-    if not lines_filter.COUNTERS | lines_filter.INDEXES <= names:
-        yield "COUNTERS or INDEXES of lines_filter"
-    if names_with("bytes", "hardware_address", "bridge_id") != lines_json.BYTES:
-        yield "BYTES of lines_json"
-    if names_with("numbers") != lines_json.NUMBER_LISTS:
-        yield "NUMBER_LISTS of lines_json"
-
-
 def main():
-    faults = [*json_faults(), *format3_faults(), *filter_faults(), *name_faults()]
+    faults = [*json_faults(), *format3_faults(), *filter_faults()]
     for fault in faults:
         print(f"lines: differs: {fault}")
     return 1 if faults else 0

@@ -27,7 +27,7 @@ from values import exact_value, number, quote, record, record_size, value      #
 
 RAW_DATA = read_data("raw.tsv")
 ANY = "*"
-PEER = "peer"       # in the column of records, a body that is shown as a peer
+PEER = "peer"       # in the column of records or formats, bytes that are shown as a peer
 
 
 def matching(column):
@@ -106,6 +106,11 @@ def raw_lines(depth, table, kind, p, attributes=()):
     return payload_lines(depth, name + (" nested" if kind & NESTED else ""), style, p, attributes)
 
 
+def bytes_text(p):
+    """The word `bytes`, and the bytes if there are any."""
+    return ("bytes " + p.hex()).rstrip()
+
+
 def payload_lines(depth, name, style, p, attributes=()):
     """The lines of a payload by its format, or else `bytes` and the bytes."""
     style_name, *parameters = style.split(" ")
@@ -116,7 +121,7 @@ def payload_lines(depth, name, style, p, attributes=()):
         text = None
     else:
         text = exact_value(style, p)
-    return [line(depth, name, ("bytes " + p.hex()).rstrip() if text is None else text)]
+    return [line(depth, name, bytes_text(p) if text is None else text)]
 
 
 def list_block(depth, p, _, table):
@@ -184,19 +189,19 @@ def body_row(kind, flags, body):
     return None
 
 
-def peer_lines(b, is_request):
-    """The lines of a body that is the canonical text of a peer, or None.  Peers inside it are bytes."""
+def peer_lines(depth, b, is_request):
+    """The lines of bytes that are the canonical text of a peer, or None.  Peers inside it are shown by the same rule."""
     body = o.read_link_body(o.rules_for().inside_peer, b)
     if body is None or o.has_empty_ports(body) or not o.fits(body.entries) or o.body_text(body) != b:
         return None
-    return body_lines(1, body, is_request)
+    return body_lines(depth, body, is_request)
 
 
 def lines_of_row(row, kind, flags, body):
     """The lines of a body by its row, or None if they don't show every byte of it."""
     record_name, table = row
     if record_name == PEER:
-        return peer_lines(body, bool(flags & 1))
+        return peer_lines(1, body, bool(flags & 1))
     if kind % 4 == 2 and len(body) == 4 < record_size(record_name):
         record_name, table = "rtgenmsg", "-"    # the shortest request of all objects
     return record_and_list(1, record_name, table, body)
@@ -237,7 +242,11 @@ def bytes_lines(depth, table, context, e):
     if (table, kind) == ("link_info", 3):
         table = LISTS.get(place_of_list(table, context, e))
     style = "hardware_address" if style == "hardware_address" else "bytes"
-    return payload_lines(depth, name, RAW_ROWS.get((table, kind), (name, style))[1], e.payload)
+    style = RAW_ROWS.get((table, kind), (name, style))[1]
+    if style == PEER:
+        below = peer_lines(depth + 1, e.payload, context.is_request)
+        return [line(depth, name, bytes_text(e.payload))] if below is None else [line(depth, name), *below]
+    return payload_lines(depth, name, style, e.payload)
 
 
 def entry_lines(depth, table, e, context):

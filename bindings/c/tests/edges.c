@@ -1,6 +1,6 @@
 /*
  * Tests edge cases of the calls: an empty capture, null, a limit under 16, a buffer one byte too short, a capture cut at each
- * byte, a failure of each allocation, eight threads at once.
+ * byte, words that aren't known, a failure of each allocation, eight threads at once.
  *
  *     edges CAPTURE ..
  *
@@ -135,6 +135,9 @@ static void test_null(struct bytes capture)
     assert(linkcap_show(NULL, 0, limit, NULL, 0, &length, &fault) == LINKCAP_OK && length == 0);
     length = 7;
     assert(linkcap_show_with(NULL, 0, limit, true, NULL, 0, NULL, 0, &length, &fault) == LINKCAP_OK && length == 0);
+    length = 7;
+    assert(linkcap_show_selected(NULL, 0, limit, 0, NULL, 0, NULL, 0, NULL, 0, NULL, 0, &length, &fault) == LINKCAP_OK);
+    assert(length == 0);
     assert(linkcap_why(NULL, 0, limit, NULL, 0, &length, &offset) == LINKCAP_NONE && length == 0 && offset == UINT64_MAX);
     length = 7;
     assert(linkcap_quirks(NULL, 0, limit, NULL, 0, &length, &fault) == LINKCAP_OK && length == 0);
@@ -158,6 +161,9 @@ static void test_null(struct bytes capture)
     assert(linkcap_show(capture.at, capture.length, limit, NULL, 0, &length, &fault) == LINKCAP_NO_ROOM && length > 0);
     uint64_t lines = length;
     assert(linkcap_show_with(capture.at, capture.length, limit, false, NULL, 0, NULL, 0, &length, &fault) == LINKCAP_NO_ROOM);
+    assert(length == lines);
+    assert(linkcap_show_selected(capture.at, capture.length, limit, 0, NULL, 0, NULL, 0, NULL, 0, NULL, 0, &length, &fault)
+           == LINKCAP_NO_ROOM);
     assert(length == lines);
     assert(linkcap_normalize_some(capture.at, capture.length, true, limit, NULL, 0, &progress, &fault) == LINKCAP_NO_ROOM);
     assert(progress.used == 0 && progress.written == 0 && progress.wanted > 0 && progress.wanted <= capture.length);
@@ -379,6 +385,108 @@ static void test_numbers(void)
     assert(linkcap_same_ignoring_numbers(error, 39, other, 39, limit, &fault) == LINKCAP_FAULT && fault.side == 1);
 }
 
+/* A text and its length, as arguments. */
+#define TEXT(text) (const uint8_t *)(text), strlen(text)
+
+/* A link whose IFLA_MTU has 3 bytes, and a request for `lo`. The lines are those of the independent implementation. */
+static uint8_t selected_messages[80] = {[0] = 40, [4] = 16,   [32] = 7, [34] = 4, [36] = 1, 2, 3, [40] = 40, [44] = 18,
+                                        [46] = 1, [48] = 1, [72] = 7, [74] = 3, [76] = 'l', 'o'};
+static const char all_lines[] = "RTM_NEWLINK flags 0x0 offset 0\n"
+                                "  refused: IFLA_MTU: a payload of 3 bytes\n"
+                                "  body 000000000000000000000000000000000700040001020300\n"
+                                "RTM_GETLINK flags 0x1 (REQUEST) offset 40\n"
+                                "  ifinfomsg family 0 (AF_UNSPEC) type 0 (netrom) index 0 flags 0x0 change 0x0\n"
+                                "  IFLA_IFNAME \"lo\"\n";
+static const char link_lines[] = "RTM_GETLINK flags 0x1 (REQUEST) seq 1 port 0\n"
+                                 "  ifinfomsg family 0 (AF_UNSPEC) type 0 (netrom) flags 0x0 change 0x0\n"
+                                 "  IFLA_IFNAME \"lo\"\n";
+
+/* linkcap_show_selected with the signature of a `writer`. */
+static uint32_t show_all(const uint8_t *capture, size_t length, uint32_t max_length, uint8_t *out, size_t capacity,
+                         uint64_t *written, struct linkcap_fault *fault)
+{
+    uint32_t flags = LINKCAP_WITHOUT_NUMBERS | LINKCAP_OFFSETS | LINKCAP_KEEP_GOING;
+    return linkcap_show_selected(capture, length, max_length, flags, NULL, 0, NULL, 0, NULL, 0, out, capacity, written, fault);
+}
+
+static uint32_t show_link(const uint8_t *capture, size_t length, uint32_t max_length, uint8_t *out, size_t capacity,
+                          uint64_t *written, struct linkcap_fault *fault)
+{
+    return linkcap_show_selected(capture, length, max_length, LINKCAP_KEEP_GOING, TEXT("getlink,77"), TEXT("lo"), TEXT("indexes"),
+                                 out, capacity, written, fault);
+}
+
+static void test_selected_lines(writer *call, const char *expected)
+{
+    uint8_t out[512];
+    uint64_t length = 7;
+    struct linkcap_fault fault = {0, 7, 7};
+    assert(call(selected_messages, sizeof selected_messages, limit, out, sizeof out, &length, &fault) == LINKCAP_FAULT);
+    assert(length == strlen(expected) && memcmp(out, expected, length) == 0);
+    assert(fault.kind == LINKCAP_REFUSED && fault.side == 0 && fault.offset == 0);
+}
+
+static long test_selection(void)
+{
+    struct bytes capture = {selected_messages, sizeof selected_messages};
+    long failures = 0;
+    test_selected_lines(show_all, all_lines);
+    test_selected_lines(show_link, link_lines);
+    test_capacities(show_all, capture, capture.length, LINKCAP_FAULT, 1);
+    test_capacities(show_link, capture, capture.length, LINKCAP_FAULT, 1);
+    failures += test_failing_allocations(show_all, capture, capture.length);
+    failures += test_failing_allocations(show_link, capture, capture.length);
+    return failures;
+}
+
+/* Arguments that select nothing: a limit under 16, a flag that is none, words that aren't known, lists that are too long. */
+static void test_wrong_selections(void)
+{
+    static const struct {
+        uint32_t limit, flags;
+        const char *only, *without;
+    } cases[] = {
+        {15, 0, "", ""},          {1 << 20, 8, "", ""},          {1 << 20, UINT32_MAX, "", ""}, {1 << 20, 0, "getlnk", ""},
+        {1 << 20, 0, "16,", ""},  {1 << 20, 0, "65536", ""},     {1 << 20, 0, "", "mtu"},       {1 << 20, 0, "", "numbers,,"},
+        {1 << 20, 0, "\xff", ""}, {1 << 20, 0, "16", "IFLA_X"},
+        {1 << 20, 0, "1,2,3,4,5,6,7,8,9,10,11,12,13,14,15,16,17,18,19,20,21,22,23,24,25,26,27,28,29,30,31,32,33", ""},
+    };
+    uint8_t out[4] = {UNTOUCHED, UNTOUCHED, UNTOUCHED, UNTOUCHED};
+    uint64_t length = 7;
+    struct linkcap_fault fault = {0, 7, 7};
+    for (size_t i = 0; i < sizeof cases / sizeof cases[0]; i++) {
+        assert(linkcap_show_selected(selected_messages, sizeof selected_messages, cases[i].limit, cases[i].flags,
+                                     TEXT(cases[i].only), NULL, 0, TEXT(cases[i].without), out, sizeof out, &length, &fault)
+               == LINKCAP_WRONG);
+        assert(length == 7 && fault.kind == 0 && fault.side == 7 && fault.offset == 7);
+    }
+    assert(is_untouched(out, out + sizeof out));
+}
+
+static void test_unknown_words(void)
+{
+    static const struct {
+        const char *only, *without, *word;
+    } cases[] = {
+        {"newlink,getlnk,x", "mtu", "getlnk"}, {"newlink", "IFLA_MTU,mtu", "mtu"}, {"", "counters,IFLA_\xc3\xa4", "IFLA_\xc3\xa4"},
+        {"16,", "", ""},
+    };
+    uint8_t out[16] = {UNTOUCHED, UNTOUCHED};
+    uint64_t length;
+    for (size_t i = 0; i < sizeof cases / sizeof cases[0]; i++) {
+        assert(linkcap_unknown_word(TEXT(cases[i].only), TEXT(cases[i].without), out, sizeof out, &length) == LINKCAP_OK);
+        assert(length == strlen(cases[i].word) && memcmp(out, cases[i].word, length) == 0);
+    }
+    out[0] = UNTOUCHED;
+    assert(linkcap_unknown_word(TEXT("getlnk"), NULL, 0, out, 5, &length) == LINKCAP_NO_ROOM && length == 6);
+    assert(linkcap_unknown_word(TEXT("RTM_NEWLINK,17"), TEXT("Numbers,ifla_mtu"), out, 1, &length) == LINKCAP_NONE && length == 0);
+    length = 7;
+    assert(linkcap_unknown_word(NULL, 0, NULL, 0, NULL, 0, &length) == LINKCAP_NONE && length == 0);
+    length = 7;
+    assert(linkcap_unknown_word(TEXT("getlnk\xff"), NULL, 0, out, sizeof out, &length) == LINKCAP_WRONG && length == 7);
+    assert(out[0] == UNTOUCHED);
+}
+
 /* Tests that these calls allocate nothing. */
 static void test_allocate_nothing(struct bytes capture)
 {
@@ -466,6 +574,9 @@ int main(int argc, char **argv)
     failures += test_why();
     test_quirks();
     test_numbers();
+    failures += test_selection();
+    test_wrong_selections();
+    test_unknown_words();
     for (int i = 1; i < argc; i++) {
         struct bytes capture = read_file(argv[i]);
         size_t last_cut = capture.length - 8;
@@ -483,6 +594,8 @@ int main(int argc, char **argv)
         failures += test_failing_allocations(linkcap_show, capture, last_cut);
         failures += test_failing_allocations(normalize_in_pieces, capture, capture.length);
         failures += test_failing_allocations(show_in_pieces, capture, capture.length);
+        failures += test_failing_allocations(show_all, capture, capture.length);
+        failures += test_failing_allocations(show_all, capture, last_cut);
         test_allocate_nothing(capture);
         test_threads(capture);
         __real_free(capture.at);

@@ -2,11 +2,11 @@
 import argparse
 import json
 import sys
-from typing import Any, BinaryIO, Iterator, List, NoReturn, Optional
+from typing import Any, BinaryIO, Dict, Iterator, List, NoReturn, Optional
 
 import linkcap
 
-from . import _native
+from . import _native, lines_json
 from ._types import type_numbers
 
 LEGAL, DIFFERENT, FAULT, USAGE = 0, 1, 2, 3
@@ -52,6 +52,11 @@ def _parser() -> argparse.ArgumentParser:
         lines = _add(commands, name, description)
         lines.add_argument("--without-numbers", action="store_true")
         lines.add_argument("--only", type=_types, metavar="TYPE,..", help="message types, as newlink or 16")
+        lines.add_argument("--link", metavar="NAME|INDEX", help="messages about this link")
+        lines.add_argument("--without", type=lambda names: names.split(","), default=(), metavar="NAME,..",
+                           help="no attributes of these names, or of the groups numbers, counters and indexes")
+        lines.add_argument("--offsets", action="store_true", help="each message's offset, in bytes")
+        lines.add_argument("--keep-going", action="store_true", help="messages with a fault in their body too")
     _add(commands, "messages", "write each message's offset, length and type")
     _add(commands, "quirks", "write what some kernels treat differently from its normal text")
     return parser
@@ -61,16 +66,42 @@ def _open(name: str) -> BinaryIO:
     return sys.stdin.buffer if name == "-" else open(name, "rb")
 
 
+def _options(args: Any) -> Dict[str, Any]:
+    """The options of `lines`."""
+    return {"numbers": not args.without_numbers, "only": args.only, "link": args.link, "without": args.without,
+            "offsets": args.offsets, "keep_going": args.keep_going}
+
+
+def _lines(args: Any, file: BinaryIO) -> Iterator[bytes]:
+    """The lines of one file, piece by piece if the options allow it."""
+    if args.link is None and not (args.without or args.offsets or args.keep_going):
+        reader = linkcap.LineReader(args.limit, numbers=not args.without_numbers, only=args.only)
+        yield from (lines.encode() for lines in reader.read_file(file))
+    else:
+        yield linkcap.lines(file.read(), args.limit, **_options(args)).encode()
+
+
+def _json(messages: List[Dict[str, Any]]) -> Iterator[bytes]:
+    """Each message as JSON, in a line."""
+    return (json.dumps(message).encode() + b"\n" for message in messages)
+
+
+def _written(args: Any, fault: linkcap.Fault) -> Iterator[bytes]:
+    """The output of a command before a fault, if it wasn't written yet."""
+    if args.command in ("norm", "lines"):
+        yield fault.written
+    elif args.command == "json":
+        yield from _json(list(lines_json.to_json(fault.written.decode("ascii").splitlines())))
+
+
 def _output(args: Any, file: BinaryIO) -> Iterator[bytes]:
     """The output of a command over one file, piece by piece."""
     if args.command == "norm":
         yield from linkcap.Reader(args.limit).read_file(file)
     elif args.command == "lines":
-        reader = linkcap.LineReader(args.limit, numbers=not args.without_numbers, only=args.only)
-        yield from (lines.encode() for lines in reader.read_file(file))
+        yield from _lines(args, file)
     elif args.command == "json":
-        for data in linkcap.to_json(file.read(), args.limit, numbers=not args.without_numbers, only=args.only):
-            yield json.dumps(data).encode() + b"\n"
+        yield from _json(linkcap.to_json(file.read(), args.limit, **_options(args)))
     elif args.command == "messages":
         for message in linkcap.messages(file.read(), args.limit):
             yield f"{message.offset} {message.length} {message.type}\n".encode()
@@ -96,8 +127,7 @@ def main(arguments: Optional[List[str]] = None) -> int:
     try:
         return _run(args)
     except linkcap.Fault as fault:
-        if args.command in ("norm", "lines"):
-            sys.stdout.buffer.write(fault.written)
+        sys.stdout.buffer.writelines(_written(args, fault))
         print(fault, file=sys.stderr)
         return FAULT
     except OSError as error:

@@ -4,7 +4,7 @@ import ctypes
 import enum
 import operator
 import struct
-from typing import Any, Callable, Dict, Iterable, List, NamedTuple, Optional, SupportsIndex
+from typing import Any, Callable, Dict, Iterable, List, NamedTuple, Optional, SupportsIndex, Union
 
 from . import _fault, _native, lines_json
 from ._fault import Refusal, failure
@@ -112,21 +112,73 @@ def same(first: Capture, second: Capture, limit: SupportsIndex = DEFAULT_LIMIT, 
     return status == _native.OK
 
 
+def _joined(words: Iterable[object]) -> bytes:
+    """A list of words as the library reads it. Raises ValueError for an empty word, one with a comma, or more than 32."""
+    texts = [str(word) for word in words]
+    for text in texts:
+        if not text or "," in text:
+            raise ValueError(f"{text!r} is no name")
+    if len(texts) > 32:
+        raise ValueError("a selection names at most 32 types, and at most 32 attributes")
+    return ",".join(texts).encode()
+
+
+def _excluded(without: Iterable[str]) -> bytes:
+    """The list of names that are left out. Raises ValueError for the first one that isn't known."""
+    if isinstance(without, str):
+        raise TypeError(f"without is a list of names, as [{without!r}]")
+    names, size = _joined(without), ctypes.c_uint64()
+    with BorrowedBytes(names) as borrowed:
+        out = _native.Output(borrowed.length)
+        call = _native.call("linkcap_unknown_word")
+        status = call(_native.NOT_NULL, 0, borrowed.at, borrowed.length, out.at, out.capacity, address_of(size))
+    if status != _native.NONE:
+        raise ValueError(f"no attribute or group is called {out.take(size.value).decode()!r}")
+    return names
+
+
+def _word(link: Union[str, int, None]) -> bytes:
+    """The name or the index of a link; an empty word for None, which means any link."""
+    if link == "":
+        raise ValueError("a link has a name or an index")
+    return b"" if link is None else str(link).encode()
+
+
 def lines(capture: Capture, limit: SupportsIndex = DEFAULT_LIMIT, *, numbers: bool = True,
-          only: Optional[Iterable[MessageType]] = None) -> str:
+          only: Optional[Iterable[MessageType]] = None, link: Union[str, int, None] = None, without: Iterable[str] = (),
+          offsets: bool = False, keep_going: bool = False) -> str:
     """The lines of a legal capture, as `linkshow` writes them; else raises its first `Fault`.
 
     Without `numbers` they lack sequence and port numbers, which change from run to run. With `only` they are only those of
-    messages of these types, by name or number: `only=["newlink", 17]`.
+    messages of these types, by name or number: `only=["newlink", 17]`. The other options are those of `linkshow`:
+
+    - `link`: only messages about this link, by name, alternative name or index;
+    - `without`: no attributes of these names, and none of the groups "numbers", "counters" and "indexes";
+    - `offsets`: each message's first line ends with its offset in the capture, in bytes;
+    - `keep_going`: messages with a fault in their body are shown too, and those after them: the first `Fault` is raised
+      nevertheless, and its `written` has all these lines.
+
+    With one of these options `only` has at most 32 types; `without` has at most 32 names. Raises ValueError for a name that
+    isn't known.
+
+    >>> lines(bytes.fromhex("10000000030002000100000000000000"), without=["numbers"], offsets=True).splitlines()
+    ['NLMSG_DONE flags 0x2 (MULTI) offset 0', '  code 0']
     """
-    most = checked_limit(limit)
-    types = type_array(only)
+    most, types, names, word = checked_limit(limit), type_array(only), _excluded(without), _word(link)
     if only is not None and not types:
         check(capture, most)
         return ""
-    at, length = types.buffer_info()
-    text = _write(_native.call("linkcap_show_with"), capture, most, lambda size: 4 * size + 256, not numbers,
-                  at or _native.NOT_NULL, length)
+    flags = 0 if numbers else _native.WITHOUT_NUMBERS
+    flags |= _native.OFFSETS if offsets else 0
+    flags |= _native.KEEP_GOING if keep_going else 0
+    if flags <= _native.WITHOUT_NUMBERS and not names and not word:
+        at, length = types.buffer_info()
+        text = _write(_native.call("linkcap_show_with"), capture, most, lambda size: 4 * size + 256, not numbers,
+                      at or _native.NOT_NULL, length)
+        return text.decode("ascii")
+    with BorrowedBytes(_joined(types)) as shown, BorrowedBytes(word) as about, BorrowedBytes(names) as excluded:
+        text = _write(_native.call("linkcap_show_selected"), capture, most, lambda size: 4 * size + 256, flags, shown.at,
+                      shown.length, about.at, about.length, excluded.at, excluded.length)
     return text.decode("ascii")
 
 
@@ -184,16 +236,15 @@ def quirks(capture: Capture, limit: SupportsIndex = DEFAULT_LIMIT) -> List[Quirk
     return [_quirk(structs[index]) for index in range(count.value)]
 
 
-def to_json(capture: Capture, limit: SupportsIndex = DEFAULT_LIMIT, *, numbers: bool = True,
-            only: Optional[Iterable[MessageType]] = None) -> List[Dict[str, Any]]:
+def to_json(capture: Capture, limit: SupportsIndex = DEFAULT_LIMIT, **options: Any) -> List[Dict[str, Any]]:
     """The messages of a legal capture as data, a dictionary each that `json.dumps` writes; else raises its first `Fault`.
 
-    The keys are those of the program linkjson; `numbers` and `only` are those of `lines`.
+    The keys are those of the program linkjson; the options are those of `lines`.
 
     >>> to_json(bytes.fromhex("10000000030002000000000000000000"), numbers=False)[0]["type"]
     'NLMSG_DONE'
     """
-    return list(lines_json.to_json(lines(capture, limit, numbers=numbers, only=only).splitlines()))
+    return list(lines_json.to_json(lines(capture, limit, **options).splitlines()))
 
 
 def why(capture: Capture, limit: SupportsIndex = DEFAULT_LIMIT) -> Optional[Refusal]:

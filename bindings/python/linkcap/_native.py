@@ -27,6 +27,8 @@ else:
 
 VERSION = 2
 OK, DIFFERENT, FAULT, WRONG, NO_ROOM, NO_MEMORY, NONE = range(7)
+#: the flags of linkcap_show_selected
+WITHOUT_NUMBERS, OFFSETS, KEEP_GOING = 1, 2, 4
 
 
 class FaultStruct(ctypes.Structure):
@@ -138,8 +140,10 @@ def _load() -> ctypes.CDLL:
         "linkcap_same": [*capture, *capture, number, address],
         "linkcap_same_ignoring_numbers": [*capture, *capture, number, address],
         "linkcap_show": [*capture, number, *capture, address, address],
+        "linkcap_show_selected": [*capture, number, number, *capture, *capture, *capture, *capture, address, address],
         "linkcap_show_some": [*capture, ctypes.c_bool, number, ctypes.c_bool, *capture, *capture, address, address],
         "linkcap_show_with": [*capture, number, ctypes.c_bool, *capture, *capture, address, address],
+        "linkcap_unknown_word": [*capture, *capture, *capture, address],
         "linkcap_why": [*capture, number, *capture, address, address],
         "linkcap_fault_text": [address, *capture, address],
     }

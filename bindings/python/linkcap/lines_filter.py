@@ -214,8 +214,7 @@ NAMES = frozenset("""
     VNIFILTER_ENTRY_STATS_RX_ERRORS VNIFILTER_ENTRY_STATS_RX_PKTS VNIFILTER_ENTRY_STATS_TX_BYTES
     VNIFILTER_ENTRY_STATS_TX_DROPS VNIFILTER_ENTRY_STATS_TX_ERRORS VNIFILTER_ENTRY_STATS_TX_PKTS VXCAN_INFO_PEER
     VXLAN_VNIFILTER_ENTRY VXLAN_VNIFILTER_ENTRY_END VXLAN_VNIFILTER_ENTRY_GROUP VXLAN_VNIFILTER_ENTRY_GROUP6
-    VXLAN_VNIFILTER_ENTRY_START VXLAN_VNIFILTER_ENTRY_STATS
-""".split())
+    VXLAN_VNIFILTER_ENTRY_START VXLAN_VNIFILTER_ENTRY_STATS""".split())
 
 # The attributes with counters and timers, and those with indexes of links and numbers of namespaces.
 COUNTERS = frozenset("""
@@ -229,8 +228,7 @@ COUNTERS = frozenset("""
     MDBA_MDB_EATTR_TIMER MDBA_MDB_SRCATTR_TIMER MDBA_ROUTER_PATTR_INET6_TIMER MDBA_ROUTER_PATTR_INET_TIMER
     MDBA_ROUTER_PATTR_TIMER NDA_CACHEINFO NDA_PROBES NDTA_CONFIG NDTA_STATS NDTPA_REFCNT NHA_GROUP_STATS
     NHA_RES_BUCKET_IDLE_TIME NHA_RES_GROUP_UNBALANCED_TIME PREFIX_CACHEINFO RTA_CACHEINFO RTA_EXPIRES RTA_MFC_STATS
-    SEG6_LOCAL_COUNTERS TCA_ACT_STATS TCA_ROOT_TIME_DELTA TCA_STATS TCA_STATS2 TCA_XSTATS VXLAN_VNIFILTER_ENTRY_STATS
-""".split())
+    SEG6_LOCAL_COUNTERS TCA_ACT_STATS TCA_ROOT_TIME_DELTA TCA_STATS TCA_STATS2 TCA_XSTATS VXLAN_VNIFILTER_ENTRY_STATS""".split())
 INDEXES = frozenset("""
     BRIDGE_QUERIER_IPV6_PORT BRIDGE_QUERIER_IP_PORT IFA_TARGET_NETNSID IFLA_AMT_LINK IFLA_BOND_ACTIVE_SLAVE
     IFLA_BOND_PRIMARY IFLA_BRIDGE_CFM_MEP_CREATE_IFINDEX IFLA_BRIDGE_MRP_INFO_I_IFINDEX IFLA_BRIDGE_MRP_INFO_P_IFINDEX
@@ -239,11 +237,13 @@ INDEXES = frozenset("""
     IFLA_HSR_SLAVE1 IFLA_HSR_SLAVE2 IFLA_IF_NETNSID IFLA_IPTUN_LINK IFLA_LINK IFLA_LINK_NETNSID IFLA_MASTER IFLA_NEW_IFINDEX
     IFLA_NEW_NETNSID IFLA_VTI_LINK IFLA_VXLAN_LINK IFLA_XFRM_LINK LWT_XFRM_LINK MDBA_MDB_EATTR_IFINDEX MDBE_ATTR_IFINDEX
     NDA_IFINDEX NDA_LINK_NETNSID NDA_MASTER NDTPA_IFINDEX NETCONFA_IFINDEX NHA_MASTER NHA_OIF RTA_IIF RTA_OIF SEG6_LOCAL_IIF
-    SEG6_LOCAL_OIF
-""".split())
+    SEG6_LOCAL_OIF""".split())
+
+# The numbers at the end of a message's line, which only an offset may follow; and a message's line with its offset.
+NUMBERS = re.compile(r" seq [0-9]+ port [0-9]+(?= offset [0-9]+$|$)")
+LINE_WITH_OFFSET = re.compile(r"(\S.*) offset ([0-9]+)")
 
 _GROUPS = {"numbers": frozenset({"numbers"}), "counters": COUNTERS, "indexes": INDEXES | {"indexes"}}
-_NUMBERS = re.compile(r" seq [0-9]+ port [0-9]+$")
 _INDEX = re.compile(r" (?:if)?index -?[0-9]+(?= |$)")
 _NO_STRUCT = {"kind", "code", "request", "rest", "body", "refused:"}
 
@@ -307,7 +307,7 @@ def without(lines: Iterable[str], names: Set[str]) -> List[str]:
 
 def _without_numbers(line: str, level: int, names: Set[str]) -> str:
     if "numbers" in names and (level == 0 or _word(line) == "request"):
-        return _NUMBERS.sub("", line)
+        return NUMBERS.sub("", line)
     if "indexes" in names and _is_struct(line):
         return _INDEX.sub("", line)
     return line

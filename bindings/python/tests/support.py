@@ -2,11 +2,12 @@
 import os
 import re
 import sys
-from typing import List, Tuple
+from typing import Any, List, Tuple
 
 TOP = os.path.normpath(os.path.join(os.path.dirname(os.path.abspath(__file__)), "..", "..", ".."))
 sys.path.append(os.path.join(TOP, "tools", "oracle"))
 import linkoracle           # type: ignore[import]  # noqa: E402
+import linkshow             # type: ignore[import]  # noqa: E402
 import vectors              # type: ignore[import]  # noqa: E402
 
 
@@ -58,6 +59,12 @@ def is_legal(capture: bytes, limit: int) -> bool:
 def means_the_same(first: bytes, second: bytes, limit: int) -> bool:
     """Whether two legal captures mean the same, by the independent implementation."""
     return bool(linkoracle.same(first, second, limit))
+
+
+def selected_lines(capture: bytes, without: str = "", **choice: Any) -> Tuple[str, str]:
+    """The lines that options of linkshow select, and the words of the first fault or "", by the independent implementation."""
+    text, fault = linkshow.lines(capture, omitted=linkshow.read_omitted(without) if without else (), **choice)
+    return str(text), str(linkoracle.display(fault)) if fault else ""
 
 
 def header_constants(prefix: str, *headers: str) -> List[Tuple[str, int]]:

@@ -5,12 +5,17 @@ import subprocess
 import sys
 import tempfile
 import unittest
-from typing import List, Tuple
+from typing import Any, List, Tuple
 
 import linkcap
-from support import TOP, read, sample
+from support import TOP, read, sample, selected_lines
 
 REFUSED = bytes.fromhex("28000000100000000000000000000000") + bytes(16) + bytes.fromhex("0700040001020300")
+
+
+def selected(capture: bytes, without: str = "", **choice: Any) -> bytes:
+    """The lines that options of linkshow select, by the independent implementation."""
+    return selected_lines(capture, without, **choice)[0].encode()
 
 
 class Golden(unittest.TestCase):
@@ -131,6 +136,13 @@ class Program(unittest.TestCase):
             (["lines"], request, 0, sample("req-veth.lines"), b""),
             (["lines", other], b"", 0, sample("lo-request.lines"), b""),
             (["lines", "--only", "getlink,3", other], b"", 0, sample("lo-request.lines"), b""),
+            (["lines", "--without", "numbers,IFLA_EXT_MASK", "--offsets", other], b"", 0,
+             selected(sample("lo-request.bin"), "numbers,IFLA_EXT_MASK", offsets=True), b""),
+            (["lines", "--link", "no such link", other], b"", 0, b"", b""),
+            (["lines", "--keep-going"], REFUSED + request, 2, selected(REFUSED + request, keep_going=True),
+             b"refused body at 0: IFLA_MTU: a payload of 3 bytes at 32\n"),
+            (["lines", "--without", "IFLA_STAT", other], b"", 3, b"",
+             b"linkcap: no attribute or group is called 'IFLA_STAT'\n"),
             (["messages", other], b"", 0, b"0 48 18\n", b""),
             (["same", "--ignore-numbers", other, "-"], self.with_other_numbers(), 0, b"same\n", b""),
             (["same", other, "-"], self.with_other_numbers(), 1, b"different\n", b""),
@@ -153,6 +165,15 @@ class Program(unittest.TestCase):
         self.assertEqual((message["type"], message["flags"]["value"]), ("RTM_GETLINK", 0x301))
         self.assertIn(("IFLA_IFNAME", "lo"), [(one["name"], one["value"]) for one in message["attributes"]])
         self.assertNotIn("seq", message)
+
+    def test_json_of_a_fault(self) -> None:
+        request = sample("lo-request.bin")
+        before = self.run_program("json", stdin=request + REFUSED)
+        self.assertEqual((before.returncode, json.loads(before.stdout)["type"]), (2, "RTM_GETLINK"))
+        both = self.run_program("json", "--keep-going", "--offsets", stdin=request + REFUSED)
+        message = json.loads(both.stdout.splitlines()[1])
+        self.assertEqual((both.returncode, message["offset"], message["refused"]),
+                         (2, len(request), "IFLA_MTU: a payload of 3 bytes"))
 
     def test_usage(self) -> None:
         wrong: List[List[str]] = [[], ["norn"], ["same", "one"], ["lines", "--only", "newlnk"]]

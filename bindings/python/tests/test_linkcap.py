@@ -9,10 +9,10 @@ import threading
 import time
 import tracemalloc
 import unittest
-from typing import Callable, Optional, Tuple
+from typing import Any, Callable, Dict, List, Optional, Tuple
 
 import linkcap
-from support import captures, cases, clear_numbers, header_constants, is_legal, means_the_same, results, sample
+from support import captures, cases, clear_numbers, header_constants, is_legal, means_the_same, results, sample, selected_lines
 
 Result = Tuple[bytes, Optional[linkcap.Fault]]
 Call = Callable[..., object]
@@ -319,6 +319,41 @@ class Edges(unittest.TestCase):
         self.assertEqual(linkcap.quirks(capture), [expected])
         self.assertEqual(len(linkcap.quirks(bytes(capture) * 40)), 40)
         self.assertEqual(linkcap.quirks(linkcap.normalize(capture)), [])
+
+    def test_selections(self) -> None:
+        """The lines and the fault are those of the independent implementation."""
+        selections: List[Tuple[Dict[str, Any], Dict[str, Any]]] = [
+            ({"keep_going": True}, {"keep_going": True}),
+            ({"offsets": True, "numbers": False}, {"offsets": True, "numbers": False}),
+            ({"without": ["counters", "Indexes"]}, {"without": "counters,indexes"}),
+            ({"without": ["numbers", "ifla_mtu"], "keep_going": True}, {"without": "numbers,IFLA_MTU", "keep_going": True}),
+            ({"link": 2}, {"link": "2"}),
+            ({"link": "lo", "keep_going": True, "offsets": True}, {"link": "lo", "keep_going": True, "offsets": True}),
+            ({"only": ["newlink", "RTM_NEWADDR", 24], "offsets": True}, {"only": {16, 20, 24}, "offsets": True}),
+        ]
+        samples = [sample(f"{name}.bin") for name in ("lo-request", "req-veth", "req-routes", "notify-vrf")]
+        for capture in [*samples, REFUSED.join(samples), samples[0] + REFUSED + samples[0][:20]]:
+            for options, choice in selections:
+                try:
+                    result = linkcap.lines(capture, **options), ""
+                except linkcap.Fault as fault:
+                    result = fault.written.decode(), fault.words
+                self.assertTrue(result == selected_lines(capture, **choice), options)
+
+    def test_invalid_selections(self) -> None:
+        capture = sample("lo-request.bin")
+        for options, words in (({"without": ["mtu"]}, "no attribute or group is called 'mtu'"),
+                               ({"without": ["numbers", "\xe4"]}, "is called '\xe4'"),
+                               ({"without": ["IFLA_MTU,IFLA_GROUP"]}, "is no name"),
+                               ({"without": [""]}, "is no name"),
+                               ({"without": ["IFLA_MTU"] * 33}, "at most 32"),
+                               ({"only": range(33), "offsets": True}, "at most 32"),
+                               ({"link": ""}, "a name or an index")):
+            with self.assertRaisesRegex(ValueError, words):
+                linkcap.lines(capture, **options)  # type: ignore[arg-type]
+        with self.assertRaisesRegex(TypeError, "without is a list"):
+            linkcap.lines(capture, without="numbers")
+        self.assertEqual(linkcap.lines(capture, only=[], offsets=True), "")
 
     def test_line_reader(self) -> None:
         capture = sample("lo-request.bin")

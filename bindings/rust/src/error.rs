@@ -55,6 +55,10 @@ pub enum Error {
     Memory,
     /// The limit is under 16.
     Limit,
+    /// A selection names no attribute or group by this word.
+    UnknownName(String),
+    /// A selection has more than 32 types or names.
+    TooMany,
     /// The reader has returned an error before.
     Failed,
 }
@@ -136,6 +140,8 @@ impl fmt::Display for Error {
             Error::Fault(fault) => fault.fmt(f),
             Error::Memory => f.pad("no memory"),
             Error::Limit => f.pad("limit under 16"),
+            Error::UnknownName(name) => f.pad(&format!("no attribute or group is called {name:?}")),
+            Error::TooMany => f.pad("more than 32 types or names"),
             Error::Failed => f.pad("failed before"),
         }
     }
@@ -156,7 +162,7 @@ impl From<Error> for io::Error {
         let kind = match error {
             Error::Fault(_) => io::ErrorKind::InvalidData,
             Error::Memory => io::ErrorKind::OutOfMemory,
-            Error::Limit => io::ErrorKind::InvalidInput,
+            Error::Limit | Error::UnknownName(_) | Error::TooMany => io::ErrorKind::InvalidInput,
             Error::Failed => io::ErrorKind::Other,
         };
         io::Error::new(kind, error)

@@ -9,6 +9,10 @@ pub const WRONG: u32 = 3;
 pub const NO_ROOM: u32 = 4;
 pub const NONE: u32 = 6;
 
+pub const WITHOUT_NUMBERS: u32 = 1;
+pub const OFFSETS: u32 = 2;
+pub const KEEP_GOING: u32 = 4;
+
 #[repr(C)]
 #[derive(Default)]
 pub struct Fault {
@@ -115,6 +119,31 @@ extern "C" {
         capacity: usize,
         written: &mut u64,
         fault: &mut Fault,
+    ) -> u32;
+    pub fn linkcap_show_selected(
+        capture: *const u8,
+        length: usize,
+        limit: u32,
+        flags: u32,
+        only: *const u8,
+        only_length: usize,
+        link: *const u8,
+        link_length: usize,
+        without: *const u8,
+        without_length: usize,
+        out: *mut u8,
+        capacity: usize,
+        written: &mut u64,
+        fault: &mut Fault,
+    ) -> u32;
+    pub fn linkcap_unknown_word(
+        only: *const u8,
+        only_length: usize,
+        without: *const u8,
+        without_length: usize,
+        out: *mut u8,
+        capacity: usize,
+        written: &mut u64,
     ) -> u32;
     pub fn linkcap_why(
         capture: *const u8,

@@ -28,6 +28,7 @@ mod messages;
 mod normal_reader;
 mod quirks;
 mod reader;
+mod selection;
 mod writing;
 
 pub use error::{Error, Fault, Kind, Side};
@@ -35,6 +36,7 @@ pub use messages::{messages, Message, Messages};
 pub use normal_reader::NormalReader;
 pub use quirks::{quirks, Quirk, QuirkKind};
 pub use reader::{LineReader, Reader};
+pub use selection::{lines_selected, Selection};
 pub use writing::{lines, lines_with, normalize, why, LineOptions, Refusal};
 
 /// The limit that the program takes if none is given: 1 MiB.

@@ -26,7 +26,7 @@ pub(crate) fn collect_words(call: impl FnOnce(*mut u8, usize, &mut u64) -> u32) 
 }
 
 /// Returns the bytes that a call for a capture writes to a buffer, which has a capacity of `capacity` bytes at first.
-fn write(
+pub(crate) fn write(
     capture: &[u8],
     limit: u32,
     mut call: impl FnMut(*mut u8, usize, &mut u64, &mut ffi::Fault) -> u32,
@@ -51,7 +51,7 @@ fn write(
 }
 
 /// Returns text of the library, which is ASCII, as a string.
-fn into_string(text: Vec<u8>) -> String {
+pub(crate) fn into_string(text: Vec<u8>) -> String {
     String::from_utf8(text).unwrap_or_default()
 }
 

@@ -1,6 +1,6 @@
 //! Tests the calls with the stored vectors, and edge cases.
 
-use linkcap::{Error, Kind, LineOptions, LineReader, Message, NormalReader, QuirkKind, Reader, Side, DEFAULT_LIMIT};
+use linkcap::{Error, Kind, LineOptions, LineReader, Message, NormalReader, QuirkKind, Reader, Selection, Side, DEFAULT_LIMIT};
 use std::fs;
 use std::io::{self, Read};
 use std::path::Path;
@@ -178,6 +178,38 @@ fn show() {
         }
     }
     assert!(output == expected.join("\n") + "\n");
+}
+
+/// Compares lines with those of the independent implementation.
+#[test]
+fn show_selected() {
+    // A link whose IFLA_MTU has 3 bytes, and a request for `lo`.
+    let refused = b"\x28\0\0\0\x10\0\0\0\0\0\0\0\0\0\0\0\0\0\0\0\0\0\0\0\0\0\0\0\0\0\0\0\x07\0\x04\0\x01\x02\x03\0";
+    let request = b"\x28\0\0\0\x12\0\x01\0\x01\0\0\0\0\0\0\0\0\0\0\0\0\0\0\0\0\0\0\0\0\0\0\0\x07\0\x03\0lo\0\0";
+    let all = "RTM_NEWLINK flags 0x0 offset 0\n  refused: IFLA_MTU: a payload of 3 bytes\n  \
+        body 000000000000000000000000000000000700040001020300\nRTM_GETLINK flags 0x1 (REQUEST) offset 40\n  \
+        ifinfomsg family 0 (AF_UNSPEC) type 0 (netrom) index 0 flags 0x0 change 0x0\n  IFLA_IFNAME \"lo\"\n";
+    let about_lo = "RTM_GETLINK flags 0x1 (REQUEST) seq 1 port 0\n  \
+        ifinfomsg family 0 (AF_UNSPEC) type 0 (netrom) flags 0x0 change 0x0\n  IFLA_IFNAME \"lo\"\n";
+    let lines = |without_numbers, only| LineOptions { without_numbers, only };
+    let default = Selection { keep_going: true, ..Selection::default() };
+    for (selection, expected) in [
+        (Selection { lines: lines(true, &[]), offsets: true, ..default }, all),
+        (Selection { lines: lines(false, &[18, 77]), link: "lo", without: "indexes", ..default }, about_lo),
+        (Selection { keep_going: false, ..default }, ""),
+    ] {
+        let error = linkcap::lines_selected(&[&refused[..], request].concat(), DEFAULT_LIMIT, selection).expect_err("a fault");
+        let fault = error.fault().expect("a fault");
+        assert_eq!(std::str::from_utf8(&fault.written), Ok(expected));
+        assert_eq!((fault.kind, fault.offset), (Kind::Refused, 0));
+    }
+    assert_eq!(linkcap::lines_selected(request, DEFAULT_LIMIT, Selection { link: "1", ..default }), Ok(String::new()));
+    let unknown = Selection { without: "counters,mtu", ..default };
+    assert_eq!(linkcap::lines_selected(request, DEFAULT_LIMIT, unknown), Err(Error::UnknownName("mtu".to_string())));
+    let types: Vec<u16> = (0..33).collect();
+    let too_many = Selection { lines: lines(false, &types), ..default };
+    assert_eq!(linkcap::lines_selected(request, DEFAULT_LIMIT, too_many), Err(Error::TooMany));
+    assert_eq!(linkcap::lines_selected(request, 15, default), Err(Error::Limit));
 }
 
 /// Compares the lines of each case, shown in pieces.

@@ -2,7 +2,8 @@
 
 ghost use Rattle.std.specs.Prelude.{⊤};
 ghost use Rattle.netlink_packet_core.specs.TypedBodies.{TypedBody};
-ghost use Rattle.link_capture_messages.specs.Routes.{route_entry, reads_route, route_may_run_out_of_memory, route_reason, route_ran_out_of_memory};
+ghost use Rattle.link_capture_messages.specs.Routes.{route_entry, reads_route, route_may_run_out_of_memory};
+ghost use Rattle.link_capture_messages.specs.Routes.{route_reason, route_ran_out_of_memory};
 ghost use Rattle.link_capture_messages.specs.RoundTrips.{round_trip, route_inner};
 
 use super::fault::RouteFault;

@@ -10,7 +10,7 @@ use Rattle.link_message_grammar.proofs.Body.{written_header}
 use Rattle.link_capture_quirks.specs.declared.quirk_at.Quirk.TheVariants.{HeaderByte}
 use Rattle.link_tables.specs.declared.table.TheConstants.{LINK_UNSPEC, LINK_BRIDGE, LINK_INET6, LINK_OTHER}
 use Rattle.link_capture_quirks.specs.QuirkRows.{quirk_if, header_quirk}
-use Rattle.link_capture_quirks.specs.QuirkTables.{family_table, link_attributes}
+use Rattle.link_capture_quirks.specs.QuirkTables.{family_table, link_attributes, whole}
 use Rattle.link_capture_quirks.specs.QuirkLists.{quirks_at, list_quirks}
 use Rattle.link_capture_quirks.specs.QuirkLaws.{ListsUnfoldByAttributes, link_list, WrittenAttributesHaveNone}
 use Rattle.link_capture_quirks.specs.CaptureQuirks.{body_list, link_quirks}
@@ -44,15 +44,15 @@ header-none t b more h offset =
 module _ (s : ListsUnfoldByAttributes) (w : WrittenAttributesHaveNone) (p : Peer) (j : Bool) (peers : PeerHasNone p j) where
   -- the attributes of the text of a body
   pub list-none : (b : List ℕ) → (body_rule p).accepted b ≡ true → (offset : ℕ) →
-      list_quirks (record { table = family_table (slice_index ((body_rule p).canonical b) 0); judged = j }) offset (drop 16 ((body_rule p).canonical b)) ≡ []
+      list_quirks (whole (family_table (slice_index ((body_rule p).canonical b) 0)) j) offset (drop 16 ((body_rule p).canonical b)) ≡ []
   unfolding body_rule
   list-none b a offset =
       let h = and_parts (nat_le 16 (length b)) ((list_rule_of p (family b)).accepted (attribute_bytes b)) a in
       let text = (list_rule_of p (family b)).canonical (attribute_bytes b) in
       let rest : List ℕ = drop 16 (header_text b ++ text) in
-      ap (λ n. list_quirks (record { table = family_table n; judged = j }) offset rest) (first-byte b text h.0)
-      ∙ ap (λ t. list_quirks (record { table = t; judged = j }) offset rest) (family-list (slice_index b 0))
-      ∙ ap (list_quirks (record { table = link_list (family b); judged = j }) offset) ((written_header b h.0).rest text)
+      ap (λ n. list_quirks (whole (family_table n) j) offset rest) (first-byte b text h.0)
+      ∙ ap (λ t. list_quirks (whole t j) offset rest) (family-list (slice_index b 0))
+      ∙ ap (list_quirks (whole (link_list (family b)) j) offset) ((written_header b h.0).rest text)
       ∙ attributes-none s w p j peers (family b) offset (attribute_bytes b) h.1
 
 -- ---- peers that are bytes, and peers that are link bodies
@@ -65,7 +65,7 @@ module _ (s : ListsUnfoldByAttributes) (w : WrittenAttributesHaveNone) where
   unfolding link_peer
   links-none b a = go (leb 16 (length ((body_rule bytes_peer).canonical b)) && true)
     where
-      go : (x : Bool) → NoneInside (cond x (Some (record { table = family_table (slice_index ((body_rule bytes_peer).canonical b) 0); judged = false }, 16)) None) ((body_rule bytes_peer).canonical b)
+      go : (x : Bool) → NoneInside (cond x (Some (whole (family_table (slice_index ((body_rule bytes_peer).canonical b) 0)) false, 16)) None) ((body_rule bytes_peer).canonical b)
       go true offset =
           let h = and_parts ((body_rule bytes_peer).accepted b && not ((body_rule bytes_peer).empty_ports b)) ((body_rule bytes_peer).fits b) a in
           let g = and_parts ((body_rule bytes_peer).accepted b) (not ((body_rule bytes_peer).empty_ports b)) h.0 in

@@ -26,10 +26,10 @@ use Rattle.link_capture_quirks.specs.declared.quirk_at.Quirk.TheVariants.{Nested
 use Rattle.link_capture_quirks.specs.declared.tables.Data.{Data}
 use Rattle.link_capture_quirks.specs.declared.tables.Data.TheVariants.{Vxlan, Geneve, Gre, Gre6, IpTunnel, BareUdp, Batadv, Netkit, Pair}
 use Rattle.link_capture_quirks.specs.declared.tables.Table.TheVariants.{Inet, Programs, Functions, OfKind}
-use Rattle.link_capture_quirks.specs.declared.tables.Listed.{Listed}
 use Rattle.link_capture_quirks.specs.QuirkRows.{quirk_if, over_one_byte, over_one_u32, has_nul, is_long_alias, link_quirk, data_quirk, is_flag, is_strict, bit_quirk, payload_quirk, header_quirk}
 use Rattle.link_capture_quirks.specs.QuirkLists.{quirks_at, direct_quirks, inside_of, list_kind_after, inside_quirks, list_quirks}
-use Rattle.link_capture_quirks.specs.QuirkTables.{family_table, inside}
+use Rattle.link_capture_quirks.specs.declared.tables.Table.{Table}
+use Rattle.link_capture_quirks.specs.QuirkTables.{Listing, family_table, inside, whole}
 use Rattle.link_capture_quirks.proofs.Inside.{at_kind, either, split}
 use Rattle.link_capture_quirks.specs.QuirkLaws.{ListsUnfoldByAttributes, link_list, IsDataTable, WrittenAttributesHaveNone}
 
@@ -205,11 +205,11 @@ programs-bit p k =
 
 -- ---- all of these
 
-direct-none : (l : Listed) (offset : ℕ) (r : Row) (e : Attribute) → NoQuirk (bit_quirk l.table (written_kind r e.kind)) → NoQuirk (payload_quirk l.table (proper_kind e.kind) (r.rule.canonical e.payload)) → direct_quirks l offset (rewrite r e) ≡ []
+direct-none : (t : Table) (offset : ℕ) (r : Row) (e : Attribute) → NoQuirk (bit_quirk t (written_kind r e.kind)) → NoQuirk (payload_quirk t (proper_kind e.kind) (r.rule.canonical e.payload)) → direct_quirks t offset (rewrite r e) ≡ []
 unfolding direct_quirks
-direct-none l offset r e b q =
-    ap (λ z. quirks_at offset z ++ quirks_at offset (payload_quirk l.table (proper_kind (written_kind r e.kind)) (r.rule.canonical e.payload))) b
-    ∙ ap (λ z. quirks_at offset (payload_quirk l.table z (r.rule.canonical e.payload))) (proper_kind-written r e.kind)
+direct-none t offset r e b q =
+    ap (λ z. quirks_at offset z ++ quirks_at offset (payload_quirk t (proper_kind (written_kind r e.kind)) (r.rule.canonical e.payload))) b
+    ∙ ap (λ z. quirks_at offset (payload_quirk t z (r.rule.canonical e.payload))) (proper_kind-written r e.kind)
     ∙ ap (quirks_at offset) q
 
 link-direct : (p : Peer) (f : Family) (k : ℕ) (b : List ℕ) → (attribute_row_under p f k).rule.accepted b ≡ true → NoQuirk (payload_quirk (link_list f) k ((attribute_row_under p f k).rule.canonical b))
@@ -220,22 +220,22 @@ header-none : (t : ℕ) (b : List ℕ) → NoQuirk (header_quirk t (header_text 
 header-none t (f ∷ x ∷ a ∷ b ∷ rest) = no _ _ (and-no _ _ (λ h. refl))
 header-none t b = no _ _ (and-no _ _ (λ h. refl))
 
-functions-direct : (p : Peer) (judged : Bool) (offset : ℕ) (e : Attribute) → eqb (proper_kind e.kind) 1 ≡ true → direct_quirks (record { table = Functions; judged = judged }) offset (rewrite (table_row p vf_infos (proper_kind e.kind)) e) ≡ []
-functions-direct p judged offset e h = direct-none (record { table = Functions; judged = judged }) offset (table_row p vf_infos (proper_kind e.kind)) e (both-none _) (no _ _ (ap not h))
+functions-direct : (p : Peer) (offset : ℕ) (e : Attribute) → eqb (proper_kind e.kind) 1 ≡ true → direct_quirks Functions offset (rewrite (table_row p vf_infos (proper_kind e.kind)) e) ≡ []
+functions-direct p offset e h = direct-none Functions offset (table_row p vf_infos (proper_kind e.kind)) e (both-none _) (no _ _ (ap not h))
 
 -- ---- a pair
 
-abbrev Twin : Listed
-Twin = record { table = OfKind Pair; judged = false }
+abbrev Twin : Listing
+Twin = whole (OfKind Pair) false
 
 pair-inside : (e : Attribute) → inside_of Twin e ≡ None
 unfolding inside
-pair-inside e = ap (λ b. cond b (Some (record { table = family_table (slice_index e.payload 0); judged = false }, 16)) None) (and-no (eqb (proper_kind e.kind) 1) false (λ h. refl))
+pair-inside e = ap (λ b. cond b (Some (whole (family_table (slice_index e.payload 0)) false, 16)) None) (and-no (eqb (proper_kind e.kind) 1) false (λ h. refl))
 
-pair-direct : (p : Peer) (offset : ℕ) (e : Attribute) (r : Row) → direct_quirks Twin offset (rewrite r e) ≡ []
-pair-direct p offset e r = direct-none Twin offset r e (both-none _) refl
+pair-direct : (p : Peer) (offset : ℕ) (e : Attribute) (r : Row) → direct_quirks (OfKind Pair) offset (rewrite r e) ≡ []
+pair-direct p offset e r = direct-none (OfKind Pair) offset r e (both-none _) refl
 
-one-quirk : ListsUnfoldByAttributes → WrittenIsFirst → (offset : ℕ) (e : Attribute) → ((offset : ℕ) → direct_quirks Twin offset e ≡ []) → list_quirks Twin offset (list_text (e ∷ [])) ≡ []
+one-quirk : ListsUnfoldByAttributes → WrittenIsFirst → (offset : ℕ) (e : Attribute) → ((offset : ℕ) → direct_quirks (OfKind Pair) offset e ≡ []) → list_quirks Twin offset (list_text (e ∷ [])) ≡ []
 unfolding list_text first_attribute
 one-quirk s w offset e direct =
     s.next Twin offset (list_text (e ∷ [])) e [] (w e [])
@@ -255,10 +255,10 @@ pair-quirks s w p offset b h =
 
 pub written : ListsUnfoldByAttributes → WrittenIsFirst → WrittenAttributesHaveNone
 written s w = record {
-  link = λ p f judged offset e h. direct-none (record { table = link_list f; judged = judged }) offset (attribute_row_under p f (proper_kind e.kind)) e (link-bit p f e.kind) (link-direct p f (proper_kind e.kind) e.payload h);
-  of_kind = λ p d t judged offset e i. direct-none (record { table = OfKind d; judged = judged }) offset (table_row p t (proper_kind e.kind)) e (data-bit p d t e.kind i) (data-payload p d t (proper_kind e.kind) e.payload i);
-  settings = λ p judged offset e. direct-none (record { table = Inet; judged = judged }) offset (table_row p inet (proper_kind e.kind)) e (both-none _) (inet-payload p (proper_kind e.kind) e.payload);
-  programs = λ p judged offset e. direct-none (record { table = Programs; judged = judged }) offset (table_row p xdp (proper_kind e.kind)) e (programs-bit p e.kind) refl;
+  link = λ p f offset e h. direct-none (link_list f) offset (attribute_row_under p f (proper_kind e.kind)) e (link-bit p f e.kind) (link-direct p f (proper_kind e.kind) e.payload h);
+  of_kind = λ p d t offset e i. direct-none (OfKind d) offset (table_row p t (proper_kind e.kind)) e (data-bit p d t e.kind i) (data-payload p d t (proper_kind e.kind) e.payload i);
+  settings = λ p offset e. direct-none Inet offset (table_row p inet (proper_kind e.kind)) e (both-none _) (inet-payload p (proper_kind e.kind) e.payload);
+  programs = λ p offset e. direct-none Programs offset (table_row p xdp (proper_kind e.kind)) e (programs-bit p e.kind) refl;
   functions = functions-direct;
   pair = pair-quirks s w;
   header = header-none;

@@ -9,10 +9,9 @@ use Rattle.attribute_tables_grammar.specs.Lists.{Row, rewrite}
 use Rattle.attribute_tables_grammar.proofs.Attributes.{proper_kind-written}
 use Rattle.link_capture_quirks.specs.declared.quirk_at.Quirk.{Quirk}
 use Rattle.link_capture_quirks.specs.declared.quirk_at.QuirkAt.{QuirkAt}
-use Rattle.link_capture_quirks.specs.declared.tables.Listed.{Listed}
 use Rattle.link_capture_quirks.specs.declared.tables.Table.{Table}
 use Rattle.link_capture_quirks.specs.QuirkRows.{nested_bit_quirk, payload_quirk}
-use Rattle.link_capture_quirks.specs.QuirkTables.{family_table, inside, inside_table, at_payload_start, has_peer}
+use Rattle.link_capture_quirks.specs.QuirkTables.{Listing, family_table, whole, inside, inside_table, at_payload_start, has_peer}
 use Rattle.link_capture_quirks.specs.QuirkLists.{quirks_at, direct_quirks, inside_of, list_kind_after, inside_quirks, next_list_quirks, quirks_within, list_quirks}
 use Rattle.link_capture_quirks.proofs.Lists.{HasNone, NoneInside}
 
@@ -28,27 +27,27 @@ either false b h f g = g h
 pub split : {A : Type 0} (P : A → Type 0) (b : Bool) (x y : A) → (b ≡ true → P x) → P y → P (cond b x y)
 split P b x y f h = cond_both b x y P f (λ _. h)
 
-pub nothing-inside : (l : Listed) (q : List ℕ) (o : Option Table) → o ≡ None → NoneInside (at_payload_start l o) q
+pub nothing-inside : (l : Listing) (q : List ℕ) (o : Option Table) → o ≡ None → NoneInside (at_payload_start l o) q
 nothing-inside l q o h = subst (λ x. NoneInside (at_payload_start l x) q) (sym h) (λ offset. refl)
 
 -- a list that is the whole payload
-pub whole-list : (t : Table) (j : Bool) (r : Rule) (b : List ℕ) → HasNone (record { table = t; judged = j }) r → r.accepted b ≡ true → (l : Listed) → l.judged ≡ j → NoneInside (at_payload_start l (Some t)) (r.canonical b)
-whole-list t j r b h a l e offset = ap (λ x. list_quirks (record { table = t; judged = x }) (offset + 0) (r.canonical b)) e ∙ h (offset + 0) b a
+pub whole-list : (t : Table) (j : Bool) (r : Rule) (b : List ℕ) → HasNone (whole t j) r → r.accepted b ≡ true → (l : Listing) → l.judged ≡ j → NoneInside (at_payload_start l (Some t)) (r.canonical b)
+whole-list t j r b h a l e offset = ap (λ x. list_quirks (whole t x) (offset + 0) (r.canonical b)) e ∙ h (offset + 0) b a
 
 -- ---- lists in which no peer is judged
 
 unjudged : (a b c : Bool) → (a && (b && (c && false))) ≡ false
 unjudged a b c = and_right a _ (and_right b _ (and-false c))
 
-pub without-peer : (l : Listed) (k : ℕ) (q : List ℕ) → has_peer l.table ≡ false → inside l k q ≡ at_payload_start l (inside_table l.table k)
+pub without-peer : (l : Listing) (k : ℕ) (q : List ℕ) → has_peer l.table ≡ false → inside l k q ≡ at_payload_start l (inside_table l.table l.context k)
 unfolding inside
 without-peer l k q h =
-    let peer : Option (Listed × ℕ) = Some (record { table = family_table (slice_index q 0); judged = false }, 16) in
-    ap (λ b. cond (eqb k 1 && (l.judged && (leb 16 (length q) && b))) peer (at_payload_start l (inside_table l.table k))) h
-    ∙ ap (λ b. cond b peer (at_payload_start l (inside_table l.table k))) (unjudged (eqb k 1) l.judged (leb 16 (length q)))
+    let peer : Option (Listing × ℕ) = Some (whole (family_table (slice_index q 0)) false, 16) in
+    ap (λ b. cond (eqb k 1 && (l.judged && (leb 16 (length q) && b))) peer (at_payload_start l (inside_table l.table l.context k))) h
+    ∙ ap (λ b. cond b peer (at_payload_start l (inside_table l.table l.context k))) (unjudged (eqb k 1) l.judged (leb 16 (length q)))
 
 -- the list inside an attribute, as its row writes it
-pub written-inside : (l : Listed) (r : Row) (e : Attribute) → has_peer l.table ≡ false → NoneInside (at_payload_start l (inside_table l.table (proper_kind e.kind))) (r.rule.canonical e.payload) → NoneInside (inside_of l (rewrite r e)) (r.rule.canonical e.payload)
+pub written-inside : (l : Listing) (r : Row) (e : Attribute) → has_peer l.table ≡ false → NoneInside (at_payload_start l (inside_table l.table l.context (proper_kind e.kind))) (r.rule.canonical e.payload) → NoneInside (inside_of l (rewrite r e)) (r.rule.canonical e.payload)
 written-inside l r e h s =
     let q = r.rule.canonical e.payload in
     subst (λ o. NoneInside o q) (sym (ap (λ k. inside l k q) (proper_kind-written r e.kind) ∙ without-peer l (proper_kind e.kind) q h)) s
@@ -63,19 +62,19 @@ both-none : (b : Bool) (o : Option Quirk) → o ≡ None → cond b o None ≡ N
 both-none true o h = h
 both-none false o h = refl
 
-pub no-quirks-direct : (l : Listed) (offset : ℕ) (e : Attribute) → HasNoQuirks l.table → direct_quirks l offset e ≡ []
+pub no-quirks-direct : (t : Table) (offset : ℕ) (e : Attribute) → HasNoQuirks t → direct_quirks t offset e ≡ []
 unfolding direct_quirks
-no-quirks-direct l offset e d =
-    ap (λ z. quirks_at offset z ++ quirks_at offset (payload_quirk l.table (proper_kind e.kind) e.payload)) (both-none (leb 0x8000 e.kind) (nested_bit_quirk l.table (proper_kind e.kind)) (d.bit (proper_kind e.kind)))
+no-quirks-direct t offset e d =
+    ap (λ z. quirks_at offset z ++ quirks_at offset (payload_quirk t (proper_kind e.kind) e.payload)) (both-none (leb 0x8000 e.kind) (nested_bit_quirk t (proper_kind e.kind)) (d.bit (proper_kind e.kind)))
     ∙ ap (quirks_at offset) (d.payload (proper_kind e.kind) e.payload)
 
 -- if no attribute has a list inside, and the list kind stays the same
-module _ (l : Listed) (d : HasNoQuirks l.table) (inner : (e : Attribute) → inside_of l e ≡ None) (same : (e : Attribute) → list_kind_after l e ≡ l) where
-  next-none : (list : Listed → ℕ → List ℕ → List QuirkAt) → ((offset : ℕ) (b : List ℕ) → list l offset b ≡ []) → (offset : ℕ) (o : Option (Attribute × List ℕ)) → next_list_quirks list l offset o ≡ []
+module _ (l : Listing) (d : HasNoQuirks l.table) (inner : (e : Attribute) → inside_of l e ≡ None) (same : (e : Attribute) → list_kind_after l e ≡ l) where
+  next-none : (list : Listing → ℕ → List ℕ → List QuirkAt) → ((offset : ℕ) (b : List ℕ) → list l offset b ≡ []) → (offset : ℕ) (o : Option (Attribute × List ℕ)) → next_list_quirks list l offset o ≡ []
   next-none list h offset None = refl
   next-none list h offset (Some x) =
       let following = offset + nla_align (attribute_length x.0) in
-      ap (λ z. z ++ (inside_quirks list (offset + 4) (inside_of l x.0) x.0.payload ++ list (list_kind_after l x.0) following x.1)) (no-quirks-direct l offset x.0 d)
+      ap (λ z. z ++ (inside_quirks list (offset + 4) (inside_of l x.0) x.0.payload ++ list (list_kind_after l x.0) following x.1)) (no-quirks-direct l.table offset x.0 d)
       ∙ ap (λ o. inside_quirks list (offset + 4) o x.0.payload ++ list (list_kind_after l x.0) following x.1) (inner x.0)
       ∙ ap (λ m. list m following x.1) (same x.0)
       ∙ h following x.1

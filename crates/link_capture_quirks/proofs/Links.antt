@@ -1,38 +1,32 @@
 -- The attributes of a link, as they are written, have no quirk at any depth.
-use Rattle.std.proofs.Common.{◌≡◌, ℕ, zero, suc, Bool, true, false, cond, eqb, List, Option, Some, None, refl, sym, ap, subst, ◌∙◌, arith}
-use Rattle.std.proofs.lemmas.Bool.{ne_eqb}
+use Rattle.std.proofs.Common.{◌≡◌, ℕ, zero, suc, Bool, true, false, eqb, List, Option, Some, None, refl, sym, ap, subst, ◌∙◌, arith}
 use Rattle.netlink_packet_core_grammar.specs.Attributes.{proper_kind}
 use Rattle.netlink_packet_core_grammar.specs.Texts.{without_nul}
 use Rattle.netlink_packet_core_grammar.proofs.Texts.{without_nul-end}
 use Rattle.attribute_tables_grammar.specs.Rules.{Rule}
-use Rattle.attribute_tables_grammar.specs.Lists.{Context, Row, Grammar, row_of, rewrite, without_context, any, non_empty, of_kind_one}
+use Rattle.attribute_tables_grammar.specs.Lists.{Context, nothing, Row, Grammar, row_of, rewrite, without_context, any, non_empty, of_kind_one}
 use Rattle.attribute_tables_grammar.specs.LookUps.{list_of, link_info_of, table_row, rows_rule}
 use Rattle.attribute_tables_grammar.specs.Peers.{Peer}
-use Rattle.attribute_tables_grammar.specs.Tables.{named, names_grammar, info_row, info_next, row_in_force}
+use Rattle.attribute_tables_grammar.specs.Tables.{named, names_grammar, info_row, info_next}
 use Rattle.attribute_tables_grammar.proofs.Attributes.{proper_kind-written}
 use Rattle.link_info_grammar.specs.Families.{kinds, port_kinds}
+use Rattle.link_tables.proofs.Built.{kinds_built, port_kinds_built}
+use Rattle.link_tables.specs.InForce.{data_under, port_data_under, statistics_under, held_in_force}
+use Rattle.link_tables.specs.declared.kinds.TheConstants.{KINDS, PORT_KINDS}
 use Rattle.link_message_grammar.specs.Body.{attribute_row_under, list_rule_of}
 use Rattle.link_message_grammar.specs.LinkMessage.{Family, unspec}
 use Rattle.link_message_grammar.specs.NestedTables.{inet, specific, xdp, vf_infos}
 use Rattle.link_message_grammar.proofs.Parts.{attributes_are_looked_up}
-use Rattle.link_capture_quirks.specs.declared.tables.Data.{Data}
-use Rattle.link_capture_quirks.specs.declared.tables.Data.TheVariants.{Other}
 use Rattle.link_capture_quirks.specs.declared.tables.Table.{Table}
 use Rattle.link_capture_quirks.specs.declared.tables.Table.TheVariants.{Unspec, Info, Families, Inet, Programs, Functions, OfKind}
-use Rattle.link_capture_quirks.specs.declared.tables.Listed.{Listed}
-use Rattle.link_capture_quirks.specs.QuirkTables.{data_named, at_payload_start, inside_link, inside_table, has_peer, next_table}
+use Rattle.link_capture_quirks.specs.QuirkTables.{Listing, whole, held_list, at_payload_start, inside_link, inside_table, has_peer, next_table, next_list}
 use Rattle.link_capture_quirks.specs.QuirkLaws.{ListsUnfoldByAttributes, link_list, WrittenAttributesHaveNone}
 use Rattle.link_capture_quirks.proofs.Lists.{HasNone, NoneInside, WritesNoQuirks, list-none, rows-none}
 use Rattle.link_capture_quirks.proofs.Inside.{at_kind, split, nothing-inside, whole-list, written-inside, HasNoQuirks, no-quirks-direct}
-use Rattle.link_capture_quirks.proofs.KindData.{PeerHasNone, named-none, other-none}
+use Rattle.link_capture_quirks.proofs.KindData.{PeerHasNone, in-force-none}
 
--- the data of the kind in force
-abbrev in_force : Option (List ℕ) → Data
-in_force None = Other
-in_force (Some n) = data_named n
-
-info-no-quirks : (d : Data) → HasNoQuirks (Info d)
-info-no-quirks d = record { bit = λ k. refl; payload = λ k p. refl }
+info-no-quirks : HasNoQuirks Info
+info-no-quirks = record { bit = λ k. refl; payload = λ k p. refl }
 
 families-no-quirks : HasNoQuirks Families
 families-no-quirks = record { bit = λ k. refl; payload = λ k p. refl }
@@ -41,13 +35,13 @@ link-peerless : (f : Family) → has_peer (link_list f) ≡ false
 link-peerless unspec = refl
 link-peerless f = refl
 
-link-stays : (f : Family) (k : ℕ) (q : List ℕ) → next_table (link_list f) k q ≡ link_list f
-link-stays unspec k q = refl
-link-stays f k q = refl
+link-stays : (f : Family) (j : Bool) (k : ℕ) (q : List ℕ) → next_list (whole (link_list f) j) k q ≡ whole (link_list f) j
+link-stays unspec j k q = refl
+link-stays f j k q = refl
 
 module _ (s : ListsUnfoldByAttributes) (w : WrittenAttributesHaveNone) (p : Peer) (j : Bool) (peers : PeerHasNone p j) where
-  abbrev list_in : Table → Listed
-  list_in t = record { table = t; judged = j }
+  abbrev list_in : Table → Listing
+  list_in t = whole t j
 
   -- ---- link info
 
@@ -57,58 +51,64 @@ module _ (s : ListsUnfoldByAttributes) (w : WrittenAttributesHaveNone) (p : Peer
   abbrev info_rules : Grammar
   info_rules = names_grammar (named p kinds) (named p port_kinds)
 
-  data-none : (o : Option (List ℕ)) → HasNone (list_in (OfKind (in_force o))) (row_in_force o (named p kinds)).rule
-  data-none None = other-none s w p j peers (row_in_force None (named p kinds)).rule
-  data-none (Some n) = named-none s w p j peers n
+  abbrev info_at : Context → Listing
+  info_at c = record { table = Info; context = c; judged = j }
 
-  info-inside : (c : Context) (k : ℕ) (b : List ℕ) → (info_rows c k).rule.accepted b ≡ true → NoneInside (at_payload_start (list_in (Info (in_force c.kind))) (inside_table (Info (in_force c.kind)) k)) ((info_rows c k).rule.canonical b)
-  info-inside c k b a =
-      let l = list_in (Info (in_force c.kind)) in
-      split (λ o. NoneInside (at_payload_start l o) ((info_rows c k).rule.canonical b)) (eqb k 2) (Some (OfKind (in_force c.kind))) None
-      (λ e. at_kind (λ n. (info_rows c n).rule.accepted b ≡ true → NoneInside (at_payload_start l (Some (OfKind (in_force c.kind)))) ((info_rows c n).rule.canonical b)) k 2 e
-      (λ a. whole-list (OfKind (in_force c.kind)) j (info_rows c 2).rule b (data-none c.kind) a l refl) a)
-      (nothing-inside l ((info_rows c k).rule.canonical b) None refl)
+  statistics-none : (l : Listing) (o : Option (List ℕ)) (q : List ℕ) → NoneInside (at_payload_start l (held_list (statistics_under o))) q
+  statistics-none l None q = λ offset. refl
+  statistics-none l (Some n) q = λ offset. refl
 
-  info-kind-after : (c : Context) (k : ℕ) (b : List ℕ) → next_table (Info (in_force c.kind)) k ((info_rows c k).rule.canonical b) ≡ Info (in_force (info_next c k b).kind)
-  info-kind-after c (suc zero) b = ap (λ n. Info (data_named n)) (without_nul-end (without_nul b))
-  info-kind-after c (suc (suc (suc (suc (suc (suc k)))))) b = ap (λ x. cond x (Info (data_named (without_nul b))) (Info (in_force c.kind))) (ne_eqb (suc (suc (suc (suc (suc (suc k)))))) 1 (λ e. absurd (omega (arith, e))))
-  info-kind-after c k b = refl
+  info-inside : (c : Context) (k : ℕ) (b : List ℕ) → (info_rows c k).rule.accepted b ≡ true → NoneInside (at_payload_start (info_at c) (held_list (held_in_force c k))) ((info_rows c k).rule.canonical b)
+  unfolding data_under port_data_under
+  info-inside c (suc (suc zero)) b a = in-force-none s w p j peers (info_at c) refl KINDS kinds kinds_built c.kind b a
+  info-inside c (suc (suc (suc zero))) b a = statistics-none (info_at c) c.kind ((info_rows c 3).rule.canonical b)
+  info-inside c (suc (suc (suc (suc (suc zero))))) b a = in-force-none s w p j peers (info_at c) refl PORT_KINDS port_kinds port_kinds_built c.port_kind b a
+  info-inside c k b a = λ offset. refl
 
-  info-writes-no-quirks : WritesNoQuirks info_rules non_empty (λ c. list_in (Info (in_force c.kind)))
+  info-after : (c : Context) (k : ℕ) (b : List ℕ) → info_next c k ((info_rows c k).rule.canonical b) ≡ info_next c k b
+  info-after c (suc zero) b = ap (λ n. record { kind = Some n; port_kind = c.port_kind }) (without_nul-end (without_nul b))
+  info-after c (suc (suc (suc (suc zero)))) b = ap (λ n. record { kind = c.kind; port_kind = Some n }) (without_nul-end (without_nul b))
+  info-after c zero b = refl
+  info-after c (suc (suc zero)) b = refl
+  info-after c (suc (suc (suc zero))) b = refl
+  info-after c (suc (suc (suc (suc (suc zero))))) b = refl
+  info-after c (suc (suc (suc (suc (suc (suc k)))))) b = refl
+
+  info-writes-no-quirks : WritesNoQuirks info_rules non_empty info_at
   info-writes-no-quirks = record {
-    direct = λ c e offset k a. no-quirks-direct (list_in (Info (in_force c.kind))) offset (rewrite (row_of info_rules c e) e) (info-no-quirks (in_force c.kind));
-    inner = λ c e a. written-inside (list_in (Info (in_force c.kind))) (row_of info_rules c e) e refl (info-inside c (proper_kind e.kind) e.payload a);
+    direct = λ c e offset k a. no-quirks-direct Info offset (rewrite (row_of info_rules c e) e) info-no-quirks;
+    inner = λ c e a. written-inside (info_at c) (row_of info_rules c e) e refl (info-inside c (proper_kind e.kind) e.payload a);
     following = λ c e.
         let r = row_of info_rules c e in
-        ap list_in (ap (λ k. next_table (Info (in_force c.kind)) k (r.rule.canonical e.payload)) (proper_kind-written r e.kind) ∙ info-kind-after c (proper_kind e.kind) e.payload);
+        ap (λ k. next_list (info_at c) k (r.rule.canonical e.payload)) (proper_kind-written r e.kind) ∙ ap info_at (info-after c (proper_kind e.kind) e.payload);
   }
 
-  info-none : HasNone (list_in (Info Other)) (link_info_of p non_empty kinds port_kinds)
+  info-none : HasNone (list_in Info) (link_info_of p non_empty kinds port_kinds)
   unfolding link_info_of
-  info-none = list-none s info_rules non_empty (λ c. list_in (Info (in_force c.kind))) info-writes-no-quirks
+  info-none = list-none s info_rules non_empty info_at info-writes-no-quirks
 
   inet-none : HasNone (list_in Inet) (list_of p any inet)
   inet-none = rows-none s p any inet (list_in Inet) (record {
-    direct = λ c e offset k a. w.settings p j offset e;
+    direct = λ c e offset k a. w.settings p offset e;
     inner = λ c e a. let r = table_row p inet (proper_kind e.kind) in written-inside (list_in Inet) r e refl (nothing-inside (list_in Inet) (r.rule.canonical e.payload) None refl);
     following = λ c e. refl;
   })
 
   programs-none : HasNone (list_in Programs) (list_of p any xdp)
   programs-none = rows-none s p any xdp (list_in Programs) (record {
-    direct = λ c e offset k a. w.programs p j offset e;
+    direct = λ c e offset k a. w.programs p offset e;
     inner = λ c e a. let r = table_row p xdp (proper_kind e.kind) in written-inside (list_in Programs) r e refl (nothing-inside (list_in Programs) (r.rule.canonical e.payload) None refl);
     following = λ c e. refl;
   })
 
   functions-none : HasNone (list_in Functions) (list_of p of_kind_one vf_infos)
   functions-none = rows-none s p of_kind_one vf_infos (list_in Functions) (record {
-    direct = λ c e offset k a. w.functions p j offset e k;
+    direct = λ c e offset k a. w.functions p offset e k;
     inner = λ c e a. let r = table_row p vf_infos (proper_kind e.kind) in written-inside (list_in Functions) r e refl (nothing-inside (list_in Functions) (r.rule.canonical e.payload) None refl);
     following = λ c e. refl;
   })
 
-  families-inside : (k : ℕ) (b : List ℕ) → (table_row p specific k).rule.accepted b ≡ true → NoneInside (at_payload_start (list_in Families) (inside_table Families k)) ((table_row p specific k).rule.canonical b)
+  families-inside : (k : ℕ) (b : List ℕ) → (table_row p specific k).rule.accepted b ≡ true → NoneInside (at_payload_start (list_in Families) (inside_table Families nothing k)) ((table_row p specific k).rule.canonical b)
   families-inside k b a =
       let l = list_in Families in
       split (λ o. NoneInside (at_payload_start l o) ((table_row p specific k).rule.canonical b)) (eqb k 2) (Some Inet) None
@@ -118,7 +118,7 @@ module _ (s : ListsUnfoldByAttributes) (w : WrittenAttributesHaveNone) (p : Peer
 
   families-none : HasNone (list_in Families) (list_of p any specific)
   families-none = rows-none s p any specific (list_in Families) (record {
-    direct = λ c e offset k a. no-quirks-direct (list_in Families) offset (rewrite (table_row p specific (proper_kind e.kind)) e) families-no-quirks;
+    direct = λ c e offset k a. no-quirks-direct Families offset (rewrite (table_row p specific (proper_kind e.kind)) e) families-no-quirks;
     inner = λ c e a. written-inside (list_in Families) (table_row p specific (proper_kind e.kind)) e refl (families-inside (proper_kind e.kind) e.payload a);
     following = λ c e. refl;
   })
@@ -126,22 +126,22 @@ module _ (s : ListsUnfoldByAttributes) (w : WrittenAttributesHaveNone) (p : Peer
   -- ---- links
 
   -- if the row of the kind n is a list without quirks, and k is n
-  at_list : (f : Family) (l : Listed) (t : Table) (r : Rule) (k n : ℕ) (b : List ℕ) → l.judged ≡ j → (attribute_row_under p f n).rule ≡ r → HasNone (list_in t) r → (attribute_row_under p f k).rule.accepted b ≡ true → eqb k n ≡ true →
+  at_list : (f : Family) (l : Listing) (t : Table) (r : Rule) (k n : ℕ) (b : List ℕ) → l.judged ≡ j → (attribute_row_under p f n).rule ≡ r → HasNone (list_in t) r → (attribute_row_under p f k).rule.accepted b ≡ true → eqb k n ≡ true →
       NoneInside (at_payload_start l (Some t)) ((attribute_row_under p f k).rule.canonical b)
   at_list f l t r k n b i is h a e =
       at_kind (λ m. (attribute_row_under p f m).rule.accepted b ≡ true → NoneInside (at_payload_start l (Some t)) ((attribute_row_under p f m).rule.canonical b)) k n e
       (subst (λ (x : Rule). x.accepted b ≡ true → NoneInside (at_payload_start l (Some t)) (x.canonical b)) (sym is) (λ a. whole-list t j r b h a l i)) a
 
-  each-inside : (f : Family) (l : Listed) (k : ℕ) (b : List ℕ) → l.judged ≡ j → (attribute_row_under p f k).rule.accepted b ≡ true → NoneInside (at_payload_start l (inside_link k)) ((attribute_row_under p f k).rule.canonical b)
+  each-inside : (f : Family) (l : Listing) (k : ℕ) (b : List ℕ) → l.judged ≡ j → (attribute_row_under p f k).rule.accepted b ≡ true → NoneInside (at_payload_start l (inside_link k)) ((attribute_row_under p f k).rule.canonical b)
   each-inside f l k b i a =
       let q = (attribute_row_under p f k).rule.canonical b in
       let pick = split (λ o. NoneInside (at_payload_start l o) q) in
-      pick (eqb k 18) (Some (Info Other)) _ (at_list f l (Info Other) (link_info_of p non_empty kinds port_kinds) k 18 b i refl info-none a)
+      pick (eqb k 18) (Some Info) _ (at_list f l Info (link_info_of p non_empty kinds port_kinds) k 18 b i refl info-none a)
       (pick (eqb k 22) (Some Functions) _ (at_list f l Functions (list_of p of_kind_one vf_infos) k 22 b i refl functions-none a)
       (pick (eqb k 43) (Some Programs) None (at_list f l Programs (list_of p any xdp) k 43 b i refl programs-none a)
       (nothing-inside l q None refl)))
 
-  link-inside : (f : Family) (k : ℕ) (b : List ℕ) → (attribute_row_under p f k).rule.accepted b ≡ true → NoneInside (at_payload_start (list_in (link_list f)) (inside_table (link_list f) k)) ((attribute_row_under p f k).rule.canonical b)
+  link-inside : (f : Family) (k : ℕ) (b : List ℕ) → (attribute_row_under p f k).rule.accepted b ≡ true → NoneInside (at_payload_start (list_in (link_list f)) (inside_table (link_list f) nothing k)) ((attribute_row_under p f k).rule.canonical b)
   link-inside unspec k b a =
       let l = list_in Unspec in
       split (λ o. NoneInside (at_payload_start l o) ((attribute_row_under p unspec k).rule.canonical b)) (eqb k 26) (Some Families) (inside_link k) (at_list unspec l Families (list_of p any specific) k 26 b refl refl families-none a) (each-inside unspec l k b refl a)
@@ -149,9 +149,9 @@ module _ (s : ListsUnfoldByAttributes) (w : WrittenAttributesHaveNone) (p : Peer
 
   link-writes-no-quirks : (f : Family) → WritesNoQuirks (without_context (attribute_row_under p f)) any (λ c. list_in (link_list f))
   link-writes-no-quirks f = record {
-    direct = λ c e offset k a. w.link p f j offset e a;
+    direct = λ c e offset k a. w.link p f offset e a;
     inner = λ c e a. written-inside (list_in (link_list f)) (attribute_row_under p f (proper_kind e.kind)) e (link-peerless f) (link-inside f (proper_kind e.kind) e.payload a);
-    following = λ c e. ap list_in (link-stays f _ _);
+    following = λ c e. link-stays f j _ _;
   }
 
   -- the attributes of each family

@@ -11,22 +11,22 @@ use Rattle.attribute_tables_grammar.specs.Peers.{Peer}
 use Rattle.attribute_tables_grammar.specs.Tables.{Table}
 use Rattle.attribute_tables_grammar.proofs.LookUps.{list-rows}
 use Rattle.attribute_tables_grammar.proofs.Lists.{accepted_list}
-use Rattle.link_capture_quirks.specs.declared.tables.Listed.{Listed}
+use Rattle.link_capture_quirks.specs.QuirkTables.{Listing}
 use Rattle.link_capture_quirks.specs.QuirkLists.{direct_quirks, inside_of, list_kind_after, inside_quirks, list_quirks}
 use Rattle.link_capture_quirks.specs.QuirkLaws.{ListsUnfoldByAttributes}
 
 -- what a list's rule writes has no quirk as a list of this kind
-abbrev pub HasNone : Listed → Rule → Type 0
+abbrev pub HasNone : Listing → Rule → Type 0
 HasNone l r = (offset : ℕ) (b : List ℕ) → r.accepted b ≡ true → list_quirks l offset (r.canonical b) ≡ []
 
 -- the list inside an attribute with this payload has no quirk, if there is one
-abbrev pub NoneInside : Option (Listed × ℕ) → List ℕ → Type 0
+abbrev pub NoneInside : Option (Listing × ℕ) → List ℕ → Type 0
 NoneInside o q = (offset : ℕ) → inside_quirks list_quirks offset o q ≡ []
 
 -- An attribute, as its row writes it, has no quirk, neither itself nor inside, and the context determines the kind of
 -- list after it.
-pub record WritesNoQuirks (g : Grammar) (form : ListForm) (listed : Context → Listed) : Type 0 where
-  pub direct : (c : Context) (e : Attribute) (offset : ℕ) → is_kept form e ≡ true → (row_of g c e).rule.accepted e.payload ≡ true → direct_quirks (listed c) offset (rewrite (row_of g c e) e) ≡ []
+pub record WritesNoQuirks (g : Grammar) (form : ListForm) (listed : Context → Listing) : Type 0 where
+  pub direct : (c : Context) (e : Attribute) (offset : ℕ) → is_kept form e ≡ true → (row_of g c e).rule.accepted e.payload ≡ true → direct_quirks (listed c).table offset (rewrite (row_of g c e) e) ≡ []
   pub inner : (c : Context) (e : Attribute) → (row_of g c e).rule.accepted e.payload ≡ true → NoneInside (inside_of (listed c) (rewrite (row_of g c e) e)) ((row_of g c e).rule.canonical e.payload)
   pub following : (c : Context) (e : Attribute) → list_kind_after (listed c) (rewrite (row_of g c e) e) ≡ listed (g.next c e)
 
@@ -52,7 +52,7 @@ all-kept ports es = filtered ports (λ e h. h) es
 all-kept form es = every form (λ e. refl) es
 
 module _ (s : ListsUnfoldByAttributes) where
-  module _ (g : Grammar) (form : ListForm) (listed : Context → Listed) (q : WritesNoQuirks g form listed) where
+  module _ (g : Grammar) (form : ListForm) (listed : Context → Listing) (q : WritesNoQuirks g form listed) where
     text-none : (c : Context) (offset : ℕ) (es : List Attribute) → AllKept form es → all_accepted g c es ≡ true → list_quirks (listed c) offset (list_text (rewritten g c es)) ≡ []
     unfolding rewritten all_accepted list_text first_attribute
     text-none c offset [] k a = s.none (listed c) offset [] refl
@@ -74,6 +74,6 @@ module _ (s : ListsUnfoldByAttributes) where
         ap (λ t. list_quirks (listed nothing) offset t) k.canonical ∙ text-none nothing offset (kept form k.es) (all-kept form k.es) k.accepted
 
   -- a list whose rows are the same for every position
-  pub rows-none : (p : Peer) (form : ListForm) (t : Table) (l : Listed) → WritesNoQuirks (without_context (table_row p t)) form (λ c. l) → HasNone l (list_of p form t)
+  pub rows-none : (p : Peer) (form : ListForm) (t : Table) (l : Listing) → WritesNoQuirks (without_context (table_row p t)) form (λ c. l) → HasNone l (list_of p form t)
   unfolding rows_rule
   rows-none p form t l q = subst (HasNone l) (sym (list-rows p form t)) (list-none (without_context (table_row p t)) form (λ c. l) q)

@@ -7,14 +7,13 @@ use Rattle.link_capture_grammar.specs.declared.fault.CaptureFault.{CaptureFault}
 use Rattle.link_capture_grammar.specs.Bodies.{is_link_type}
 use Rattle.link_capture_grammar.specs.Captures.{Judged, first_frame}
 use Rattle.link_capture_quirks.specs.declared.quirk_at.QuirkAt.{QuirkAt}
-use Rattle.link_capture_quirks.specs.declared.tables.Listed.{Listed}
-use Rattle.link_capture_quirks.specs.QuirkTables.{family_table}
+use Rattle.link_capture_quirks.specs.QuirkTables.{Listing, family_table, whole}
 use Rattle.link_capture_quirks.specs.QuirkRows.{header_quirk}
 use Rattle.link_capture_quirks.specs.QuirkLists.{quirks_at, list_quirks}
 
 -- The list of the attributes of a link's body, inside which peers are judged.
-abbrev pub body_list : List ℕ → Listed
-body_list b = record { table = family_table (slice_index b 0); judged = true }
+abbrev pub body_list : List ℕ → Listing
+body_list b = whole (family_table (slice_index b 0)) true
 
 -- The quirks of a link's body at `offset`, in a message of type t.
 unfoldable pub link_quirks : ℕ → ℕ → List ℕ → List QuirkAt

@@ -20,20 +20,20 @@ use Rattle.link_capture_quirks.specs.declared.tables.Table.{Table}
 use Rattle.link_capture_quirks.specs.declared.tables.Table.TheVariants.{Unspec, Bridge, Link, Inet, Programs, Functions}
 use Rattle.link_capture_quirks.specs.declared.tables.Table.TheVariants.{OfKind}
 use Rattle.link_capture_quirks.specs.QuirkRows.{header_quirk}
-use Rattle.link_capture_quirks.specs.declared.tables.Listed.{Listed}
+use Rattle.link_capture_quirks.specs.QuirkTables.{Listing, whole}
 use Rattle.link_capture_quirks.specs.QuirkLists.{direct_quirks, inside_of, list_kind_after, inside_quirks, list_quirks}
 use Rattle.link_capture_quirks.specs.CaptureQuirks.{frame_quirks, quirks_after}
 
 -- The quirks of a list are those of its first attribute, of the list inside that, and of the rest. If no whole
 -- attribute is left, there are none.
 pub record ListsUnfoldByAttributes : Type 0 where
-  pub next : (l : Listed) (offset : ℕ) (bytes : List ℕ) (e : Attribute) (after : List ℕ) →
+  pub next : (l : Listing) (offset : ℕ) (bytes : List ℕ) (e : Attribute) (after : List ℕ) →
       first_attribute bytes ≡ Some (e, after) →
       list_quirks l offset bytes ≡
-      direct_quirks l offset e ++
+      direct_quirks l.table offset e ++
       (inside_quirks list_quirks (offset + 4) (inside_of l e) e.payload ++
       list_quirks (list_kind_after l e) (offset + nla_align (attribute_length e)) after)
-  pub none : (l : Listed) (offset : ℕ) (bytes : List ℕ) → first_attribute bytes ≡ None → list_quirks l offset bytes ≡ []
+  pub none : (l : Listing) (offset : ℕ) (bytes : List ℕ) → first_attribute bytes ≡ None → list_quirks l offset bytes ≡ []
 
 -- The quirks of a capture are those of its first frame, and of the bytes after it and its padding. From a faulty frame
 -- on there are none.
@@ -70,45 +70,21 @@ IsDataTable _ t = ⊥
 -- it is written.
 pub record WrittenAttributesHaveNone : Type 0 where
   -- attributes of a link
-  pub link : (p : Peer) (f : Family) (judged : Bool) (offset : ℕ) (e : Attribute) →
+  pub link : (p : Peer) (f : Family) (offset : ℕ) (e : Attribute) →
       (attribute_row_under p f (proper_kind e.kind)).rule.accepted e.payload ≡ true →
-      direct_quirks (record {
-        table = link_list f;
-        judged =
-            judged;
-      }) offset (rewrite (attribute_row_under p f (proper_kind e.kind)) e) ≡ []
+      direct_quirks (link_list f) offset (rewrite (attribute_row_under p f (proper_kind e.kind)) e) ≡ []
   -- of the data of a kind of link
-  pub of_kind : (p : Peer) (d : Data) (t : Rows) (judged : Bool) (offset : ℕ) (e : Attribute) → IsDataTable d t →
-      direct_quirks (record {
-        table = OfKind d;
-        judged =
-            judged;
-      }) offset (rewrite (table_row p t (proper_kind e.kind)) e) ≡ []
+  pub of_kind : (p : Peer) (d : Data) (t : Rows) (offset : ℕ) (e : Attribute) → IsDataTable d t →
+      direct_quirks (OfKind d) offset (rewrite (table_row p t (proper_kind e.kind)) e) ≡ []
   -- of the settings of IPv4, and of programs
-  pub settings : (p : Peer) (judged : Bool) (offset : ℕ) (e : Attribute) →
-      direct_quirks (record {
-        table = Inet;
-        judged =
-            judged;
-      }) offset (rewrite (table_row p inet (proper_kind e.kind)) e) ≡ []
-  pub programs : (p : Peer) (judged : Bool) (offset : ℕ) (e : Attribute) →
-      direct_quirks (record {
-        table = Programs;
-        judged =
-            judged;
-      }) offset (rewrite (table_row p xdp (proper_kind e.kind)) e) ≡ []
+  pub settings : (p : Peer) (offset : ℕ) (e : Attribute) →
+      direct_quirks Inet offset (rewrite (table_row p inet (proper_kind e.kind)) e) ≡ []
+  pub programs : (p : Peer) (offset : ℕ) (e : Attribute) →
+      direct_quirks Programs offset (rewrite (table_row p xdp (proper_kind e.kind)) e) ≡ []
   -- of the virtual functions that are kept
-  pub functions : (p : Peer) (judged : Bool) (offset : ℕ) (e : Attribute) → is_kept of_kind_one e ≡ true →
-      direct_quirks (record {
-        table = Functions;
-        judged =
-            judged;
-      }) offset (rewrite (table_row p vf_infos (proper_kind e.kind)) e) ≡ []
+  pub functions : (p : Peer) (offset : ℕ) (e : Attribute) → is_kept of_kind_one e ≡ true →
+      direct_quirks Functions offset (rewrite (table_row p vf_infos (proper_kind e.kind)) e) ≡ []
   -- the text of a pair's data has no attribute after the first one, and no quirk
   pub pair : (p : Peer) (offset : ℕ) (b : List ℕ) → (list_rule first_only (grammar p pair)).accepted b ≡ true →
-      list_quirks (record {
-        table = OfKind Pair;
-        judged =
-            false;
-      }) offset ((list_rule first_only (grammar p pair)).canonical b) ≡ []
+      list_quirks (whole (OfKind Pair) false) offset ((list_rule first_only (grammar p pair)).canonical b) ≡ []
   pub header : (t : ℕ) (b : List ℕ) → header_quirk t (header_text b) ≡ None

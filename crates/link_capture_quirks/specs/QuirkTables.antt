@@ -1,15 +1,15 @@
 -- The lists in which encoding quirks occur: the list inside an attribute, and the list kind of the attributes after it.
 use Rattle.std.specs.Prelude.{ℕ, ◌+◌, ◌==◌, ◌&&◌, ◌||◌, nat_le, Bool, true, false, cond, List, length, slice_index}
 use Rattle.std.specs.Prelude.{Option, Some, None}
-use Rattle.netlink_packet_core_grammar.specs.Texts.{without_nul}
-use Rattle.link_tables.specs.declared.kinds.TheConstants.{KINDS}
+use Rattle.attribute_tables_grammar.specs.Lists.{Context, nothing}
+use Rattle.attribute_tables_grammar.specs.Tables.{info_next}
 use Rattle.link_tables.specs.declared.rows.Form.TheVariants.{FirstOnly}
 use Rattle.link_tables.specs.declared.rows.Held.{Held}
 use Rattle.link_tables.specs.declared.rows.Held.TheVariants.{List as HeldList}
 use Rattle.link_tables.specs.declared.table.Table.{Table as Shared}
 use Rattle.link_tables.specs.declared.table.TheConstants.{LINK_UNSPEC, LINK_BRIDGE, VXLAN, GENEVE, GRE, GRE6}
 use Rattle.link_tables.specs.declared.table.TheConstants.{IP4_TUNNEL, IP6_TUNNEL, BAREUDP, BATADV, NETKIT, VETH, VXCAN}
-use Rattle.link_tables.specs.Names.{held_by_name}
+use Rattle.link_tables.specs.InForce.{held_in_force, in_force}
 use Rattle.link_tables.specs.Tables as tables
 use Rattle.link_capture_quirks.specs.declared.tables.Data.{Data}
 use Rattle.link_capture_quirks.specs.declared.tables.Data.TheVariants.{Other, Vxlan, Geneve, Gre, Gre6, IpTunnel}
@@ -34,11 +34,36 @@ data_in (HeldList FirstOnly t) = cond (t.0 == VETH.0 || t.0 == VXCAN.0) Pair Oth
 data_in (HeldList form t) = data_of t.0
 data_in held = Other
 
--- The data of the kind of link with a name.
-unfoldable pub data_named : List ℕ → Data
-data_named n = data_in (held_by_name KINDS n)
+-- The list that a payload of the shared tables is, if it is one.
+abbrev pub data_list : Held → Option Table
+data_list (HeldList form t) = Some (OfKind (data_in (HeldList form t)))
+data_list held = None
+
+-- The list that a payload is, if it is known which.
+abbrev pub held_list : Option Held → Option Table
+held_list None = None
+held_list (Some held) = data_list held
+
+-- The list in an attribute of link info, under the kinds in force.
+abbrev pub info_list : Context → ℕ → Option Table
+info_list c k = held_list (held_in_force c k)
 
 -- ---- lists
+
+-- A list from some attribute on: its kind, the kinds of link and of port in force there, and whether peers inside the
+-- list are judged.
+pub record Listing : Type 0 where
+  pub table : Table
+  pub context : Context
+  pub judged : Bool
+
+-- The list that a list in code represents.
+abbrev pub listing : Listed → Listing
+listing l = record { table = l.table; context = in_force l.force; judged = l.judged }
+
+-- A list from its first attribute on.
+abbrev pub whole : Table → Bool → Listing
+whole t judged = record { table = t; context = nothing; judged = judged }
 
 -- The attributes of a link, by their table.
 abbrev pub link_attributes : Shared → Table
@@ -53,32 +78,36 @@ abbrev pub next_data : Data → Data
 next_data Pair = AfterFirst
 next_data d = d
 
--- The list kind of the attributes after an attribute whose kind has no flag bits: the same one; in link info with the
--- kind in force.
-abbrev pub next_table : Table → ℕ → List ℕ → Table
-next_table (Info d) k p = cond (k == 1) (Info (data_named (without_nul p))) (Info d)
-next_table (OfKind d) k p = OfKind (next_data d)
-next_table t k p = t
+-- The list kind of the attributes after an attribute: the same one, but for data.
+abbrev pub next_table : Table → Table
+next_table (OfKind d) = OfKind (next_data d)
+next_table t = t
 
--- The same list kind for the attributes after an attribute, with whether peers are judged.
-abbrev pub next_list : Listed → ℕ → List ℕ → Listed
-next_list l k p = record { table = next_table l.table k p; judged = l.judged }
+-- The kinds in force after an attribute whose kind has no flag bits.
+abbrev pub next_context : Table → Context → ℕ → List ℕ → Context
+next_context Info c k p = info_next c k p
+next_context t c k p = c
+
+-- The rest of a list after an attribute.
+abbrev pub next_list : Listing → ℕ → List ℕ → Listing
+next_list l k p =
+    record { table = next_table l.table; context = next_context l.table l.context k p; judged = l.judged }
 
 -- ---- the list inside an attribute
 
 -- The list inside an attribute of a link, of every address family.
 abbrev pub inside_link : ℕ → Option Table
 inside_link k =
-    cond (k == 18) (Some (Info Other)) (cond (k == 22) (Some Functions) (cond (k == 43) (Some Programs) None))
+    cond (k == 18) (Some Info) (cond (k == 22) (Some Functions) (cond (k == 43) (Some Programs) None))
 
 -- The list inside an attribute, unless it is a peer.
-abbrev pub inside_table : Table → ℕ → Option Table
-inside_table Unspec k = cond (k == 26) (Some Families) (inside_link k)
-inside_table Bridge k = inside_link k
-inside_table Link k = inside_link k
-inside_table (Info d) k = cond (k == 2) (Some (OfKind d)) None
-inside_table Families k = cond (k == 2) (Some Inet) None
-inside_table _ k = None
+abbrev pub inside_table : Table → Context → ℕ → Option Table
+inside_table Unspec c k = cond (k == 26) (Some Families) (inside_link k)
+inside_table Bridge c k = inside_link k
+inside_table Link c k = inside_link k
+inside_table Info c k = info_list c k
+inside_table Families c k = cond (k == 2) (Some Inet) None
+inside_table _ c k = None
 
 -- Attributes of kind 1 in these data are peers.
 abbrev pub has_peer : Table → Bool
@@ -87,21 +116,19 @@ has_peer (OfKind Pair) = true
 has_peer _ = false
 
 -- The attribute is a peer, which is judged here and has a header.
-abbrev pub is_judged_peer : Listed → ℕ → List ℕ → Bool
+abbrev pub is_judged_peer : Listing → ℕ → List ℕ → Bool
 is_judged_peer l k p = (k == 1) && (l.judged && (nat_le 16 (length p) && has_peer l.table))
 
 -- A list that is the whole payload of an attribute.
-abbrev pub at_payload_start : Listed → Option Table → Option (Listed × ℕ)
+abbrev pub at_payload_start : Listing → Option Table → Option (Listing × ℕ)
 at_payload_start l None = None
-at_payload_start l (Some t) = Some (record { table = t; judged = l.judged }, 0)
+at_payload_start l (Some t) = Some (whole t l.judged, 0)
 
 -- The list inside an attribute, and the number of bytes before it in the payload: 16 for the header of a peer.
-unfoldable pub inside : Listed → ℕ → List ℕ → Option (Listed × ℕ)
+unfoldable pub inside : Listing → ℕ → List ℕ → Option (Listing × ℕ)
 inside l k p =
-    cond (is_judged_peer l k p) (Some (
-      record { table = family_table (slice_index p 0); judged = false },
-      16,
-    )) (at_payload_start l (inside_table l.table k))
+    cond (is_judged_peer l k p) (Some (whole (family_table (slice_index p 0)) false, 16))
+    (at_payload_start l (inside_table l.table l.context k))
 
 -- ---- how deeply lists are nested
 
@@ -110,10 +137,10 @@ abbrev pub table_depth : Table → ℕ
 table_depth Unspec = 2
 table_depth Bridge = 2
 table_depth Link = 2
-table_depth (Info d) = 1
+table_depth Info = 1
 table_depth Families = 1
 table_depth _ = 0
 
 -- How many levels of lists a list may have inside; a judged peer adds three.
-abbrev pub depth : Listed → ℕ
+abbrev pub depth : Listing → ℕ
 depth l = cond l.judged 3 0 + table_depth l.table

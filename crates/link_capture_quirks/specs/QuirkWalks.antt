@@ -5,13 +5,13 @@ use Rattle.link_capture_grammar.specs.declared.fault.CaptureFault.{CaptureFault}
 use Rattle.link_capture_grammar.specs.Captures.{first_fault, shifted}
 use Rattle.link_capture_quirks.specs.declared.quirk_at.QuirkAt.{QuirkAt}
 use Rattle.link_capture_quirks.specs.declared.walk.Level.{Level}
-use Rattle.link_capture_quirks.specs.QuirkTables.{depth}
+use Rattle.link_capture_quirks.specs.QuirkTables.{depth, listing}
 use Rattle.link_capture_quirks.specs.QuirkLists.{list_quirks}
 use Rattle.link_capture_quirks.specs.CaptureQuirks.{quirks_after}
 
 -- The quirks of the rest of one list.
 abbrev pub level_quirks : Level → List QuirkAt
-level_quirks l = list_quirks l.list l.offset l.rest.now
+level_quirks l = list_quirks (listing l.list) l.offset l.rest.now
 
 -- The quirks of the rest of nested lists, each inside the one before it.
 abbrev pub levels_quirks : List Level → List QuirkAt
@@ -30,7 +30,7 @@ walk_quirks first second levels = optional_quirk first ++ (optional_quirk second
 -- The list l may be the n-th of nested lists: there is space for those inside it, and its offsets fit the machine's
 -- integers.
 pub record IsWithin (n : ℕ) (l : Level) : Type 0 where
-  pub depth_fits : n + depth l.list ≤ 5
+  pub depth_fits : n + depth (listing l.list) ≤ 5
   pub near : 0 < length l.rest.now → l.offset + length l.rest.now < 2 ^ 63
 
 -- Each of these nested lists, of which the first is the n-th, is within these bounds.

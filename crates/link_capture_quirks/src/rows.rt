@@ -116,7 +116,7 @@ fn payload_quirk(table: Table, kind: u16, payload: &[u8]) -> Option<Quirk>
         Table::Inet => quirk_if(kind == 1 && payload.len() != 132, Quirk::ResizedSettings),
         Table::Functions => quirk_if(kind != 1, Quirk::UnexpectedFunction),
         Table::OfKind(kind_data) => data_quirk(kind_data, kind, payload),
-        Table::Info(_) | Table::Families | Table::Programs => None,
+        Table::Info | Table::Families | Table::Programs => None,
     }
 }
 

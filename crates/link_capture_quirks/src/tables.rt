@@ -1,12 +1,12 @@
 //! The lists in which encoding quirks occur, as far as their quirks differ.
 
-ghost use Rattle.std.specs.Prelude.{◌≡◌, ◌≤◌, ◌<◌, length, IfSome};
-ghost use Rattle.link_capture_quirks.specs.QuirkTables.{data_of, data_in, data_named};
-ghost use Rattle.link_capture_quirks.specs.QuirkTables.{family_table, next_table, next_list, inside_table};
-ghost use Rattle.link_capture_quirks.specs.QuirkTables.{has_peer, inside, table_depth, depth};
+ghost use Rattle.std.specs.Prelude.{◌≡◌, ◌≤◌, ◌<◌, length, option_map, IfSome};
+ghost use Rattle.link_tables.specs.InForce.{in_force};
+ghost use Rattle.link_capture_quirks.specs.QuirkTables.{data_of, data_in, data_list, info_list};
+ghost use Rattle.link_capture_quirks.specs.QuirkTables.{family_table, next_table, next_context, next_list, inside_link, inside_table};
+ghost use Rattle.link_capture_quirks.specs.QuirkTables.{has_peer, inside, listing, whole, table_depth, depth};
 
-use link_tables::{Form, Held, data_held, table};
-use netlink_packet_core_numbers::without_nul;
+use link_tables::{Form, Held, InForce, NO_KINDS, info_held, next_force, table};
 
 // The indexes of the shared tables in whose rows quirks differ.
 const LINK_UNSPEC: u8 = table::LINK_UNSPEC.0;
@@ -66,8 +66,8 @@ pub enum Table {
     Bridge,
     /// The attributes of a link of any other family.
     Link,
-    /// IFLA_LINKINFO, with the data of the kind in force.
-    Info(Data),
+    /// IFLA_LINKINFO.
+    Info,
     /// IFLA_AF_SPEC of AF_UNSPEC.
     Families,
     /// AF_INET in IFLA_AF_SPEC.
@@ -80,11 +80,26 @@ pub enum Table {
     OfKind(Data),
 }
 
-/// A list kind, and whether peers inside the list are judged.
+/// A list from some attribute on: its kind, the kinds of link and of port in force there, and
+/// whether peers inside the list are judged.
 #[derive(Clone, Copy)]
-pub struct Listed {
+pub struct Listed<'a> {
     pub table: Table,
+    pub force: InForce<'a>,
     pub judged: bool,
+}
+
+impl<'a> Listed<'a> {
+    /// Returns a list from its first attribute on.
+    pub fn new(table: Table, judged: bool) -> Self
+        ensures { listing result ≡ whole table judged }
+    {
+        Listed {
+            table,
+            force: NO_KINDS,
+            judged,
+        }
+    }
 }
 
 /// Returns the data with the rows of a table, by its index.
@@ -121,12 +136,24 @@ fn data_in(held: Held) -> Data
     }
 }
 
-/// Returns the data of the kind of link with a name.
-#[tactic(auto, unfolding(crate::specs::QuirkTables::data_named))]
-fn data_named(name: &[u8]) -> Data
-    ensures { result ≡ data_named name.now }
+/// Returns the list that a payload of the shared tables is, if it is one.
+fn data_list(held: Held) -> Option<Table>
+    ensures { result ≡ data_list held }
 {
-    data_in(data_held(name))
+    match held {
+        Held::List(form, table) => Some(Table::OfKind(data_in(Held::List(form, table)))),
+        _ => None,
+    }
+}
+
+/// Returns the list in an attribute of link info, under the kinds in force.
+fn info_list(force: InForce<'_>, kind: u16) -> Option<Table>
+    ensures { result ≡ info_list (in_force force.entry) kind }
+{
+    match info_held(force, kind) {
+        Some(held) => data_list(held),
+        None => None,
+    }
 }
 
 /// Returns the list kind of the attributes of a link of an address family.
@@ -143,36 +170,46 @@ pub fn family_table(family: u8) -> Table
     }
 }
 
-/// Returns the list kind of the attributes after an attribute: the same one, with the kind in force
-/// there.
-fn next_table(table: Table, kind: u16, payload: &[u8]) -> Table
-    ensures next { result ≡ next_table table kind payload.now }
+/// Returns the list kind of the attributes after an attribute.
+fn next_table(table: Table) -> Table
+    ensures next { result ≡ next_table table }
     ensures as_deep { table_depth result ≡ table_depth table }
 {
     match table {
-        Table::Info(_) if kind == 1 => Table::Info(data_named(without_nul(payload))),
         Table::OfKind(Data::Pair) => Table::OfKind(Data::AfterFirst),
         _ => table,
     }
 }
 
-/// Returns the list kind of the attributes after an attribute, with whether peers are judged.
-pub fn next_list(list: Listed, kind: u16, payload: &[u8]) -> Listed
-    ensures next { result ≡ next_list list kind payload.now }
-    ensures as_deep { depth result ≡ depth list }
+/// Returns the kinds in force after an attribute of a list.
+fn force_after<'a>(list: Listed<'a>, kind: u16, payload: &'a [u8]) -> InForce<'a>
+    ensures { in_force result
+        ≡ next_context list.entry.table (in_force list.entry.force) kind payload.now }
+{
+    match list.table {
+        Table::Info => next_force(list.force, kind, payload),
+        _ => list.force,
+    }
+}
+
+/// Returns the rest of a list after an attribute, whose kind has no flag bits.
+pub fn next_list<'a>(list: Listed<'a>, kind: u16, payload: &'a [u8]) -> Listed<'a>
+    ensures next { listing result ≡ next_list (listing list.entry) kind payload.now }
+    ensures as_deep { depth (listing result) ≡ depth (listing list.entry) }
 {
     Listed {
-        table: next_table(list.table, kind, payload),
+        table: next_table(list.table),
+        force: force_after(list, kind, payload),
         judged: list.judged,
     }
 }
 
 /// Returns the list in an attribute of a link.
 fn inside_link(kind: u16) -> Option<Table>
-    ensures { result ≡ inside_table Table.Link kind }
+    ensures { result ≡ inside_link kind }
 {
     match kind {
-        18 => Some(Table::Info(Data::Other)),
+        18 => Some(Table::Info),
         22 => Some(Table::Functions),
         43 => Some(Table::Programs),
         _ => None,
@@ -180,13 +217,13 @@ fn inside_link(kind: u16) -> Option<Table>
 }
 
 /// Returns the list in an attribute, unless it is a peer.
-fn inside_table(table: Table, kind: u16) -> Option<Table>
-    ensures { result ≡ inside_table table kind }
+fn inside_table(table: Table, force: InForce<'_>, kind: u16) -> Option<Table>
+    ensures { result ≡ inside_table table (in_force force.entry) kind }
 {
     match table {
         Table::Unspec if kind == 26 => Some(Table::Families),
         Table::Unspec | Table::Bridge | Table::Link => inside_link(kind),
-        Table::Info(data) if kind == 2 => Some(Table::OfKind(data)),
+        Table::Info => info_list(force, kind),
         Table::Families if kind == 2 => Some(Table::Inet),
         _ => None,
     }
@@ -202,26 +239,17 @@ fn has_peer(table: Table) -> bool
 /// Returns the list in an attribute, and the number of bytes before it: 16 for a peer's header,
 /// which is a link's.
 #[tactic(auto, unfolding(crate::specs::QuirkTables::inside))]
-pub fn inside(list: Listed, kind: u16, payload: &[u8]) -> Option<(Listed, usize)>
-    ensures inside { result ≡ inside list kind payload.now }
+pub fn inside<'a>(list: Listed<'a>, kind: u16, payload: &'a [u8]) -> Option<(Listed<'a>, usize)>
+    ensures inside { option_map (λ x. (listing x.0, x.1)) result
+        ≡ inside (listing list.entry) kind payload.now }
     ensures header_size { IfSome result (λ x. x.1 ≤ length payload.now) }
-    ensures lower { IfSome result (λ x. depth x.0 < depth list) }
+    ensures lower { IfSome result (λ x. depth (listing x.0) < depth (listing list.entry)) }
 {
     if kind == 1 && list.judged && payload.len() >= 16 && has_peer(list.table) {
-        let peer = Listed {
-            table: family_table(payload[0]),
-            judged: false,
-        };
-        return Some((peer, 16));
+        return Some((Listed::new(family_table(payload[0]), false), 16));
     }
-    match inside_table(list.table, kind) {
-        Some(table) => {
-            let inner = Listed {
-                table,
-                judged: list.judged,
-            };
-            Some((inner, 0))
-        }
+    match inside_table(list.table, list.force, kind) {
+        Some(table) => Some((Listed::new(table, list.judged), 0)),
         None => None,
     }
 }

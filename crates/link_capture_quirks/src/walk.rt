@@ -26,7 +26,7 @@ const DEPTH: usize = 6;
 /// The rest of a list, and its offset in bytes from the capture's start.
 #[derive(Clone, Copy, Drop)]
 pub(crate) struct Level<'a> {
-    pub list: Listed,
+    pub list: Listed<'a>,
     pub offset: usize,
     pub rest: &'a [u8],
 }
@@ -34,10 +34,7 @@ pub(crate) struct Level<'a> {
 impl Default for Level<'_> {
     fn default() -> Self {
         Level {
-            list: Listed {
-                table: Table::Link,
-                judged: false,
-            },
+            list: Listed::new(Table::Link, false),
             offset: 0,
             rest: &[],
         }
@@ -105,11 +102,9 @@ impl<'a> Walk<'a> {
         let start = offset + NETLINK_HEADER_LEN;
         self.first = quirk_at(start + 1, header_quirk(message_type, body));
         self.second = None;
+        let list = Listed::new(family_table(body[0]), true);
         self.levels.push(Level {
-            list: Listed {
-                table: family_table(body[0]),
-                judged: true,
-            },
+            list,
             offset: start + LINK_HEADER_LEN,
             rest: following(body, LINK_HEADER_LEN),
         });

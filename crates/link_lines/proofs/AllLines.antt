@@ -1,7 +1,7 @@
 -- All lines of a message are shown.
 use Rattle.std.proofs.Common.{◌≡◌, ℕ, Bool, true, false, cond, List, [], Option, None, Some, refl, sym, ap, ◌∙◌}
-use Rattle.link_lines_filter.specs.Laws.{NothingOmittedKeepsAll}
-use Rattle.link_lines_filter.specs.Remaining.{nothing_omitted, remaining_lines}
+use Rattle.link_lines.specs.MessageLaws.{NothingOmittedKeepsAll}
+use Rattle.link_lines.specs.Remaining.{nothing_omitted, remaining_lines}
 use Rattle.link_lines.specs.MessageLines.{IsWhole, Selection, is_about_any, placed_lines, selected}
 
 pub all_selected : NothingOmittedKeepsAll → (o : Selection) → IsWhole o → (lines : List ℕ) → selected o lines ≡ lines

@@ -8,6 +8,16 @@ pub mod Passing
 pub mod Stepping
 pub mod Reaching
 pub mod Progress
+pub mod Selecting
 pub mod WordLists
 pub mod TypeNames
 pub mod Gathered
+pub mod ReasonLines
+pub mod FaultyDetermined
+pub mod MessagesDetermined
+pub mod ContentsDetermined
+pub mod OffsetsDetermined
+pub mod FirstParts
+pub mod FirstLines
+pub mod QuotedWords
+pub mod Keeping

@@ -5,7 +5,7 @@ use Rattle.link_message_grammar.specs.Body.{link_body}
 use Rattle.link_capture_grammar.specs.Captures.{Judged, first_frame, next_texts, texts_after, texts_after_under}
 use Rattle.link_capture_grammar.specs.Laws.{CapturesUnfoldByFrames}
 use Rattle.link_capture_grammar.specs.declared.fault.FaultKind.{FaultKind}
-use Rattle.link_lines_filter.specs.Laws.{NothingOmittedKeepsAll}
+use Rattle.link_lines.specs.MessageLaws.{NothingOmittedKeepsAll}
 use Rattle.link_lines_texts.specs.Captures.{Choice, text_lines}
 use Rattle.link_lines_texts.specs.Laws.{LinesAreJoined}
 use Rattle.link_lines.specs.MessageLaws.{LinesOfMessagesAreOfTexts, plain}

@@ -240,9 +240,9 @@ module _ (go : MessagesUnfold) (law : FirstFaultsAreReported) (o : Selection) (l
       }
 
   -- The same statement for the bytes that are left.
-  pub continues : (total passed : ℕ) (left : List ℕ) (holds_new : Option (List ℕ)) → left ≡ drop passed whole → Consumes come_between come_new p → Appends holds_between holds_new new → total ≡ min (written + length new) (2 ^ 64 - 1) → passed ≡ min to (length whole) → to ≤ length whole + 3 → start + length whole < 2 ^ 64 → AreCut limit (to - passed) (drop passed whole) →
-      Came o limit (start + passed) (to - passed) left then total come_old come_new holds_old holds_new (s ++ p)
-  continues total passed left holds_new e consumed wrote count is near fits cut =
+  pub continues : (total passed : ℕ) (kept_bytes : List ℕ) (holds_new : Option (List ℕ)) → kept_bytes ≡ drop passed whole → Consumes come_between come_new p → Appends holds_between holds_new new → total ≡ min (written + length new) (2 ^ 64 - 1) → passed ≡ min to (length whole) → to ≤ length whole + 3 → start + length whole < 2 ^ 64 → AreCut limit (to - passed) (drop passed whole) →
+      Came o limit (start + passed) (to - passed) kept_bytes then total come_old come_new holds_old holds_new (s ++ p)
+  continues total passed kept_bytes holds_new e consumed wrote count is near fits cut =
       subst (λ x. Came o limit (start + passed) (to - passed) x then total come_old come_new holds_old holds_new (s ++ p)) (sym e) (continues_after total passed holds_new consumed wrote count is near fits cut)
 
 -- A failure of the sink has no reason.

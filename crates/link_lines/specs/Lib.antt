@@ -1,3 +1,8 @@
+pub mod Lines
+pub mod Names
+pub mod Remaining
+pub mod About
+pub mod Offsets
 pub mod Messages
 pub mod MessageLines
 pub mod Options

@@ -3,10 +3,15 @@ use Rattle.std.specs.Prelude.{◌≡◌, ℕ, ◌%◌, List, ◌++◌, length, V
 use Rattle.link_capture_grammar.specs.Captures.{texts, IsLegal}
 use Rattle.link_capture_grammar.specs.Same.{SameCapture}
 use Rattle.link_lines_texts.specs.Captures.{Choice, lines}
+use Rattle.link_lines.specs.MessageLines.{Selection, shown}
 
 -- A buffer gained the lines of c, up to its first fault.
 abbrev pub GainsLines : {Y Z : Type 0} → Choice → ℕ → List ℕ → Vec ℕ Y → Vec ℕ Z → Type 0
 GainsLines o limit c old new = new.items ≡ old.items ++ lines o limit c
+
+-- A buffer gained the lines of c that are selected.
+abbrev pub GainsShown : {Y Z : Type 0} → Selection → ℕ → List ℕ → Vec ℕ Y → Vec ℕ Z → Type 0
+GainsShown o limit c old new = new.items ≡ old.items ++ shown o limit c
 
 -- Two captures are shown alike.
 abbrev pub ShownAlike : Choice → ℕ → List ℕ → List ℕ → Type 0

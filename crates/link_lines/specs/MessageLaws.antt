@@ -1,16 +1,17 @@
 -- Laws of the messages of a capture, as the functions of `message_laws` state them.
-use Rattle.std.specs.Prelude.{◌≡◌, ℕ, ◌+◌, ◌<◌, ◌^◌, Bool, true, false, List, [], ◌∷◌, ◌++◌, drop, None, option_map}
-use Rattle.std.specs.Prelude.{Ok, Err}
+use Rattle.std.specs.Prelude.{◌≡◌, ℕ, ◌+◌, ◌<◌, ◌^◌, Bool, true, false, List, [], ◌∷◌, drop, length, None}
+use Rattle.std.specs.Prelude.{Ok, Err, option_map, ◌↔◌}
 use Rattle.netlink_packet_core_grammar.specs.Attributes.{nla_align}
+use Rattle.netlink_packet_core_grammar.specs.Bytes.{AreBytes}
 use Rattle.netlink_packet_core_grammar.specs.Frames.{IsFrame, frame_length}
 use Rattle.link_capture_grammar.specs.Captures.{first_frame, first_fault}
 use Rattle.link_capture_grammar.specs.declared.fault.CaptureFault.{CaptureFault}
 use Rattle.link_capture_grammar.specs.declared.fault.FaultKind.{FaultKind}
-use Rattle.link_lines_texts.specs.Captures.{Choice, lines}
-use Rattle.link_lines_filter.specs.Remaining.{nothing_omitted}
+use Rattle.link_lines_texts.specs.Captures.{Choice, everything, lines}
+use Rattle.link_lines.specs.Remaining.{nothing_omitted, remaining_lines}
 use Rattle.link_lines.specs.MessageLines.{Selection, shown}
-use Rattle.link_lines.specs.Messages.{Message.Accepted, Message.Faulty, Message.Last, Report, first_report, frame_of}
-use Rattle.link_lines.specs.Messages.{frame_reason, is_of_body, messages, messages_at}
+use Rattle.link_lines.specs.Messages.{Message, Message.Accepted, Message.Faulty, Message.Last, Report, first_report}
+use Rattle.link_lines.specs.Messages.{frame_of, frame_reason, is_of_body, messages, messages_at}
 
 -- The messages of bytes are determined one by one.
 pub record MessagesUnfold : Type 0 where
@@ -36,6 +37,10 @@ abbrev pub FirstFaultsAreReported : Type 0
 FirstFaultsAreReported = (k : Bool) (limit : ℕ) (c : List ℕ) →
     first_report (messages k limit c) ≡ option_map (reported c) (first_fault limit c)
 
+-- All lines remain if nothing is left out.
+abbrev pub NothingOmittedKeepsAll : Type 0
+NothingOmittedKeepsAll = (text : List ℕ) → remaining_lines nothing_omitted text ≡ text
+
 -- The selection that shows all lines of a capture up to its first fault.
 abbrev pub plain : Choice → Selection
 plain choice =
@@ -45,3 +50,48 @@ plain choice =
 abbrev pub LinesOfMessagesAreOfTexts : Type 0
 LinesOfMessagesAreOfTexts = (choice : Choice) (limit : ℕ) (c : List ℕ) → limit < 2 ^ 32 →
     shown (plain choice) limit c ≡ lines choice limit c
+
+-- The selection that shows all of each message, also of one with a fault of its body.
+abbrev pub all_messages : Selection
+all_messages =
+    record { choice = everything; link = None; omitted = nothing_omitted; offsets = false; keep_going = true }
+
+-- The content of a message: the normal text of an accepted one, or the bytes of one with a fault of its body.
+pub data Content : Type 0 where
+  Text : List ℕ → Content
+  Frame : List ℕ → Content
+
+-- The contents of messages in order. One at which showing stops has none.
+abbrev pub contents : List Message → List Content
+contents [] = []
+contents (Accepted offset text ∷ more) = Text text ∷ contents more
+contents (Faulty offset kind frame ∷ more) = Frame frame ∷ contents more
+contents (Last offset kind frame ∷ more) = contents more
+
+-- Shown so, two captures have the same lines if and only if their messages have the same contents, one by one. These are
+-- all messages if each fault is one of a body. The lines of such a message leave out the length in its header, which is
+-- that of the bytes that they have; its content leaves out the fault, which its bytes determine.
+abbrev pub LinesDetermineContents : Type 0
+LinesDetermineContents = (limit : ℕ) (c d : List ℕ) → limit < 2 ^ 32 → AreBytes c → AreBytes d →
+    (shown all_messages limit c ≡ shown all_messages limit d) ↔
+    (contents (messages true limit c) ≡ contents (messages true limit d))
+
+-- The selection that also shows each message's offset.
+abbrev pub all_messages_with_offsets : Selection
+all_messages_with_offsets =
+    record { choice = everything; link = None; omitted = nothing_omitted; offsets = true; keep_going = true }
+
+-- The contents of messages in order, each with the message's offset. One at which showing stops has none.
+abbrev pub placed_contents : List Message → List (ℕ × Content)
+placed_contents [] = []
+placed_contents (Accepted offset text ∷ more) = (offset, Text text) ∷ placed_contents more
+placed_contents (Faulty offset kind frame ∷ more) = (offset, Frame frame) ∷ placed_contents more
+placed_contents (Last offset kind frame ∷ more) = placed_contents more
+
+-- Shown so, two captures of fewer than 2^64 bytes have the same lines if and only if their messages have the same
+-- contents at the same offsets.
+abbrev pub LinesDetermineOffsets : Type 0
+LinesDetermineOffsets = (limit : ℕ) (c d : List ℕ) → limit < 2 ^ 32 → AreBytes c → AreBytes d →
+    length c < 2 ^ 64 → length d < 2 ^ 64 →
+    (shown all_messages_with_offsets limit c ≡ shown all_messages_with_offsets limit d) ↔
+    (placed_contents (messages true limit c) ≡ placed_contents (messages true limit d))

@@ -8,9 +8,9 @@ use Rattle.link_capture_grammar.specs.declared.fault.FaultKind.TheVariants.{Refu
 use Rattle.link_capture_refusals.specs.ReasonTexts.{words as reason_words}
 use Rattle.link_capture_refusals.specs.Refusals.{Found, frame_refusal}
 use Rattle.link_capture_refusals.specs.RefusalTexts.{path_text}
-use Rattle.link_lines_filter.specs.About.{is_about}
-use Rattle.link_lines_filter.specs.Offsets.{with_offset}
-use Rattle.link_lines_filter.specs.Remaining.{Omitted, nothing_omitted, remaining_lines}
+use Rattle.link_lines.specs.About.{is_about}
+use Rattle.link_lines.specs.Offsets.{with_offset}
+use Rattle.link_lines.specs.Remaining.{Omitted, nothing_omitted, remaining_lines}
 use Rattle.link_lines_texts.specs.Captures.{Choice, is_chosen, text_lines}
 use Rattle.link_lines_texts.specs.Frames.{bytes_line, frame_lines}
 use Rattle.link_lines.specs.Messages.{Message, Message.Accepted, Message.Faulty, Message.Last, messages}

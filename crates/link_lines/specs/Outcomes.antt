@@ -1,6 +1,6 @@
 -- What a result says about the bytes that were read and the lines that were written.
-use Rattle.std.specs.Prelude.{◌≡◌, ℕ, ◌+◌, ◌-◌, ◌^◌, ◌≤◌, min, Bool, true, false, List, [], ◌∷◌, length, take, drop}
-use Rattle.std.specs.Prelude.{Option, None, Some, Result, Ok, Err}
+use Rattle.std.specs.Prelude.{◌≡◌, ◌⊎◌, ℕ, ◌+◌, ◌-◌, ◌^◌, ◌<◌, ◌≤◌, min, Bool, true, false, List, [], ◌∷◌, ◌++◌}
+use Rattle.std.specs.Prelude.{length, take, drop, Option, None, Some, Result, Ok, Err}
 use Rattle.std.specs.Io.KnownBytes.{Consumes, Appends}
 use Rattle.link_capture_grammar.specs.declared.fault.CaptureFault.{CaptureFault}
 use Rattle.link_capture_grammar.specs.declared.fault.FaultKind.{FaultKind}
@@ -9,13 +9,33 @@ use Rattle.link_capture_grammar.specs.Captures.{first_fault, first_frame, IsLega
 use Rattle.link_capture_reader.specs.Outcomes.{IsOpen, IsPrefix}
 use Rattle.link_capture_refusals.specs.RefusalViews.{all_found}
 use Rattle.link_lines.specs.MessageLines.{Selection, shown}
-use Rattle.link_lines.specs.Messages.{last_fault, messages}
+use Rattle.link_lines.specs.Messages.{Message, is_of_body, last_fault, messages, messages_at}
 use Rattle.link_lines.specs.Refused.{reported_refusal}
 use Rattle.link_lines.specs.declared.refused.ShowFault.{ShowFault}
 
+-- The first message of c is accepted.
+abbrev pub IsAccepted : ℕ → List ℕ → Type 0
+IsAccepted limit c = (frame : ℕ × List ℕ) × (first_frame limit c ≡ Ok frame)
+
 -- The cause of running out of memory at an offset: the message there is accepted, and its text had to be written.
 abbrev pub NeedsMemoryAt : ℕ → List ℕ → ℕ → Type 0
-NeedsMemoryAt limit c at = (frame : ℕ × List ℕ) × (first_frame limit (drop at c) ≡ Ok frame)
+NeedsMemoryAt limit c at = IsAccepted limit (drop at c)
+
+-- The first message of c has a fault of its body.
+abbrev pub HasFaultyBody : ℕ → List ℕ → Type 0
+HasFaultyBody limit c = (kind : FaultKind) × (first_frame limit c ≡ Err kind) × (is_of_body kind ≡ true)
+
+-- The first message of c is shown: it is accepted; or its body has a fault, and such messages are shown too.
+abbrev pub IsToBeShown : Bool → ℕ → List ℕ → Type 0
+IsToBeShown keep_going limit c = IsAccepted limit c ⊎ ((keep_going ≡ true) × HasFaultyBody limit c)
+
+-- Memory ran out at an offset of c: the message there is shown, and showing doesn't stop at those before it.
+pub record RunsOutAt (keep_going : Bool) (limit : ℕ) (c : List ℕ) (at : ℕ) : Type 0 where
+  pub inside : at < length c
+  pub before : List Message
+  pub all : messages keep_going limit c ≡ before ++ messages_at keep_going limit at (drop at c)
+  pub goes_on : last_fault before ≡ None
+  pub is_shown : IsToBeShown keep_going limit (drop at c)
 
 -- The first `at` bytes of s were shown: showing doesn't stop in them, or at a message that is cut, and w are their
 -- lines.

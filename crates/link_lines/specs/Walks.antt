@@ -1,5 +1,5 @@
 -- A walk over the messages of some bytes.
-use Rattle.std.specs.Prelude.{◌≡◌, ℕ, ◌+◌, ◌<◌, ◌≤◌, ◌^◌, Bool, true, false, List, [], ◌∷◌, ◌++◌, length, drop, Option}
+use Rattle.std.specs.Prelude.{◌≡◌, ℕ, ◌+◌, ◌<◌, ◌≤◌, Bool, true, false, List, [], ◌∷◌, ◌++◌, length, drop, Option}
 use Rattle.std.specs.Prelude.{None, Some, Result, Ok, Err, nat_lt, option_map}
 use Rattle.netlink_packet_core_grammar.specs.Attributes.{nla_align}
 use Rattle.netlink_packet_core_grammar.specs.Frames.{IsFrame, frame_length}
@@ -11,11 +11,12 @@ use Rattle.link_lines.specs.declared.messages.Judgement.{Judgement}
 use Rattle.link_lines.specs.declared.messages.Judgement.TheVariants as J
 use Rattle.link_lines.specs.declared.messages.Step.{Step}
 use Rattle.link_lines.specs.declared.messages.Step.TheVariants.{Next, Stop}
-use Rattle.link_lines.specs.declared.messages.Walked.{Walked}
 use Rattle.link_lines.specs.declared.refused.ShowFault.{ShowFault}
 use Rattle.link_lines.specs.Refused.{without_refusal}
 use Rattle.link_lines.specs.MessageLines.{Selection, message_lines, messages_lines}
-use Rattle.link_lines.specs.Messages.{Message, Report, first_report, is_of_body, last_fault, messages_at}
+use Rattle.link_lines.specs.Messages.{Message, Report, first_report, frame_of, is_of_body, last_fault, messages_at}
+use Rattle.link_lines.specs.Messages.{report_of}
+use Rattle.link_lines.specs.Outcomes.{IsToBeShown}
 
 -- The result for the first message of c: its length and this text; or the fault of its body, and its length; or the
 -- fault of its header.
@@ -70,10 +71,28 @@ pub record Passes (o : Selection) (limit start : ℕ) (c : List ℕ) (from to : 
   pub reports : now ≡ or_else before (first_report messages)
   pub goes_on : last_fault messages ≡ None
 
+-- The walk came to the offset `to`, at which a message is to be shown.
+pub record ComesTo (keep_going : Bool) (limit start : ℕ) (c : List ℕ) (from to : ℕ) : Type 0 where
+  pub inside : to < length c
+  pub messages : List Message
+  pub between : AreBetween keep_going limit start c from to messages
+  pub goes_on : last_fault messages ≡ None
+  pub is_shown : IsToBeShown keep_going limit (drop to c)
+
 -- The end of a walk: the bytes end, or a message stops it.
 abbrev pub Ends : Bool → ℕ → List ℕ → ℕ → Option FaultKind → Type 0
 Ends keep_going limit c to None = length c ≤ to
 Ends keep_going limit c to (Some kind) = (to < length c) × StopsThere keep_going limit (drop to c) kind
+
+-- The report of the message at an offset at which a walk ended, whose bytes are these.
+abbrev pub last_report : ℕ → Option FaultKind → List ℕ → Option Report
+last_report at None c = None
+last_report at (Some kind) c = Some (report_of at kind (frame_of c))
+
+-- The report that a result in code represents.
+abbrev pub reported_by : Result (Unit {0}) ShowFault → Option Report
+reported_by (Ok u) = None
+reported_by (Err e) = report_in (Some e)
 
 -- The result for a capture of which the bytes `rest`, at an offset, aren't shown, if this was reported and that many
 -- bytes were written.

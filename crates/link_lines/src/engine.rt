@@ -21,7 +21,7 @@ use link_capture_reader::{FirstBytes, Sink, Source, keep_first, write_all};
 use std::alloc::{AllocError, Global};
 
 /// Returns a fault of this kind at an offset, without a refusal.
-fn fault_at(kind: FaultKind, offset: u64) -> ShowFault
+pub(crate) fn fault_at(kind: FaultKind, offset: u64) -> ShowFault
     ensures { result ≡ without_refusal (record { kind = kind; offset = offset }) }
 {
     ShowFault::from(CaptureFault { kind, offset })
@@ -55,7 +55,12 @@ fn stopping_fault(last: Option<FaultKind>) -> Option<FaultKind>
 }
 
 /// Returns the first fault of a capture of which showing stops at the first message of `bytes`.
-fn stopped_by(found: Option<ShowFault>, kind: FaultKind, offset: u64, bytes: &[u8]) -> ShowFault
+pub(crate) fn stopped_by(
+    found: Option<ShowFault>,
+    kind: FaultKind,
+    offset: u64,
+    bytes: &[u8],
+) -> ShowFault
     requires { kind ≡ FaultKind.Refused → IsFrame bytes.now }
     ensures { report_in (Some result)
         ≡ or_else (report_in found) (Some (report_of offset kind (frame_of bytes.now))) }

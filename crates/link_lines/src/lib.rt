@@ -1,18 +1,25 @@
 // The lines of link captures, for people: of a whole capture as bytes, or from a source to a sink.
 #![tactic(auto)]
 
+mod about;
+mod cuts;
 mod engine;
 mod faulty;
 mod lines;
 pub mod message_laws;
 mod messages;
+mod names;
+mod offsets;
 mod options;
 mod refused;
+mod remaining;
+mod selected;
 mod types;
 mod whole;
 mod without;
 mod words;
 
+pub use about::is_about;
 pub use engine::{show, show_keeping_first};
 pub use lines::push_lines;
 pub use link_capture_commands::DEFAULT_LIMIT;
@@ -22,10 +29,13 @@ pub use link_capture_reader::{
     WriteSink, normalize_bytes, read_all, write_all,
 };
 pub use link_capture_refusals::{Reason, Refusal};
-pub use link_lines_filter::Omission;
 pub use link_lines_texts::laws;
+pub use names::{COUNTERS, INDEXES};
+pub use offsets::push_with_offset;
 pub use options::{LineOptions, ShowOptions};
 pub use refused::ShowFault;
+pub use remaining::{Omission, push_remaining};
+pub use selected::show_selected_bytes;
 pub use types::{Types, read_types};
 pub use whole::show_bytes;
 pub use without::Without;

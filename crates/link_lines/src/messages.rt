@@ -1,22 +1,23 @@
 //! The messages of a capture, one after the other.
 
-ghost use Rattle.std.specs.Prelude.{◌≡◌, ◌≤◌, ◌<◌, ◌+◌, ◌^◌, ◌++◌, length, IfOk, OnOk, Some};
+ghost use Rattle.std.specs.Prelude.{◌≡◌, ◌≤◌, ◌<◌, ◌+◌, ◌^◌, ◌++◌, length, IfErr, IfOk, OnErr, OnOk, Some};
 ghost use Rattle.netlink_packet_core_grammar.specs.Frames.{IsFrame, frame_length};
 ghost use Rattle.link_lines.specs.MessageLines.{located, message_lines, placed_lines};
 ghost use Rattle.link_lines.specs.Messages.{Message.Accepted, Message.Faulty, frame_of, report_of};
 ghost use Rattle.link_lines.specs.Options.{selection_of};
-ghost use Rattle.link_lines.specs.Walks.{Ends, IsJudged, Passes, Steps, or_else, report_in};
+ghost use Rattle.link_lines.specs.Outcomes.{IsAccepted, IsToBeShown};
+ghost use Rattle.link_lines.specs.Walks.{ComesTo, Ends, IsJudged, Passes, Steps, or_else, report_in};
 
 use crate::faulty::{fault_of, frame_of, is_of_body, push_faulty};
 use crate::lines::push_lines;
-use crate::message_laws::messages_unfold;
+use crate::message_laws::{messages_unfold, nothing_omitted_keeps_all};
+use crate::offsets::push_with_offset;
 use crate::options::ShowOptions;
 use crate::refused::ShowFault;
+use crate::remaining::push_remaining;
 use link_capture_checks::{frame_len, push_frame as push_text};
 use link_capture_grammar::fault::FaultKind;
 use link_capture_grammar::laws::{frames_are_independent, frames_are_judged};
-use link_lines_filter::laws::nothing_omitted_keeps_all;
-use link_lines_filter::{push_remaining, push_with_offset};
 use netlink_packet_core::{NetlinkBuffer, nla_align};
 use std::alloc::{AllocError, Global};
 
@@ -81,7 +82,8 @@ fn judge_frame(
 ) -> Result<Judgement, AllocError>
     requires frame { IsFrame bytes.now }
     requires len { len ≡ frame_length bytes.now }
-    ensures { IfOk result (λ judgement. IsJudged limit bytes.now text.new.items judgement) }
+    ensures ok { IfOk result (λ judgement. IsJudged limit bytes.now text.new.items judgement) }
+    ensures memory { OnErr result (IsAccepted limit bytes.now) }
 {
     text.clear();
     match push_text(bytes, limit, text) {
@@ -96,7 +98,8 @@ fn judge_frame(
 
 /// Judges the first message, and leaves its normal text in `text` if it is accepted.
 fn judge(bytes: &[u8], limit: u32, text: &mut Vec<u8>) -> Result<Judgement, AllocError>
-    ensures { IfOk result (λ judgement. IsJudged limit bytes.now text.new.items judgement) }
+    ensures ok { IfOk result (λ judgement. IsJudged limit bytes.now text.new.items judgement) }
+    ensures memory { OnErr result (IsAccepted limit bytes.now) }
 {
     frames_are_judged();
     match frame_len(bytes, limit) {
@@ -214,8 +217,9 @@ fn push_message(
     found: &mut Option<ShowFault>,
     out: &mut Vec<u8>,
 ) -> Result<Step, AllocError>
-    ensures { IfOk result (λ step. Steps (selection_of options.entry) limit offset bytes.now
+    ensures ok { IfOk result (λ step. Steps (selection_of options.entry) limit offset bytes.now
         out.old.items out.new.items (report_in found.old) (report_in found.new) step) }
+    ensures memory { OnErr result (IsToBeShown options.entry.keep_going limit bytes.now) }
 {
     messages_unfold();
     frames_are_independent();
@@ -235,6 +239,11 @@ fn push_message(
 
 /// Appends the lines of the messages of `bytes`, which begin at the offset `start` of the capture,
 /// from the offset `from` on. Keeps the first fault in `found`.
+///
+/// # Errors
+///
+/// The offset in `bytes` of the message for which an allocation failed; `out` may have a part of its
+/// lines.
 pub(crate) fn push_messages(
     bytes: &[u8],
     start: u64,
@@ -244,17 +253,18 @@ pub(crate) fn push_messages(
     buffers: &mut Buffers,
     found: &mut Option<ShowFault>,
     out: &mut Vec<u8>,
-) -> Result<Walked, AllocError>
+) -> Result<Walked, usize>
     requires fits { start + length bytes.now < 2 ^ 64 }
     requires near { from ≤ 3 }
     ensures passes { IfOk result (λ w. Passes (selection_of options.entry) limit start bytes.now from w.len
         out.old.items out.new.items (report_in found.old) (report_in found.new)) }
     ensures ends { IfOk result (λ w. Ends options.entry.keep_going limit bytes.now w.len w.last) }
     ensures bounds { IfOk result (λ w. w.len ≤ length bytes.now + 3) }
+    ensures memory { IfErr result (λ at. ComesTo options.entry.keep_going limit start bytes.now from at) }
 {
     let mut len = from;
     'messages: while len < bytes.len() {
-        let step = push_message(
+        let Ok(step) = push_message(
             &bytes[len..],
             start + len as u64,
             limit,
@@ -262,7 +272,9 @@ pub(crate) fn push_messages(
             buffers,
             found,
             out,
-        )?;
+        ) else {
+            return Err(len);
+        };
         match step {
             Step::Next(size) => len += nla_align(size),
             Step::Stop(kind) => {

@@ -6,7 +6,8 @@ ghost use Rattle.link_lines.specs.MessageLines.{IsWhole, is_about_any};
 ghost use Rattle.link_lines.specs.MessageLaws.{plain};
 ghost use Rattle.link_lines.specs.Options.{choice_of, selection_of, types_of};
 
-use link_lines_filter::{Omission, is_about};
+use crate::about::is_about;
+use crate::remaining::Omission;
 
 /// The choice of what is shown of normal texts; by default everything.
 #[derive(Clone, Copy, Debug, Default, PartialEq, Eq, Drop)]

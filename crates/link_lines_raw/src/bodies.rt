@@ -2,7 +2,9 @@
 
 ghost use Rattle.std.specs.Prelude.{◌≡◌, ◌<◌, ◌+◌, ◌^◌, ◌++◌, true, length, option_map, IfOk, OnOk};
 ghost use Rattle.link_lines_raw.specs.Bodies.{body_lines, first_fitting, fits_body, fits_family};
-ghost use Rattle.link_lines_raw.specs.Bodies.{fits_request, has_lines, header_line, is_general, is_list_of, is_record_and_list, list_lines_of, record_and_list, row_lines, text_or_none};
+ghost use Rattle.link_lines_raw.specs.Bodies.{fits_request, has_lines, header_line, is_general, is_list_of};
+ghost use Rattle.link_lines_raw.specs.Bodies.{is_record_and_list, list_lines_of, record_and_list, row_lines};
+ghost use Rattle.link_lines_raw.specs.Bodies.{text_or_none};
 ghost use Rattle.link_lines_raw.specs.Lines.{lines_text};
 ghost use Rattle.link_lines_raw.specs.Rows.{record_line_of};
 

@@ -4,7 +4,8 @@ ghost use Rattle.std.specs.Prelude.{◌≡◌, ◌≤◌, length, take, drop, op
 ghost use Rattle.netlink_packet_core_grammar.specs.Attributes.{first_attribute};
 ghost use Rattle.link_interpreter.specs.Sameness.{attribute_of};
 ghost use Rattle.link_lines_values.specs.Records.{fields_of};
-ghost use Rattle.link_lines_raw.specs.Attributes.{are_next_hops_after, are_records_after, encapsulation, encapsulation_table, has_byte_order_bit, has_nested_bit};
+ghost use Rattle.link_lines_raw.specs.Attributes.{are_next_hops_after, are_records_after, encapsulation};
+ghost use Rattle.link_lines_raw.specs.Attributes.{encapsulation_table, has_byte_order_bit, has_nested_bit};
 ghost use Rattle.link_lines_raw.specs.Attributes.{is_first_record, is_hop_of, is_next_hop, is_padded, is_type, is_whole, type_after};
 ghost use Rattle.link_lines_raw.specs.Lists.{first_part};
 ghost use Rattle.link_lines_raw.specs.Views.{listed_of};

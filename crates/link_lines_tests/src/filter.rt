@@ -1,7 +1,7 @@
 //! The lines of a message without some attributes, with its offset, and whether they are about a
 //! link. The lines, and those expected, come from an independent implementation.
 
-use link_lines_filter::{COUNTERS, INDEXES, Omission, is_about, push_remaining, push_with_offset};
+use link_lines::{COUNTERS, INDEXES, Omission, is_about, push_remaining, push_with_offset};
 use std::alloc::{AllocError, Global};
 use std::test::Fail;
 

@@ -66,7 +66,7 @@ body_bytes t b text h e =
 -- ---- a frame's bytes without their padding
 
 -- The bytes of the frame that has c's header and this body.
-abbrev unpadded_frame : List ℕ → List ℕ → List ℕ
+abbrev pub unpadded_frame : List ℕ → List ℕ → List ℕ
 unpadded_frame c body = le4 (16 + length body) ++ (take 12 (drop 4 c) ++ body)
 
 four_long : (n : ℕ) → length (le4 n) ≡ 4
@@ -74,7 +74,7 @@ unfolding le4
 four_long n = refl
 
 -- They are at the start of its text.
-in_text : (c body : List ℕ) → 16 ≤ length c → take (16 + length body) (frame_text c body) ≡ unpadded_frame c body
+pub in_text : (c body : List ℕ) → 16 ≤ length c → take (16 + length body) (frame_text c body) ≡ unpadded_frame c body
 unfolding frame_text
 in_text c body h =
     let n : ℕ = 16 + length body in
@@ -189,22 +189,22 @@ text_known n s body rest x h first e k =
     let more : drop (nla_align (frame_length x)) x ≡ rest = ap (λ m. drop (nla_align m) x) size ∙ ap (drop (nla_align (16 + length body))) e ∙ first.rest in
     (subst (NumbersAreKnown n) own r.0, subst (Known n) more r.1)
 
-module _ (n : Bool) where
-  unpadded_is_canonical : (c body : List ℕ) → 16 ≤ length c → 16 + length body < 2 ^ 32 → AreBytes c → body_text (frame_type c) (frame_body c) ≡ Ok body → IsCanonicalFrame (unpadded_frame c body)
-  unpadded_is_canonical c body h small p o =
-      let size = canonical_size c body h in
-      let given : AreBytes (frame_body c) = AreBytes-take (frame_length c - 16) (drop 16 c) (AreBytes-drop 16 c p) in
-      let held = body_bytes (frame_type c) (frame_body c) body given o in
-      let again : body_text (frame_type c) body ≡ Ok body = in_force.bodies_are_normal (frame_type c) (frame_body c) body o in
-      let is = canonical_body c body h in
-      record {
-        bytes = AreBytes-append (le4 (16 + length body)) (take 12 (drop 4 c) ++ body) (of_number (16 + length body) small)
-            (AreBytes-append (take 12 (drop 4 c)) body (AreBytes-take 12 (drop 4 c) (AreBytes-drop 4 c p)) held);
-        header = omega (arith, size);
-        body = ap (λ t. body_text t (drop 16 (unpadded_frame c body))) (unpadded_type c body h)
-            ∙ ap (body_text (frame_type c)) is ∙ again ∙ ap (λ z. Ok z) (sym is);
-      }
+pub unpadded_is_canonical : (c body : List ℕ) → 16 ≤ length c → 16 + length body < 2 ^ 32 → AreBytes c → body_text (frame_type c) (frame_body c) ≡ Ok body → IsCanonicalFrame (unpadded_frame c body)
+unpadded_is_canonical c body h small p o =
+    let size = canonical_size c body h in
+    let given : AreBytes (frame_body c) = AreBytes-take (frame_length c - 16) (drop 16 c) (AreBytes-drop 16 c p) in
+    let held = body_bytes (frame_type c) (frame_body c) body given o in
+    let again : body_text (frame_type c) body ≡ Ok body = in_force.bodies_are_normal (frame_type c) (frame_body c) body o in
+    let is = canonical_body c body h in
+    record {
+      bytes = AreBytes-append (le4 (16 + length body)) (take 12 (drop 4 c) ++ body) (of_number (16 + length body) small)
+          (AreBytes-append (take 12 (drop 4 c)) body (AreBytes-take 12 (drop 4 c) (AreBytes-drop 4 c p)) held);
+      header = omega (arith, size);
+      body = ap (λ t. body_text t (drop 16 (unpadded_frame c body))) (unpadded_type c body h)
+          ∙ ap (body_text (frame_type c)) is ∙ again ∙ ap (λ z. Ok z) (sym is);
+    }
 
+module _ (n : Bool) where
   fronted : (limit : ℕ) (s : List ℕ) (frame : ℕ × List ℕ) → limit < 2 ^ 32 → AreBytes s → first_frame limit s ≡ Ok frame → Front n limit s
   fronted limit s frame l p e =
       let i = texted link_body limit s frame e in

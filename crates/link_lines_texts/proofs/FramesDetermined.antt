@@ -1,10 +1,9 @@
 -- Lines determine frames, provided that they determine lists of attributes.
-use Rattle.std.proofs.Common.{◌≡◌, ℕ, ◌%◌, ◌≤◌, Bool, true, false, cond, List, [], ◌∷◌, ◌++◌, length, take, drop, get_or, Option, Some, None, Ok, Err, refl, sym, ap, subst, ◌∙◌, append_assoc, arith, inl, inr}
-use Rattle.std.specs.Prelude.{◌==◌, bytes_eq, nat_le, codes}
+use Rattle.std.proofs.Common.{◌≡◌, ℕ, suc, ◌%◌, ◌≤◌, Bool, true, false, cond, List, [], ◌∷◌, ◌++◌, length, take, drop, get_or, Option, Some, None, Ok, Err, refl, sym, ap, subst, ◌∙◌, append_assoc, arith, inl, inr}
+use Rattle.std.specs.Prelude.{◌==◌, nat_le, codes}
 use Rattle.std.proofs.lemmas.Bool.{and_parts, cond_both, eqb-true, leb-true, ltb-false, le-leb, ne_eqb}
 use Rattle.std.proofs.lemmas.Bool.Decides.{eqb_tells}
 use Rattle.std.proofs.lemmas.List.{append_cancel_left, length-drop, length-take}
-use Rattle.std.proofs.lemmas.Slice.Eq.{bytes_eq-Decides}
 use Rattle.netlink_packet_core_grammar.specs.Bytes.{AreBytes}
 use Rattle.netlink_packet_core_grammar.specs.Numbers.{u16_at}
 use Rattle.attribute_tables_grammar.specs.Peers.{Peer, bytes_peer}
@@ -16,7 +15,8 @@ use Rattle.link_lines_values.specs.Values.{value_text}
 use Rattle.link_lines_values.proofs.BytesDetermined.{bytes_determined}
 use Rattle.link_lines_values.proofs.NumbersDetermined.{numbers_determined}
 use Rattle.link_lines_values.proofs.OneLine.{values_are_lines}
-use Rattle.link_lines_texts.specs.Frames.{after_code, bytes_line, body_lines, code_lines, frame_lines, has_request_flag, header_line, in_message, is_canonical_peer, is_property_type, link_lines, or_bytes, other_lines, property_lines, request_line, type_text}
+use Rattle.link_lines_texts.specs.Frames.{after_code, bytes_line, body_lines, code_lines, frame_lines, has_request_flag, header_line, in_message, is_property_type, link_lines, or_bytes, other_lines, property_lines, request_line, type_text}
+use Rattle.link_lines_texts.specs.Format.{is_canonical_peer}
 use Rattle.link_lines_texts.specs.Links.{link_numbers}
 use Rattle.link_lines_texts.specs.Lists.{in_peer}
 use Rattle.link_lines_texts.specs.declared.format.Scope.{Scope}
@@ -31,7 +31,7 @@ use Rattle.std.proofs.lemmas.Option.{same_Some}
 use Rattle.link_lines_texts.specs.Determination.{AreKnown, FramesAreDetermined, IsCanonicalFrame, NumbersAreKnown, StartsFrame}
 use Rattle.link_lines_texts.proofs.LineCuts.{following, cut_line}
 use Rattle.link_lines_texts.proofs.HeadersDetermined.{flags_part, header_determined, request_determined, type_starts}
-use Rattle.link_lines_texts.proofs.LinksDetermined.{canonical_peer, lists_are_determined, peer_lists_are_determined}
+use Rattle.link_lines_texts.proofs.LinksDetermined.{found_canonical, link_lists_are_determined, peer_lists_are_determined}
 use Rattle.link_lines_texts.proofs.LinkBodiesDetermined.{FamiliesDetermined, IsCanonicalLink, link_part, link_determined, canonical_link}
 use Rattle.link_lines_values.proofs.ValuesDetermined.{both_parts}
 use Rattle.netlink_packet_core_grammar.proofs.Bytes.{AreBytes-drop, AreBytes-take}
@@ -43,7 +43,7 @@ no_space [] r h e = absurd cc
 no_space (c ∷ s) r h e = let first : c ≡ 32 = cc in omega arith
 
 -- A line of bytes determines them, and no line means no bytes.
-bytes_line_determined : (name p q s t : List ℕ) → AreBytes p → AreBytes q → StartsFrame s → StartsFrame t → bytes_line name p ++ s ≡ bytes_line name q ++ t → (p ≡ q) × (s ≡ t)
+pub bytes_line_determined : (name p q s t : List ℕ) → AreBytes p → AreBytes q → StartsFrame s → StartsFrame t → bytes_line name p ++ s ≡ bytes_line name q ++ t → (p ≡ q) × (s ≡ t)
 unfolding bytes_line
 bytes_line_determined name [] [] s t a b i j e = (refl, e)
 bytes_line_determined name [] (y ∷ q) s t a b i j e = absurd (no_space s (32 ∷ (name ++ (bytes_text (y ∷ q) ++ 10 ∷ [])) ++ t) i e)
@@ -135,23 +135,17 @@ shallow : (s : List ℕ) → StartsFrame s → IsShallow 1 s
 shallow s h r = no_space s (32 ∷ r) h
 
 -- The lines of a canonical body of a link under a rule of peers determine it.
-body_determined : (peer : Peer) (scope : Scope) → FamiliesDetermined peer scope → (p q s t : List ℕ) → AreBytes p → AreBytes q → IsCanonicalLink peer p → IsCanonicalLink peer q → StartsFrame s → StartsFrame t →
+body_determined : (peer : Peer) (scope : Scope) → ((bound : ℕ) → FamiliesDetermined bound peer scope) → (p q s t : List ℕ) → AreBytes p → AreBytes q → IsCanonicalLink peer p → IsCanonicalLink peer q → StartsFrame s → StartsFrame t →
     link_lines scope p ++ s ≡ link_lines scope q ++ t → (p ≡ q) × (s ≡ t)
 body_determined peer scope lists p q s t a b h k i j e =
     let lines = sym (ap (λ z. z ++ s) (link_lines_are scope p h.size)) ∙ e ∙ ap (λ z. z ++ t) (link_lines_are scope q k.size) in
-    link_determined peer scope lists 1 p q s t a b h k (shallow s i) (shallow t j) lines
+    link_determined (suc (length (drop 16 p))) peer scope (lists (suc (length (drop 16 p)))) 1 p q s t (omega arith) a b h k (shallow s i) (shallow t j) lines
 
 -- ---- a body about a link's properties
 
 -- What the attributes of such a body are in.
 abbrev in_properties : Bool → Scope
 in_properties request = in_peer (in_message request)
-
-canonical_properties : (p : List ℕ) → AreBytes p → is_canonical_peer p ≡ true → IsCanonicalLink bytes_peer p
-unfolding is_canonical_peer
-canonical_properties p a h =
-    let parts = and_parts (link_peer.accepted p) (bytes_eq (link_peer.canonical p) p) h in
-    canonical_peer p (record { bytes = a; accepted = parts.0; canonical = (bytes_eq-Decides (link_peer.canonical p) p).0 parts.1 })
 
 -- A link's lines are not a line of bytes, nor the start of what follows a frame's lines.
 link_differs : (scope : Scope) (p q s t : List ℕ) → 16 ≤ length p → StartsFrame t → link_lines scope p ++ s ≡ bytes_line (codes "body") q ++ t → ⊥
@@ -164,10 +158,10 @@ link_differs scope p (y ∷ q) s t h j e =
 properties_by : (request x y : Bool) (p q s t : List ℕ) → is_canonical_peer p ≡ x → is_canonical_peer q ≡ y → AreBytes p → AreBytes q → StartsFrame s → StartsFrame t →
     cond x (link_lines (in_properties request) p) (bytes_line (codes "body") p) ++ s ≡ cond y (link_lines (in_properties request) q) (bytes_line (codes "body") q) ++ t → (p ≡ q) × (s ≡ t)
 properties_by request false false p q s t h k a b i j e = bytes_line_determined (codes "body") p q s t a b i j e
-properties_by request false true p q s t h k a b i j e = absurd (link_differs (in_properties request) q p t s (canonical_properties q b k).size i (sym e))
-properties_by request true false p q s t h k a b i j e = absurd (link_differs (in_properties request) p q s t (canonical_properties p a h).size j e)
+properties_by request false true p q s t h k a b i j e = absurd (link_differs (in_properties request) q p t s (found_canonical q b k).size i (sym e))
+properties_by request true false p q s t h k a b i j e = absurd (link_differs (in_properties request) p q s t (found_canonical p a h).size j e)
 properties_by request true true p q s t h k a b i j e =
-    body_determined bytes_peer (in_properties request) (peer_lists_are_determined request) p q s t a b (canonical_properties p a h) (canonical_properties q b k) i j e
+    body_determined bytes_peer (in_properties request) (peer_lists_are_determined request) p q s t a b (found_canonical p a h) (found_canonical q b k) i j e
 
 properties_determined : (request : Bool) (p q s t : List ℕ) → AreBytes p → AreBytes q → StartsFrame s → StartsFrame t → property_lines request p ++ s ≡ property_lines request q ++ t → (p ≡ q) × (s ≡ t)
 unfolding property_lines
@@ -283,7 +277,7 @@ other_determined n request p q s t = others_of n request (is_property_type n) p 
 
 other_by : (n : ℕ) (request l : Bool) (p q s t : List ℕ) → AreBytes p → AreBytes q → cond l (ruled_text link_body p) (Ok p) ≡ Ok p → cond l (ruled_text link_body q) (Ok q) ≡ Ok q → StartsFrame s → StartsFrame t →
     cond l (link_lines (in_message request) p) (other_lines n request p) ++ s ≡ cond l (link_lines (in_message request) q) (other_lines n request q) ++ t → (p ≡ q) × (s ≡ t)
-other_by n request true p q s t a b h k i j e = body_determined link_peer (in_message request) (lists_are_determined request) p q s t a b (canonical_body p a h) (canonical_body q b k) i j e
+other_by n request true p q s t a b h k i j e = body_determined link_peer (in_message request) (link_lists_are_determined request) p q s t a b (canonical_body p a h) (canonical_body q b k) i j e
 other_by n request false p q s t a b h k i j e = other_determined n request p q s t a b i j e
 
 others_determined : (numbers request : Bool) (n : ℕ) → (n ≡ noop_type → ⊥) → (n ≡ error_type → ⊥) → (n ≡ done_type → ⊥) → BodiesOfTypeAreDetermined numbers request n

@@ -15,6 +15,7 @@ pub mod RowFacts
 pub mod Joined
 pub mod ShapesDetermined
 pub mod SomeLines
+pub mod AcceptedFrames
 pub mod TablesDetermined
 pub mod AttributeNamesDetermined
 pub mod RowsComputed

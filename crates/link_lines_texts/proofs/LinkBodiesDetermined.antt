@@ -1,5 +1,5 @@
 -- The lines of a link's body determine it, in a message and in a peer.
-use Rattle.std.proofs.Common.{◌≡◌, ℕ, ◌+◌, ◌*◌, ◌≤◌, true, List, [], ◌∷◌, ◌++◌, length, take, drop, get_or, sym, ap, subst, refl, ◌∙◌, arith}
+use Rattle.std.proofs.Common.{◌≡◌, ℕ, ◌+◌, ◌*◌, ◌<◌, ◌≤◌, true, List, [], ◌∷◌, ◌++◌, length, take, drop, get_or, sym, ap, subst, refl, ◌∙◌, arith}
 use Rattle.std.specs.Prelude.{nat_le, slice_index}
 use Rattle.std.proofs.lemmas.Bool.{and_parts, cond_both, leb-true}
 use Rattle.std.proofs.lemmas.List.{drop_at, length-append, length-take}
@@ -44,9 +44,9 @@ canonical_link peer b a accepts canonical =
     let kept = sym (drop_at (header_text b) list 16 (header_size b size)) ∙ ap (drop 16) text in
     record { size = size; second = second_is b _ size text; attributes = record { bytes = AreBytes-drop 16 b a; accepted = accepted.1; canonical = kept } }
 
--- The lists of all families are determined.
-abbrev pub FamiliesDetermined : Peer → Scope → Type 0
-FamiliesDetermined peer scope = (level n : ℕ) (p q s t : List ℕ) → IsCanonical (list_rule_of peer (family_of n)) p → IsCanonical (list_rule_of peer (family_of n)) q → IsShallow level s → IsShallow level t →
+-- The lists of all families are determined, if they are shorter than a bound.
+abbrev pub FamiliesDetermined : ℕ → Peer → Scope → Type 0
+FamiliesDetermined bound peer scope = (level n : ℕ) (p q s t : List ℕ) → length p < bound → IsCanonical (list_rule_of peer (family_of n)) p → IsCanonical (list_rule_of peer (family_of n)) q → IsShallow level s → IsShallow level t →
     list_lines level (of_family scope n) p ++ s ≡ list_lines level (of_family scope n) q ++ t → (p ≡ q) × (s ≡ t)
 
 abbrev list_part : ℕ → Scope → List ℕ → List ℕ
@@ -56,12 +56,12 @@ list_part level scope b = list_lines level (of_link scope b) (drop 16 b)
 abbrev pub link_part : ℕ → Scope → List ℕ → List ℕ
 link_part level scope b = link_header_line level b ++ list_part level scope b
 
-pub link_determined : (peer : Peer) (scope : Scope) → FamiliesDetermined peer scope → (level : ℕ) (p q s t : List ℕ) → AreBytes p → AreBytes q → IsCanonicalLink peer p → IsCanonicalLink peer q → IsShallow level s → IsShallow level t →
+pub link_determined : (bound : ℕ) (peer : Peer) (scope : Scope) → FamiliesDetermined bound peer scope → (level : ℕ) (p q s t : List ℕ) → length (drop 16 p) < bound → AreBytes p → AreBytes q → IsCanonicalLink peer p → IsCanonicalLink peer q → IsShallow level s → IsShallow level t →
     link_part level scope p ++ s ≡ link_part level scope q ++ t → (p ≡ q) × (s ≡ t)
-link_determined peer scope lists level p q s t a b h k i j e =
+link_determined bound peer scope lists level p q s t short a b h k i j e =
     let shown = following (link_header_line level p) (list_part level scope p) s (link_header_line level q) (list_part level scope q) t e in
     let same = link_header_determined level p q (list_part level scope p ++ s) (list_part level scope q ++ t) a b h.size k.size shown in
     let other = subst (λ n. IsCanonical (list_rule_of peer (family_of n)) (drop 16 q)) (sym same.family) k.attributes in
     let rest = same.rest ∙ ap (λ n. list_lines level (of_family scope n) (drop 16 q) ++ t) (sym same.family) in
-    let r = lists level (slice_index p 0) (drop 16 p) (drop 16 q) s t h.attributes other i j rest in
+    let r = lists level (slice_index p 0) (drop 16 p) (drop 16 q) s t short h.attributes other i j rest in
     (same.bytes (h.second ∙ sym k.second) r.0, r.1)

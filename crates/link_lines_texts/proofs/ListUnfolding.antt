@@ -35,13 +35,13 @@ inside_within scope i p = record {}
 
 named_attribute_within : (list_table : ListTable) (c : Context) (o : Option Name) (e : Attribute) → Within (length e.payload) (named_attribute_list list_table c o e)
 named_attribute_within list_table c None e = record {}
-named_attribute_within list_table c (Some t) e = inside_within list_table.scope (known_inside list_table.scope c t.1) e.payload
+named_attribute_within list_table c (Some t) e = inside_within list_table.scope (known_inside list_table.scope c t.1 e.payload) e.payload
 
 pub list_within : (list_table : ListTable) (c : Context) (e : Attribute) → Within (length e.payload) (list_inside list_table c e)
 unfolding list_inside
 list_within list_table c e = named_attribute_within list_table c (attribute_name_of list_table.table.0 (proper_kind e.kind)) e
 
-rest_shorter : (bytes : List ℕ) (e : Attribute) (rest : List ℕ) → first_attribute bytes ≡ Some (e, rest) → 4 + length rest ≤ length bytes
+pub rest_shorter : (bytes : List ℕ) (e : Attribute) (rest : List ℕ) → first_attribute bytes ≡ Some (e, rest) → 4 + length rest ≤ length bytes
 rest_shorter bytes e rest h =
     let a = aligned (attribute_length e) in
     let b = sized bytes e rest h in

@@ -1,11 +1,11 @@
 -- Lines determine lists, provided that those of named rows determine what the rows hold.
 use Rattle.std.proofs.Common.{◌≡◌, ℕ, ◌+◌, ◌<◌, Bool, true, false, cond, List, [], ◌∷◌, ◌++◌, length, Option, Some, None, refl, sym, ap, subst, ◌∙◌, append_assoc, append-nil, arith}
-use Rattle.std.specs.Prelude.{◌%◌, bytes_eq, codes, get_or, nat_le}
+use Rattle.std.specs.Prelude.{◌%◌, ⊤, bytes_eq, codes, get_or, nat_le}
 use Rattle.std.proofs.lemmas.Bool.{cond_both}
 use Rattle.std.proofs.lemmas.List.{append_cancel_left}
 use Rattle.std.proofs.lemmas.Option.{same_Some}
 use Rattle.netlink_packet_core_grammar.specs.Attributes.{Attribute, first_attribute, list_text, proper_kind}
-use Rattle.netlink_packet_core_grammar.proofs.Attributes.{first_attribute_text}
+use Rattle.netlink_packet_core_grammar.proofs.Attributes.{first_attribute_text, sized}
 use Rattle.link_tables.specs.declared.rows.Held.{Held as TableHeld}
 use Rattle.link_tables.specs.declared.rows.Held.TheVariants.{List as HeldList}
 use Rattle.attribute_tables_grammar.specs.Rules.{Rule}
@@ -15,7 +15,7 @@ use Rattle.link_lines_values.specs.Indents.{indent}
 use Rattle.link_lines_values.specs.Laws.{Ends, IsLine}
 use Rattle.link_lines_values.specs.Values.{value_text}
 use Rattle.link_lines_values.specs.declared.values.ShownBy.TheVariants.{Bytes}
-use Rattle.link_lines_texts.specs.Format.{Inside, Inside.Value, Inside.Settings, Inside.Plain, Inside.Held, Inside.Peer, Inside.Data, Inside.Statistics, Inside.PortData, can_statistics, inside_held, is_inside_on_a_line, known_inside, of_held, statistics_inside}
+use Rattle.link_lines_texts.specs.Format.{Inside, Inside.Value, Inside.Settings, Inside.Plain, Inside.Held, Inside.Peer, Inside.Data, Inside.Statistics, Inside.PortData, can_statistics, inside_held, is_canonical_peer, is_inside_on_a_line, known_inside, of_held, peer_inside, statistics_inside}
 use Rattle.link_tables.specs.InForce.{data_under, port_data_under}
 use Rattle.link_lines_raw.specs.declared.raw_tables.RawTable.{RawTable}
 use Rattle.link_lines_raw.specs.Attributes.{after_name, has_nested_bit, named_text, nested_word, plain_bytes, raw_row, raw_text}
@@ -37,21 +37,22 @@ use Rattle.link_lines_texts.specs.declared.format.Scope.{Scope}
 use Rattle.link_lines_texts.specs.AttributeNames.{Name, attribute_name_of}
 use Rattle.link_lines_texts.specs.RawTables.{raw_table}
 use Rattle.link_lines_texts.proofs.CanonicalLists.{AllCanonical, CanonicalAttribute, canonical_list}
-use Rattle.link_lines_texts.proofs.ListUnfolding.{steps}
+use Rattle.link_lines_texts.proofs.ListUnfolding.{rest_shorter, steps}
 use Rattle.link_lines_texts.proofs.LineCuts.{IsWord, not_unnamed, space_ends, Starts, cut_line, cut_word, line_shallow, lines_joined, shallower, starts_joined, word_line}
 
 -- The lines below an attribute's line.
 abbrev pub below : ℕ → Scope → Inside → List ℕ → List ℕ
 below level scope i p = header_inside level i p ++ nested_lines level (inside_list scope i p)
 
--- An attribute's line and those below it determine its payload.
-abbrev pub InsideDetermined : Scope → Rule → Inside → Type 0
-InsideDetermined scope r i = (level : ℕ) (p q s t : List ℕ) → IsCanonical r p → IsCanonical r q → IsShallow level s → IsShallow level t → inside_text i p ≡ inside_text i q →
-    below level scope i p ++ s ≡ below level scope i q ++ t → (p ≡ q) × (s ≡ t)
+-- An attribute's line and those below it determine its payload, shown in a way that may depend on the payload, if it is
+-- shorter than a bound. There is one since peers may be nested, and are shown by induction on their length.
+abbrev pub InsideDetermined : ℕ → Scope → Rule → (List ℕ → Inside) → Type 0
+InsideDetermined bound scope r i = (level : ℕ) (p q s t : List ℕ) → length p < bound → IsCanonical r p → IsCanonical r q → IsShallow level s → IsShallow level t → inside_text (i p) p ≡ inside_text (i q) q →
+    below level scope (i p) p ++ s ≡ below level scope (i q) q ++ t → (p ≡ q) × (s ≡ t)
 
 -- The same statement for a list.
-abbrev pub NestedDetermined : Rule → ListTable → Type 0
-NestedDetermined r m = (level : ℕ) (p q s t : List ℕ) → IsCanonical r p → IsCanonical r q → IsShallow level s → IsShallow level t → list_lines level m p ++ s ≡ list_lines level m q ++ t → (p ≡ q) × (s ≡ t)
+abbrev pub NestedDetermined : ℕ → Rule → ListTable → Type 0
+NestedDetermined bound r m = (level : ℕ) (p q s t : List ℕ) → length p < bound → IsCanonical r p → IsCanonical r q → IsShallow level s → IsShallow level t → list_lines level m p ++ s ≡ list_lines level m q ++ t → (p ≡ q) × (s ≡ t)
 
 -- The names of a table are words that begin with an upper-case letter, what follows them is on their line, no two are
 -- equal, and none is that of a raw attribute of another kind.
@@ -63,8 +64,8 @@ pub record NamesDetermined (m : Table) : Type 0 where
   pub raw : (k l : ℕ) (t : Name) (n : Named Raw) → attribute_name_of m.0 k ≡ Some t → raw_row (raw_table m) l ≡ Some n → t.0 ≡ n.0 → k ≡ l % 0x4000
 
 -- If a row has a name, what follows the name determines what the row holds.
-pub record RowsDetermined (g : Grammar) (m : ListTable) : Type 0 where
-  pub named_attributes : (c : Context) (k : ℕ) (t : Name) → k < 65536 → attribute_name_of m.table.0 k ≡ Some t → ((g.row c k).is_typed ≡ true) × InsideDetermined m.scope (g.row c k).rule (known_inside m.scope c t.1)
+pub record RowsDetermined (bound : ℕ) (g : Grammar) (m : ListTable) : Type 0 where
+  pub named_attributes : (c : Context) (k : ℕ) (t : Name) → k < 65536 → attribute_name_of m.table.0 k ≡ Some t → ((g.row c k).is_typed ≡ true) × InsideDetermined bound m.scope (g.row c k).rule (λ p. known_inside m.scope c t.1 p)
   pub next : (c : Context) (e : Attribute) → g.next c e ≡ next_in m.table c e
 
 -- ---- lines by attributes
@@ -102,14 +103,19 @@ statistics_line : (o : Option (List ℕ)) → is_inside_on_a_line (statistics_in
 statistics_line None = refl
 statistics_line (Some name) = cond_both (bytes_eq name (codes "can")) (Held can_statistics) (Value Bytes) (λ i. is_inside_on_a_line i ≡ true) (λ e. can_line) (λ e. refl)
 
+peer_line : (is_in_peer is_canonical : Bool) → is_inside_on_a_line (cond is_in_peer (cond is_canonical Peer Plain) Peer) ≡ true
+peer_line true true = refl
+peer_line true false = refl
+peer_line false is_canonical = refl
+
 -- What the names in force determine is on one line.
-known_line : (scope : Scope) (c : Context) (i : Inside) → is_inside_on_a_line i ≡ true → is_inside_on_a_line (known_inside scope c i) ≡ true
-known_line scope c (Settings v) h = cond_both scope.is_request Plain (Value v) (λ i. is_inside_on_a_line i ≡ true) (λ e. refl) (λ e. h)
-known_line scope c Peer h = cond_both scope.is_in_peer (Value Bytes) Peer (λ i. is_inside_on_a_line i ≡ true) (λ e. refl) (λ e. refl)
-known_line scope c Data h = name_line (data_under c.kind)
-known_line scope c Statistics h = statistics_line c.kind
-known_line scope c PortData h = name_line (port_data_under c.port_kind)
-known_line scope c i h = h
+known_line : (scope : Scope) (c : Context) (i : Inside) (p : List ℕ) → is_inside_on_a_line i ≡ true → is_inside_on_a_line (known_inside scope c i p) ≡ true
+known_line scope c (Settings v) p h = cond_both scope.is_request Plain (Value v) (λ i. is_inside_on_a_line i ≡ true) (λ e. refl) (λ e. h)
+known_line scope c Peer p h = peer_line scope.is_in_peer (is_canonical_peer p)
+known_line scope c Data p h = name_line (data_under c.kind)
+known_line scope c Statistics p h = statistics_line c.kind
+known_line scope c PortData p h = name_line (port_data_under c.port_kind)
+known_line scope c i p h = h
 
 plain_line : (p : List ℕ) → IsLine (plain_bytes p)
 plain_line p = lines_joined (codes " bytes") (bytes_text p) (omega arith, (omega arith, (omega arith, (omega arith, (omega arith, (omega arith, record {})))))) (values_are_lines.line Bytes p refl)
@@ -131,8 +137,8 @@ inside_ends i p = record {}
 named_attribute_line : (m : ListTable) (names : NamesDetermined m.table) (c : Context) (k : ℕ) (o : Option Name) (e : Attribute) → k < 65536 → attribute_name_of m.table.0 k ≡ o → IsLine (named_attribute_text m c o e)
 named_attribute_line m names c k None e l h = raw_attributes_determined.line (raw_table m.table) e
 named_attribute_line m names c k (Some t) e l h =
-    lines_joined t.0 (inside_text (known_inside m.scope c t.1) e.payload) (word_line t.0 (names.word k t l h))
-    (inside_line (known_inside m.scope c t.1) e.payload (known_line m.scope c t.1 (names.line k t h)))
+    lines_joined t.0 (inside_text (known_inside m.scope c t.1 e.payload) e.payload) (word_line t.0 (names.word k t l h))
+    (inside_line (known_inside m.scope c t.1 e.payload) e.payload (known_line m.scope c t.1 e.payload (names.line k t h)))
 
 -- What follows the name of a raw attribute.
 abbrev after_row : Named Raw → Attribute → List ℕ
@@ -145,7 +151,7 @@ raw_starts t e (Some n) h = starts_joined n.0 (after_row n e) (row_facts t e.kin
 named_attribute_starts : (m : ListTable) (names : NamesDetermined m.table) (c : Context) (k : ℕ) (o : Option Name) (e : Attribute) → k < 65536 → attribute_name_of m.table.0 k ≡ o → Starts (named_attribute_text m c o e)
 unfolding raw_text
 named_attribute_starts m names c k None e l h = raw_starts (raw_table m.table) e (raw_row (raw_table m.table) e.kind) refl
-named_attribute_starts m names c k (Some t) e l h = starts_joined t.0 (inside_text (known_inside m.scope c t.1) e.payload) (names.upper k t l h).0
+named_attribute_starts m names c k (Some t) e l h = starts_joined t.0 (inside_text (known_inside m.scope c t.1 e.payload) e.payload) (names.upper k t l h).0
 
 small_kind : (k : ℕ) → proper_kind k < 65536
 small_kind k = omega arith
@@ -209,52 +215,67 @@ no_more lines x = ap (λ z. z ++ x) (append-nil lines)
 encodable : {r : Row} {e : Attribute} → CanonicalAttribute r e → IsEncodable e
 encodable o = record { kind = o.small; payload = o.payload.bytes }
 
-module _ (g : Grammar) (m : ListTable) (names : NamesDetermined m.table) (rows : RowsDetermined g m) where
+-- Payloads are shorter than a bound.
+abbrev AllShort : ℕ → List Attribute → Type 0
+AllShort bound [] = ⊤
+AllShort bound (e ∷ es) = (length e.payload < bound) × AllShort bound es
+
+-- Those of the attributes of a list are, if the list is.
+all_short : (bound : ℕ) (es : List Attribute) → length (list_text es) < bound → AllShort bound es
+unfolding list_text
+all_short bound [] h = record {}
+all_short bound (e ∷ es) h =
+    let a = sized (list_text (e ∷ es)) e (list_text es) (first_attribute_text e (list_text es)) in
+    let r = rest_shorter (list_text (e ∷ es)) e (list_text es) (first_attribute_text e (list_text es)) in
+    (omega (arith, h, a.within), all_short bound es (omega (arith, h, r)))
+
+module _ (bound : ℕ) (g : Grammar) (m : ListTable) (names : NamesDetermined m.table) (rows : RowsDetermined bound g m) where
   same_kinds : (c : Context) (e f : Attribute) → (row_of g c e).is_typed ≡ true → CanonicalAttribute (row_of g c e) e → CanonicalAttribute (row_of g c f) f → proper_kind e.kind ≡ proper_kind f.kind → e.kind ≡ f.kind
   same_kinds c e f typed o u k =
       sym o.kind ∙ written_typed (row_of g c e) e.kind typed ∙ ap (λ n. n + cond (g.row c n).is_nested 0x8000 0) k
       ∙ sym (written_typed (row_of g c f) f.kind (ap (λ n. (g.row c n).is_typed) (sym k) ∙ typed)) ∙ u.kind
 
   named_attribute_determined : (level : ℕ) (c : Context) (e f : Attribute) (x y : List ℕ) (t u : Name) → attribute_name_of m.table.0 (proper_kind e.kind) ≡ Some t → attribute_name_of m.table.0 (proper_kind f.kind) ≡ Some u →
-      CanonicalAttribute (row_of g c e) e → CanonicalAttribute (row_of g c f) f → IsShallow level x → IsShallow level y → named_attribute_text m c (Some t) e ≡ named_attribute_text m c (Some u) f →
+      length e.payload < bound → CanonicalAttribute (row_of g c e) e → CanonicalAttribute (row_of g c f) f → IsShallow level x → IsShallow level y → named_attribute_text m c (Some t) e ≡ named_attribute_text m c (Some u) f →
       named_attribute_below level m c (Some t) e ++ x ≡ named_attribute_below level m c (Some u) f ++ y → (e ≡ f) × (x ≡ y)
-  named_attribute_determined level c e f x y t u h i o v sx sy same under =
+  named_attribute_determined level c e f x y t u h i short o v sx sy same under =
       let k = proper_kind e.kind in
       let l = proper_kind f.kind in
-      let known : Name → Inside = λ w. known_inside m.scope c w.1 in
-      let cut = cut_word t.0 u.0 (inside_text (known t) e.payload) (inside_text (known u) f.payload) (names.word k t (small_kind e.kind) h) (names.word l u (small_kind f.kind) i)
-      (inside_ends (known t) e.payload) (inside_ends (known u) f.payload) same in
+      let known : Name → List ℕ → Inside = λ w p. known_inside m.scope c w.1 p in
+      let text : Name → List ℕ → List ℕ = λ w p. inside_text (known w p) p in
+      let cut = cut_word t.0 u.0 (text t e.payload) (text u f.payload) (names.word k t (small_kind e.kind) h) (names.word l u (small_kind f.kind) i)
+      (inside_ends (known t e.payload) e.payload) (inside_ends (known u f.payload) f.payload) same in
       let kinds : k ≡ l = names.apart k l t u (small_kind e.kind) (small_kind f.kind) h i cut.0 in
       let one : t ≡ u = same_Some t u (sym h ∙ ap (attribute_name_of m.table.0) kinds ∙ i) in
       let determined = rows.named_attributes c k t (small_kind e.kind) h in
       let canonical_f : IsCanonical (g.row c k).rule f.payload = subst (λ n. IsCanonical (g.row c n).rule f.payload) (sym kinds) v.payload in
-      let text : inside_text (known t) e.payload ≡ inside_text (known t) f.payload = cut.1 ∙ ap (λ w. inside_text (known w) f.payload) (sym one) in
-      let lines : below level m.scope (known t) e.payload ++ x ≡ below level m.scope (known t) f.payload ++ y =
-      under ∙ ap (λ w. below level m.scope (known w) f.payload ++ y) (sym one) in
-      let r = determined.1 level e.payload f.payload x y o.payload canonical_f sx sy text lines in
+      let alike : text t e.payload ≡ text t f.payload = cut.1 ∙ ap (λ w. text w f.payload) (sym one) in
+      let lines : below level m.scope (known t e.payload) e.payload ++ x ≡ below level m.scope (known t f.payload) f.payload ++ y =
+      under ∙ ap (λ w. below level m.scope (known w f.payload) f.payload ++ y) (sym one) in
+      let r = determined.1 level e.payload f.payload x y short o.payload canonical_f sx sy alike lines in
       (same_attribute e f (same_kinds c e f determined.0 o v kinds) r.0, r.1)
 
   either_determined : (level : ℕ) (c : Context) (e f : Attribute) (x y : List ℕ) (a b : Option Name) → attribute_name_of m.table.0 (proper_kind e.kind) ≡ a → attribute_name_of m.table.0 (proper_kind f.kind) ≡ b →
-      CanonicalAttribute (row_of g c e) e → CanonicalAttribute (row_of g c f) f → IsShallow level x → IsShallow level y → named_attribute_text m c a e ≡ named_attribute_text m c b f →
+      length e.payload < bound → CanonicalAttribute (row_of g c e) e → CanonicalAttribute (row_of g c f) f → IsShallow level x → IsShallow level y → named_attribute_text m c a e ≡ named_attribute_text m c b f →
       named_attribute_below level m c a e ++ x ≡ named_attribute_below level m c b f ++ y → (e ≡ f) × (x ≡ y)
   unfolding raw_text
-  either_determined level c e f x y None None h i o v sx sy same under =
+  either_determined level c e f x y None None h i short o v sx sy same under =
       let table = raw_table m.table in
       raw_attributes_determined.determined level table e f x y (encodable o) (encodable v) sx sy same
       (sym (no_more (lines_text (raw_below level table e)) x) ∙ under ∙ no_more (lines_text (raw_below level table f)) y)
-  either_determined level c e f x y None (Some u) h i o v sx sy same under =
-      absurd (not_raw m.table f.kind e names u (inside_text (known_inside m.scope c u.1) f.payload) (raw_row (raw_table m.table) e.kind) i h refl
-      (inside_ends (known_inside m.scope c u.1) f.payload) (sym same))
-  either_determined level c e f x y (Some t) None h i o v sx sy same under =
-      absurd (not_raw m.table e.kind f names t (inside_text (known_inside m.scope c t.1) e.payload) (raw_row (raw_table m.table) f.kind) h i refl
-      (inside_ends (known_inside m.scope c t.1) e.payload) same)
-  either_determined level c e f x y (Some t) (Some u) h i o v sx sy same under = named_attribute_determined level c e f x y t u h i o v sx sy same under
+  either_determined level c e f x y None (Some u) h i short o v sx sy same under =
+      absurd (not_raw m.table f.kind e names u (inside_text (known_inside m.scope c u.1 f.payload) f.payload) (raw_row (raw_table m.table) e.kind) i h refl
+      (inside_ends (known_inside m.scope c u.1 f.payload) f.payload) (sym same))
+  either_determined level c e f x y (Some t) None h i short o v sx sy same under =
+      absurd (not_raw m.table e.kind f names t (inside_text (known_inside m.scope c t.1 e.payload) e.payload) (raw_row (raw_table m.table) f.kind) h i refl
+      (inside_ends (known_inside m.scope c t.1 e.payload) e.payload) same)
+  either_determined level c e f x y (Some t) (Some u) h i short o v sx sy same under = named_attribute_determined level c e f x y t u h i short o v sx sy same under
 
   -- Two attributes and what follows them.
-  attribute_determined : (level : ℕ) (c : Context) (e f : Attribute) (x y : List ℕ) → CanonicalAttribute (row_of g c e) e → CanonicalAttribute (row_of g c f) f → IsShallow (level + 1) x → IsShallow (level + 1) y →
+  attribute_determined : (level : ℕ) (c : Context) (e f : Attribute) (x y : List ℕ) → length e.payload < bound → CanonicalAttribute (row_of g c e) e → CanonicalAttribute (row_of g c f) f → IsShallow (level + 1) x → IsShallow (level + 1) y →
       attribute_lines level m c e ++ (nested_lines (level + 1) (list_inside m c e) ++ x) ≡ attribute_lines level m c f ++ (nested_lines (level + 1) (list_inside m c f) ++ y) → (e ≡ f) × (x ≡ y)
   unfolding list_inside
-  attribute_determined level c e f x y o v sx sy same =
+  attribute_determined level c e f x y short o v sx sy same =
       let a = attribute_name_of m.table.0 (proper_kind e.kind) in
       let b = attribute_name_of m.table.0 (proper_kind f.kind) in
       let list_e = nested_lines (level + 1) (named_attribute_list m c a e) in
@@ -265,7 +286,7 @@ module _ (g : Grammar) (m : ListTable) (names : NamesDetermined m.table) (rows :
       append_cancel_left (indent level) _ _ (sym (lines_are level m c e (list_e ++ x)) ∙ same ∙ lines_are level m c f (list_f ++ y)) in
       let cut = cut_line (named_attribute_text m c a e) (named_attribute_text m c b f) (header_e ++ (list_e ++ x)) (header_f ++ (list_f ++ y)) (named_attribute_line m names c (proper_kind e.kind) a e (small_kind e.kind) refl)
       (named_attribute_line m names c (proper_kind f.kind) b f (small_kind f.kind) refl) following in
-      either_determined (level + 1) c e f x y a b refl refl o v sx sy cut.0 (append_assoc header_e list_e x ∙ cut.1 ∙ sym (append_assoc header_f list_f y))
+      either_determined (level + 1) c e f x y a b refl refl short o v sx sy cut.0 (append_assoc header_e list_e x ∙ cut.1 ∙ sym (append_assoc header_f list_f y))
 
   -- ---- attributes in order
 
@@ -278,29 +299,29 @@ module _ (g : Grammar) (m : ListTable) (names : NamesDetermined m.table) (rows :
   not_shallow : (level : ℕ) (c : Context) (e : Attribute) (more s : List ℕ) → IsShallow level s → s ≡ attribute_lines level m c e ++ more → ⊥
   not_shallow level c e more s h same = h _ (same ∙ lines_are level m c e more)
 
-  attributes_determined : (level : ℕ) (c : Context) (es fs : List Attribute) (s t : List ℕ) → AllCanonical g c es → AllCanonical g c fs → IsShallow level s → IsShallow level t → lines_of level m c es ++ s ≡ lines_of level m c fs ++ t → (es ≡ fs) × (s ≡ t)
-  attributes_determined level c [] [] s t a b h k same = (refl, same)
-  attributes_determined level c [] (f ∷ fs) s t a b h k same = absurd (not_shallow level c f _ s h (same ∙ append_assoc (attribute_lines level m c f) _ t))
-  attributes_determined level c (e ∷ es) [] s t a b h k same = absurd (not_shallow level c e _ t k (sym same ∙ append_assoc (attribute_lines level m c e) _ s))
-  attributes_determined level c (e ∷ es) (f ∷ fs) s t a b h k same =
+  attributes_determined : (level : ℕ) (c : Context) (es fs : List Attribute) (s t : List ℕ) → AllShort bound es → AllCanonical g c es → AllCanonical g c fs → IsShallow level s → IsShallow level t → lines_of level m c es ++ s ≡ lines_of level m c fs ++ t → (es ≡ fs) × (s ≡ t)
+  attributes_determined level c [] [] s t short a b h k same = (refl, same)
+  attributes_determined level c [] (f ∷ fs) s t short a b h k same = absurd (not_shallow level c f _ s h (same ∙ append_assoc (attribute_lines level m c f) _ t))
+  attributes_determined level c (e ∷ es) [] s t short a b h k same = absurd (not_shallow level c e _ t k (sym same ∙ append_assoc (attribute_lines level m c e) _ s))
+  attributes_determined level c (e ∷ es) (f ∷ fs) s t short a b h k same =
       let more_e = lines_of level m (next_in m.table c e) es in
       let more_f = lines_of level m (next_in m.table c f) fs in
-      let one = attribute_determined level c e f (more_e ++ s) (more_f ++ t) a.0 b.0 (rest_over level m names (next_in m.table c e) es s h) (rest_over level m names (next_in m.table c f) fs t k)
+      let one = attribute_determined level c e f (more_e ++ s) (more_f ++ t) short.0 a.0 b.0 (rest_over level m names (next_in m.table c e) es s h) (rest_over level m names (next_in m.table c f) fs t k)
       (sym (more_lines level c e more_e s) ∙ same ∙ more_lines level c f more_f t) in
       let canonical_e : AllCanonical g (next_in m.table c e) es = subst (λ d. AllCanonical g d es) (rows.next c e) a.1 in
       let context : g.next c f ≡ next_in m.table c e = ap (λ x. g.next c x) (sym one.0) ∙ rows.next c e in
       let canonical_f : AllCanonical g (next_in m.table c e) fs = subst (λ d. AllCanonical g d fs) context b.1 in
-      let rest = attributes_determined level (next_in m.table c e) es fs s t canonical_e canonical_f h k (one.1 ∙ ap (λ x. lines_of level m (next_in m.table c x) fs ++ t) (sym one.0)) in
+      let rest = attributes_determined level (next_in m.table c e) es fs s t short.1 canonical_e canonical_f h k (one.1 ∙ ap (λ x. lines_of level m (next_in m.table c x) fs ++ t) (sym one.0)) in
       (λ i. one.0 i ∷ rest.0 i, rest.1)
 
 by_start : (level : ℕ) (m : ListTable) (p : List ℕ) (es : List Attribute) → p ≡ list_text es → list_lines level m p ≡ lines_of level m nothing es
 by_start level m p es h = steps.start level m p ∙ ap (rest_lines level m nothing) h ∙ by_attributes level m nothing es
 
 -- Lines determine a list if they determine its rows.
-pub lists_determined : (form : ListForm) (g : Grammar) (m : ListTable) → NamesDetermined m.table → RowsDetermined g m → NestedDetermined (list_rule form g) m
-lists_determined form g m names rows level p q s t o u h k same =
+pub lists_determined : (bound : ℕ) (form : ListForm) (g : Grammar) (m : ListTable) → NamesDetermined m.table → RowsDetermined bound g m → NestedDetermined bound (list_rule form g) m
+lists_determined bound form g m names rows level p q s t short o u h k same =
     let a = canonical_list form g p o in
     let b = canonical_list form g q u in
-    let r = attributes_determined g m names rows level nothing a.attributes b.attributes s t a.own b.own h k
+    let r = attributes_determined bound g m names rows level nothing a.attributes b.attributes s t (all_short bound a.attributes (subst (λ z. length z < bound) a.is short)) a.own b.own h k
     (ap (λ z. z ++ s) (sym (by_start level m p a.attributes a.is)) ∙ same ∙ ap (λ z. z ++ t) (by_start level m q b.attributes b.is)) in
     (a.is ∙ ap list_text r.0 ∙ sym b.is, r.1)

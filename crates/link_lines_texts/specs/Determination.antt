@@ -1,13 +1,17 @@
 -- What lines determine: shapes, lists of attributes, and frames.
-use Rattle.std.specs.Prelude.{◌≡◌, ℕ, ◌≤◌, Bool, true, false, List, [], ◌∷◌, ◌++◌, ⊤, length, drop, Ok}
+use Rattle.std.specs.Prelude.{◌≡◌, ℕ, ◌≤◌, ◌<◌, ◌^◌, Bool, true, false, List, [], ◌∷◌, ◌++◌, ⊤, length, take, drop}
+use Rattle.std.specs.Prelude.{Ok}
 use Rattle.netlink_packet_core_grammar.specs.Bytes.{AreBytes}
+use Rattle.netlink_packet_core_grammar.specs.Frames.{frame_length}
 use Rattle.netlink_packet_core_grammar.specs.Numbers.{u16_at, u32_at}
 use Rattle.attribute_tables_grammar.specs.Rules.{Rule, shape_rule}
 use Rattle.attribute_tables_grammar.specs.Shapes.{Shape}
 use Rattle.link_message_grammar.specs.Body.{attributes_rule}
 use Rattle.link_message_grammar.specs.LinkMessage.{family_of}
 use Rattle.link_capture_grammar.specs.Bodies.{body_text}
+use Rattle.link_capture_grammar.specs.Captures.{first_frame}
 use Rattle.link_lines_values.specs.Values.{Shown, value_text}
+use Rattle.link_lines_texts.specs.Captures.{Choice, shown_lines, text_lines}
 use Rattle.link_lines_texts.specs.Coverage.{shape_determines}
 use Rattle.link_lines_texts.specs.declared.format.Scope.{Scope}
 use Rattle.link_lines_texts.specs.Frames.{frame_lines, in_message}
@@ -72,3 +76,14 @@ pub record FramesAreDetermined : Type 0 where
   pub determined : (numbers : Bool) (f g s t : List ℕ) → IsCanonicalFrame f → IsCanonicalFrame g →
       NumbersAreKnown numbers f → NumbersAreKnown numbers g → StartsFrame s → StartsFrame t →
       frame_lines numbers f ++ s ≡ frame_lines numbers g ++ t → (drop 4 f ≡ drop 4 g) × (s ≡ t)
+
+-- The first frame's bytes in a text, without the padding.
+abbrev pub unpadded : List ℕ → List ℕ
+unpadded t = take (frame_length t) t
+
+-- The text of an accepted frame is shown as a frame whose body is canonical.
+pub record AcceptedFramesAreCanonical : Type 0 where
+  pub canonical : (limit : ℕ) (c : List ℕ) (frame : ℕ × List ℕ) → limit < 2 ^ 32 → AreBytes c →
+      first_frame limit c ≡ Ok frame → IsCanonicalFrame (unpadded frame.1)
+  pub lines : (o : Choice) (limit : ℕ) (c : List ℕ) (frame : ℕ × List ℕ) → limit < 2 ^ 32 →
+      first_frame limit c ≡ Ok frame → text_lines o frame.1 ≡ shown_lines o (unpadded frame.1)

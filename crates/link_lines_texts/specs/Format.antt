@@ -1,6 +1,7 @@
 -- How the payloads of attributes with names are shown.
-use Rattle.std.specs.Prelude.{ℕ, Bool, true, cond, List, Option, Some, None, bytes_eq, codes}
+use Rattle.std.specs.Prelude.{ℕ, Bool, true, cond, ◌&&◌, List, Option, Some, None, bytes_eq, codes}
 use Rattle.attribute_tables_grammar.specs.Lists.{Context}
+use Rattle.link_message_grammar.specs.Body.{link_peer}
 use Rattle.link_tables.specs.declared.rows.Held.{Held as TableHeld}
 use Rattle.link_tables.specs.declared.rows.Held.TheVariants.{List as HeldList}
 use Rattle.link_tables.specs.declared.table.Table.{Table}
@@ -66,15 +67,23 @@ abbrev pub statistics_inside : Option (List ℕ) → Inside
 statistics_inside None = Value Bytes
 statistics_inside (Some name) = cond (bytes_eq name (codes "can")) (Held can_statistics) (Value Bytes)
 
--- The way in which a payload is shown under the kinds in force; inside a peer, a peer is shown as bytes, and in a
--- request settings are.
-abbrev pub known_inside : Scope → Context → Inside → Inside
-known_inside scope c Data = inside_held (data_under c.kind)
-known_inside scope c Statistics = statistics_inside c.kind
-known_inside scope c PortData = inside_held (port_data_under c.port_kind)
-known_inside scope c (Settings shown) = cond scope.is_request Plain (Value shown)
-known_inside scope c Peer = cond scope.is_in_peer (Value Bytes) Peer
-known_inside scope c inside = inside
+-- Whether bytes are accepted as a peer, and are already canonical.
+unfoldable pub is_canonical_peer : List ℕ → Bool
+is_canonical_peer b = link_peer.accepted b && bytes_eq (link_peer.canonical b) b
+
+-- The way in which a peer is shown. The normal text keeps the bytes of one inside a peer, so it is shown as a peer only if
+-- it is canonical, and else as bytes.
+abbrev pub peer_inside : Bool → List ℕ → Inside
+peer_inside is_in_peer p = cond is_in_peer (cond (is_canonical_peer p) Peer Plain) Peer
+
+-- The way in which a payload is shown under the kinds in force. In a request, settings are shown as bytes.
+abbrev pub known_inside : Scope → Context → Inside → List ℕ → Inside
+known_inside scope c Data p = inside_held (data_under c.kind)
+known_inside scope c Statistics p = statistics_inside c.kind
+known_inside scope c PortData p = inside_held (port_data_under c.port_kind)
+known_inside scope c (Settings shown) p = cond scope.is_request Plain (Value shown)
+known_inside scope c Peer p = peer_inside scope.is_in_peer p
+known_inside scope c inside p = inside
 
 -- Whether the text after a name is on the name's line.
 abbrev pub is_inside_on_a_line : Inside → Bool

@@ -1,8 +1,7 @@
 -- The lines of a message: that of its header, of a link's header, and of its attributes.
 use Rattle.std.specs.Prelude.{ℕ, ◌%◌, ◌==◌, ◌||◌, ◌&&◌, nat_le, Bool, true, false, cond, List, [], ◌∷◌, ◌++◌, length}
-use Rattle.std.specs.Prelude.{take, drop, bytes_eq, codes, decimal, Option, Some, None}
+use Rattle.std.specs.Prelude.{take, drop, codes, decimal, Option, Some, None}
 use Rattle.netlink_packet_core_grammar.specs.Numbers.{u16_at, u32_at}
-use Rattle.link_message_grammar.specs.Body.{link_peer}
 use Rattle.link_capture_grammar.specs.Bodies.{is_link_type}
 use Rattle.link_lines_values.specs.declared.flags.TheConstants.{MESSAGE_FLAGS, MESSAGE_GET_FLAGS, MESSAGE_CREATE_FLAGS}
 use Rattle.link_lines_values.specs.declared.flags.TheConstants.{MESSAGE_DELETE_FLAGS, MESSAGE_ACK_FLAGS}
@@ -15,6 +14,7 @@ use Rattle.link_lines_values.specs.Values.{value_text}
 use Rattle.link_lines_raw.specs.Bodies.{body_lines as raw_body_lines}
 use Rattle.link_lines_raw.specs.Lines.{Line, lines_text}
 use Rattle.link_lines_texts.specs.declared.format.Scope.{Scope}
+use Rattle.link_lines_texts.specs.Format.{is_canonical_peer}
 use Rattle.link_lines_texts.specs.Links.{labelled, link_header_line}
 use Rattle.link_lines_texts.specs.Lists.{in_peer, list_lines, of_link}
 
@@ -81,10 +81,6 @@ unfoldable pub link_lines : Scope → List ℕ → List ℕ
 link_lines scope b =
     cond (nat_le 16 (length b)) (link_header_line 1 b ++ list_lines 1 (of_link scope b) (drop 16 b))
     (bytes_line (codes "body") b)
-
--- Whether bytes are accepted as a peer, and are already canonical.
-unfoldable pub is_canonical_peer : List ℕ → Bool
-is_canonical_peer b = link_peer.accepted b && bytes_eq (link_peer.canonical b) b
 
 -- The types 108 to 110, RTM_NEWLINKPROP, RTM_DELLINKPROP and RTM_GETLINKPROP (rtnetlink.h), whose bodies are links'.
 abbrev pub is_property_type : ℕ → Bool

@@ -63,12 +63,12 @@ inside_list scope inside p = None
 -- The text of an attribute: under its name, or as a raw one if it has no row.
 abbrev pub named_attribute_text : ListTable → Context → Option Name → Attribute → List ℕ
 named_attribute_text m c None e = raw_text (raw_table m.table) [] e
-named_attribute_text m c (Some t) e = t.0 ++ inside_text (known_inside m.scope c t.1) e.payload
+named_attribute_text m c (Some t) e = t.0 ++ inside_text (known_inside m.scope c t.1 e.payload) e.payload
 
 -- The lines below an attribute's line, but not those of a list with a table.
 abbrev pub named_attribute_header : ℕ → ListTable → Context → Option Name → Attribute → List ℕ
 named_attribute_header level m c None e = lines_text (raw_below level (raw_table m.table) e)
-named_attribute_header level m c (Some t) e = header_inside level (known_inside m.scope c t.1) e.payload
+named_attribute_header level m c (Some t) e = header_inside level (known_inside m.scope c t.1 e.payload) e.payload
 
 -- The line of an attribute, and those below it, but not those of a list with a table.
 unfoldable pub attribute_lines : ℕ → ListTable → Context → Attribute → List ℕ
@@ -80,7 +80,7 @@ attribute_lines level m c e =
 -- The list in an attribute whose name has been looked up.
 abbrev pub named_attribute_list : ListTable → Context → Option Name → Attribute → Option (ListTable × List ℕ)
 named_attribute_list m c None e = None
-named_attribute_list m c (Some t) e = inside_list m.scope (known_inside m.scope c t.1) e.payload
+named_attribute_list m c (Some t) e = inside_list m.scope (known_inside m.scope c t.1 e.payload) e.payload
 
 -- The list in an attribute, if it holds one.
 unfoldable pub list_inside : ListTable → Context → Attribute → Option (ListTable × List ℕ)

@@ -2,9 +2,11 @@
 
 ghost use Rattle.std.specs.Prelude.{◌≡◌, ◌<◌, ◌≤◌, ◌⊎◌, true, [], get_or, option_map};
 ghost use Rattle.link_lines_values.specs.DenseRows.{are_dense, find};
-ghost use Rattle.link_lines_texts.specs.AttributeNames.{data_names, info_attribute_names, link_rows, link_names, nested_names, family_names};
+ghost use Rattle.link_lines_texts.specs.AttributeNames.{data_names, info_attribute_names, link_rows, link_names};
+ghost use Rattle.link_lines_texts.specs.AttributeNames.{nested_names, family_names};
 ghost use Rattle.link_tables.specs.declared.table.TheConstants.{LINK_INFO, LINK_UNSPEC};
-ghost use Rattle.link_lines_texts.specs.AttributeNames.{attribute_rows_of, attribute_name_of, attribute_names_of, viewed};
+ghost use Rattle.link_lines_texts.specs.AttributeNames.{attribute_rows_of, attribute_name_of, attribute_names_of};
+ghost use Rattle.link_lines_texts.specs.AttributeNames.{viewed};
 
 use crate::format::Format;
 use crate::{data_names, message_names};

@@ -142,7 +142,7 @@ fn push_attribute<'a>(
         push_raw(level + 1, raw_table(list_table.table), attribute, out)?;
         return Ok(None);
     };
-    let format = known_format(list_table.scope, force, format);
+    let format = known_format(list_table.scope, force, format, attribute.payload, out)?;
     out.extend_from_slice(name)?;
     push_payload(level + 1, format, attribute.payload, out)?;
     Ok(list_of(list_table.scope, format, attribute.payload))

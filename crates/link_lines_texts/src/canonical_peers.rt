@@ -2,7 +2,7 @@
 
 ghost use Rattle.std.specs.Prelude.{◌≡◌, true, length, bytes_eq, IfOk};
 ghost use Rattle.link_message_grammar.specs.Body.{link_peer};
-ghost use Rattle.link_lines_texts.specs.Frames.{is_canonical_peer};
+ghost use Rattle.link_lines_texts.specs.Format.{is_canonical_peer};
 
 use attribute_tables_grammar::laws::measures_determine_rules;
 use link_interpreter::{PeerSet, WritePeer};
@@ -35,7 +35,7 @@ fn is_written_unchanged(peer: &[u8], scratch: &mut Vec<u8>) -> Result<bool, Allo
 /// # Errors
 ///
 /// `AllocError` if `scratch` can't grow.
-#[tactic(auto, unfolding(crate::specs::Frames::is_canonical_peer))]
+#[tactic(auto, unfolding(crate::specs::Format::is_canonical_peer))]
 pub(crate) fn is_canonical_peer(bytes: &[u8], scratch: &mut Vec<u8>) -> Result<bool, AllocError>
     ensures ok { IfOk result (λ is_canonical. is_canonical ≡ is_canonical_peer bytes.now) }
     ensures scratch { scratch.new.items ≡ scratch.old.items }

@@ -1,13 +1,15 @@
 //! How the payloads of attributes with names are shown.
 
-ghost use Rattle.std.specs.Prelude.{◌≡◌};
-ghost use Rattle.link_lines_texts.specs.Format.{inside_of, inside_held, known_inside, of_held, statistics_inside};
+ghost use Rattle.std.specs.Prelude.{◌≡◌, true, IfOk};
+ghost use Rattle.link_lines_texts.specs.Format.{inside_of, inside_held, known_inside, of_held, peer_inside, statistics_inside};
 ghost use Rattle.link_tables.specs.InForce.{held_in_force, in_force};
 
+use crate::canonical_peers::is_canonical_peer;
 use link_lines_raw::records::CAN_DEVICE_STATS;
 use link_lines_raw::{Raw, RawBy, RawTable};
 use link_lines_values::{ExactBy, Shown, ShownBy};
 use link_tables::{Form, Held, IFLA_INFO_DATA, IFLA_INFO_SLAVE_DATA, InForce, Table, info_held};
+use std::alloc::AllocError;
 
 /// How the payload of an attribute with a name is shown, with formats of type `S`.
 #[derive(Clone, Copy)]
@@ -86,20 +88,44 @@ fn statistics_format(force: InForce<'_>) -> Format
     }
 }
 
-/// Returns how a payload is shown under the kinds in force. Inside a peer, a peer is shown as
-/// bytes.
-pub(crate) fn known_format(scope: Scope, force: InForce<'_>, format: Format) -> Format
-    ensures { inside_of (λ b. b.now) (λ t. t.now) (λ r. r.now) result
-        ≡ known_inside scope (in_force force.entry)
-        (inside_of (λ b. b.now) (λ t. t.now) (λ r. r.now) format.entry) }
+/// Returns how a peer inside a peer is shown: as a peer if it is canonical, else as bytes.
+fn inner_peer_format(payload: &[u8], scratch: &mut Vec<u8>) -> Result<Format, AllocError>
+    ensures ok { IfOk result (λ format. inside_of (λ b. b.now) (λ t. t.now) (λ r. r.now) format
+        ≡ peer_inside true payload.now) }
+    ensures scratch { scratch.new.items ≡ scratch.old.items }
 {
-    match format {
+    if is_canonical_peer(payload, scratch)? {
+        Ok(FormatBy::Peer)
+    } else {
+        Ok(FormatBy::Plain)
+    }
+}
+
+/// Returns how a payload is shown under the kinds in force. To look whether a peer inside a peer is
+/// canonical, its text may be written at the end of `scratch`, and is removed again.
+///
+/// # Errors
+///
+/// `AllocError` if `scratch` can't grow.
+pub(crate) fn known_format(
+    scope: Scope,
+    force: InForce<'_>,
+    format: Format,
+    payload: &[u8],
+    scratch: &mut Vec<u8>,
+) -> Result<Format, AllocError>
+    ensures ok { IfOk result (λ known. inside_of (λ b. b.now) (λ t. t.now) (λ r. r.now) known
+        ≡ known_inside scope (in_force force.entry)
+        (inside_of (λ b. b.now) (λ t. t.now) (λ r. r.now) format.entry) payload.now) }
+    ensures scratch { scratch.new.items ≡ scratch.old.items }
+{
+    Ok(match format {
         FormatBy::Data => info_format(force, IFLA_INFO_DATA),
         FormatBy::Statistics => statistics_format(force),
         FormatBy::PortData => info_format(force, IFLA_INFO_SLAVE_DATA),
         FormatBy::Settings(shown) if !scope.is_request => FormatBy::Value(shown),
         FormatBy::Settings(_) => FormatBy::Plain,
-        FormatBy::Peer if scope.is_in_peer => FormatBy::Value(ShownBy::Bytes),
+        FormatBy::Peer if scope.is_in_peer => inner_peer_format(payload, scratch)?,
         _ => format,
-    }
+    })
 }

@@ -167,7 +167,7 @@ fn push_link(scope: Scope, body: &[u8], out: &mut Vec<u8>) -> Result<(), AllocEr
 }
 
 /// Appends the lines of the body of a message about a link's properties: those of a link if the body
-/// is a canonical peer, or else its bytes. Peers inside it are shown as bytes, as inside a peer.
+/// is a canonical peer, or else its bytes. Peers inside it are shown as inside a peer.
 #[tactic(auto, unfolding(crate::specs::Frames::property_lines))]
 fn push_properties(is_request: bool, body: &[u8], out: &mut Vec<u8>) -> Result<(), AllocError>
     ensures ok { OnOk result (out.new.items ≡ out.old.items ++ property_lines is_request body.now) }

@@ -5,7 +5,8 @@ ghost use Rattle.link_lines_texts.specs.Laws.{AcceptedFramesHaveLines, LinesAreJ
 ghost use Rattle.link_lines_texts.specs.Laws.{LinesDetermineMeanings, LinesDetermineTexts};
 ghost use Rattle.link_lines_texts.specs.Laws.{LinesWithoutNumbersDetermineClearedTexts};
 ghost use Rattle.link_lines_texts.specs.Laws.{ListsUnfoldByAttributes, RowsAreDetermined};
-ghost use Rattle.link_lines_texts.specs.Determination.{FramesAreDetermined, ListsAreDetermined, ShapesAreDetermined};
+ghost use Rattle.link_lines_texts.specs.Determination.{AcceptedFramesAreCanonical, FramesAreDetermined};
+ghost use Rattle.link_lines_texts.specs.Determination.{ListsAreDetermined, ShapesAreDetermined};
 
 use link_capture_numbers::laws::cleared_captures_have_cleared_texts;
 
@@ -51,6 +52,11 @@ pub fn lists_are_determined()
 /// Two frames with canonical bodies are equal except for their length if their lines are.
 pub fn frames_are_determined()
     ensures { FramesAreDetermined }
+{}
+
+/// The text of an accepted frame is shown as a frame whose body is canonical.
+pub fn accepted_frames_are_canonical()
+    ensures { AcceptedFramesAreCanonical }
 {}
 
 /// Two captures have the same lines if and only if they have the same texts; for legal captures, if

@@ -4,7 +4,8 @@ ghost use Rattle.std.specs.Prelude.{◌≡◌, [], ◌==◌, ◌<◌, ◌≤◌,
 ghost use Rattle.link_lines_values.specs.Bytes.{is_zero};
 ghost use Rattle.link_lines_values.specs.Names.{texts_of};
 ghost use Rattle.link_lines_values.specs.Records.{field_of, field_text, field_value, fields_of, fields_text};
-ghost use Rattle.link_lines_values.specs.Records.{half_of, handle_or_hex, has_zero_padding, is_hidden, is_padding, is_record, is_signed_size};
+ghost use Rattle.link_lines_values.specs.Records.{half_of, handle_or_hex, has_zero_padding, is_hidden, is_padding};
+ghost use Rattle.link_lines_values.specs.Records.{is_record, is_signed_size};
 ghost use Rattle.link_lines_values.specs.Records.{counter_name, counters_text, is_counters, nonzero_text, slots_text};
 ghost use Rattle.link_lines_values.specs.Records.{number_or_hex, record_text, shown_of, total_size};
 

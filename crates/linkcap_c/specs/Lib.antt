@@ -3,6 +3,7 @@ pub mod Pieces
 pub mod Faults
 pub mod Choices
 pub mod Statuses
+pub mod Selecting
 pub mod Messages
 pub mod Quirks
 pub mod Apart

@@ -11,7 +11,7 @@ pub const DIFFERENT: u32 = 1;
 /// A fault, which is reported with its offset.
 pub const FAULT: u32 = 2;
 
-/// A limit under 16, or a fault that is none.
+/// A limit under 16, a fault that is none, or a word that isn't known.
 pub const WRONG: u32 = 3;
 
 /// The buffer is too small.
@@ -20,7 +20,7 @@ pub const NO_ROOM: u32 = 4;
 /// No memory.
 pub const NO_MEMORY: u32 = 5;
 
-/// There is nothing to return: no message at the offset, or no refused body.
+/// There is nothing to return: no message at the offset, no refused body, or no unknown word.
 pub const NONE: u32 = 6;
 
 /// Whether a run can have this limit.

@@ -6,7 +6,8 @@ ghost use Rattle.link_capture_grammar.specs.Captures.{texts};
 ghost use Rattle.link_lines.specs.Captures.{lines};
 ghost use Rattle.linkcap_c.specs.Statuses.{IsWritingStatus, KeepsFault};
 ghost use Rattle.linkcap_c.specs.Buffers.{Holds};
-ghost use Rattle.linkcap_c.specs.Pieces.{as_text, as_lines, form_of, IsUsed, IsAccepted, IsEnded, IsFaulty, Needs, IsWhole, Continues, Fails};
+ghost use Rattle.linkcap_c.specs.Pieces.{as_text, as_lines, form_of, IsUsed, IsAccepted, IsEnded, IsFaulty, Needs};
+ghost use Rattle.linkcap_c.specs.Pieces.{IsWhole, Continues, Fails};
 ghost use Rattle.linkcap_c.specs.Choices.{asked};
 ghost use Rattle.linkcap_c.specs.Faults.{kind_number, fault_of};
 

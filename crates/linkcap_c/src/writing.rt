@@ -59,7 +59,7 @@ fn lacking_memory(bytes: &[u8], limit: u32, room: usize, size: &mut u64) -> u32
 }
 
 /// Reports a fault along with a status, unless that is `NO_ROOM`.
-fn report(status: u32, found: CaptureFault, fault: &mut LinkcapFault) -> u32
+pub(crate) fn report(status: u32, found: CaptureFault, fault: &mut LinkcapFault) -> u32
     ensures status { result ≡ status }
     ensures reported { status ≢ 4 → fault.new ≡ fault_of 0 found }
     ensures kept { status ≡ 4 → fault.new ≡ fault.old }

@@ -11,16 +11,16 @@ use Rattle.link_lines.proofs.messages.push_message.Goals as goal
 
 pub push_refused-requires : goal.push_refused-requires
 push_refused-requires c =
-    let judged = judged_as _ _ _ _ (J.Faulty c.in-Faulty.kind c.in-Faulty.len) c.in-Faulty.is c.in_ok-len.ensures in
+    let judged = judged_as _ _ _ _ (J.Faulty c.in-Faulty.kind c.in-Faulty.len) c.in-Faulty.is c.in_ok-len.ensures.ok in
     subst IsFrame (sym c.frame_of.ensures) (frame_is_frame c.args.bytes.now judged.2)
 
-pub returns-in_ok-push_accepted-in-Accepted : goal.returns-in_ok-push_accepted-in-Accepted
-returns-in_ok-push_accepted-in-Accepted c =
-    let judged = judged_as _ _ _ _ (J.Accepted c.in-Accepted.len) c.in-Accepted.is c.in_ok-len.ensures in
+pub returns-in_ok-push_accepted-in-Accepted-clause-ok : goal.returns-in_ok-push_accepted-in-Accepted-clause-ok
+returns-in_ok-push_accepted-in-Accepted-clause-ok c =
+    let judged = judged_as _ _ _ _ (J.Accepted c.in-Accepted.len) c.in-Accepted.is c.in_ok-len.ensures.ok in
     is_accepted c.frames_are_independent.ensures c.messages_unfold.ensures _ _ _ _ _ _ _ _ _ _ judged c.in_ok-push_accepted-in-Accepted.ensures.ok refl
 
-pub returns-in_ok-push_refused-in-Faulty : goal.returns-in_ok-push_refused-in-Faulty
-returns-in_ok-push_refused-in-Faulty c =
-    let judged = judged_as _ _ _ _ (J.Faulty c.in-Faulty.kind c.in-Faulty.len) c.in-Faulty.is c.in_ok-len.ensures in
+pub returns-in_ok-push_refused-in-Faulty-clause-ok : goal.returns-in_ok-push_refused-in-Faulty-clause-ok
+returns-in_ok-push_refused-in-Faulty-clause-ok c =
+    let judged = judged_as _ _ _ _ (J.Faulty c.in-Faulty.kind c.in-Faulty.len) c.in-Faulty.is c.in_ok-len.ensures.ok in
     is_faulty c.frames_are_independent.ensures c.messages_unfold.ensures _ _ _ c.args.bytes.now c.judge.new.text.items _ _ _ _ _ _ judged c.if-options.true
     (c.in_ok-push_refused-in-Faulty.ensures.ok ∙ ap (λ f. c.args.out.now.items ++ message_lines (selection_of c.args.options) (Faulty c.args.offset c.in-Faulty.kind f)) c.frame_of.ensures) c.keep_fault.ensures

@@ -2,6 +2,7 @@ use Rattle.std.proofs.Common.{◌≡◌, ◌+◌, ◌++◌, ◌∷◌, [], true,
 use Rattle.netlink_packet_core_grammar.specs.Frames.{frame_type}
 use Rattle.link_capture_grammar.specs.Bodies.{is_link_type}
 use Rattle.link_capture_quirks.specs.declared.walk.Level.{Level}
+use Rattle.link_capture_quirks.specs.QuirkTables.{whole}
 use Rattle.link_capture_quirks.specs.QuirkLists.{quirks_at, list_quirks}
 use Rattle.link_capture_quirks.proofs.Entering.{not-entered, entered}
 use Rattle.link_capture_quirks.proofs.walk.Walk.enter.Goals as goal
@@ -13,9 +14,9 @@ returns-then-not-is_link_type-clause-quirks_left c =
 pub returns-clause-quirks_left : goal.returns-clause-quirks_left
 returns-clause-quirks_left c =
     let yes' : is_link_type (frame_type c.args.bytes.now) ≡ true = search rules in
-    let l : Level = record { list = record { table = c.family_table.result; judged = true }; offset = c.args.offset + 16 + 16; rest = c.following.result } in
+    let l : Level = record { list = c.new-list.result; offset = c.args.offset + 16 + 16; rest = c.following.result } in
     let type' : c.message_type-message_type.result ≡ frame_type c.args.bytes.now = search rules in
     entered c.args.offset c.message_type-message_type.result c.args.bytes.now c.frame_body-body.result.now c.quirk_at-self.result l c.push.new.self.items
     type' c.frame_body-body.ensures yes' (c.push.ensures.items ∙ ap (λ z. z ++ l ∷ []) c.requires.ended)
     (c.quirk_at-self.ensures ∙ ap (quirks_at (c.args.offset + 16 + 1)) c.header_quirk.ensures)
-    (ap (λ t. list_quirks (record { table = t; judged = true }) (c.args.offset + 16 + 16) c.following.result.now) c.family_table.ensures ∙ ap (list_quirks _ (c.args.offset + 16 + 16)) c.following.ensures)
+    (ap (λ t. list_quirks t (c.args.offset + 16 + 16) c.following.result.now) c.new-list.ensures ∙ ap (λ t. list_quirks (whole t true) (c.args.offset + 16 + 16) c.following.result.now) c.family_table.ensures ∙ ap (list_quirks _ (c.args.offset + 16 + 16)) c.following.ensures)

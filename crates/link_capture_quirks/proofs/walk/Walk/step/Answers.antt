@@ -1,6 +1,7 @@
-use Rattle.std.proofs.Common.{◌≡◌, ◌+◌, ◌++◌, ◌∷◌, [], length, None, sym, ap, subst, ◌∙◌, refl, arith, rules, length-drop, length-append}
+use Rattle.std.proofs.Common.{option_map, ◌≡◌, ◌+◌, ◌++◌, ◌∷◌, [], length, None, sym, ap, subst, ◌∙◌, refl, arith, rules, length-drop, length-append}
 use Rattle.netlink_packet_core_grammar.specs.Attributes.{Attribute}
 use Rattle.link_capture_quirks.specs.declared.walk.Level.{Level}
+use Rattle.link_capture_quirks.specs.QuirkTables.{listing}
 use Rattle.link_capture_quirks.specs.QuirkLists.{quirks_at, list_quirks}
 use Rattle.link_capture_quirks.specs.QuirkWalks.{AreWithin, walk_quirks, weight}
 use Rattle.link_capture_quirks.proofs.Stacks.{within-leading, within-last}
@@ -57,7 +58,7 @@ returns-in-Some-inside c =
       offset = refl;
       inside = c.in-Some-inside.ensures.header_size;
       size = ap length c.following.ensures ∙ length-drop header_size e.payload;
-      quirks_left = ap (λ b. list_quirks k.list k.offset b) c.following.ensures;
+      quirks_left = ap (λ b. list_quirks (listing k.list) k.offset b) c.following.ensures;
     } in
     let f : Found l e c.quirk_at-self.result c.quirk_at-self-2.result = record {
       bit = c.quirk_at-self.ensures ∙ ap (quirks_at l.offset) c.attribute_quirks-nested.ensures.bit;
@@ -92,6 +93,6 @@ returns-in_default-inside c =
     record {
       within = subst (AreWithin 0) (sym c.push.ensures.items) (within-next ls l m e c.requires n);
       quirks_left = ap (walk_quirks c.quirk_at-self.result c.quirk_at-self-2.result) c.push.ensures.items
-          ∙ quirks-next c.lists_unfold_by_attributes.ensures ls l m e n c.quirk_at-self.result c.quirk_at-self-2.result f (sym c.inside.ensures.inside ∙ nothing);
+          ∙ quirks-next c.lists_unfold_by_attributes.ensures ls l m e n c.quirk_at-self.result c.quirk_at-self-2.result f (sym c.inside.ensures.inside ∙ ap (option_map (λ x. (listing x.0, x.1))) nothing);
       less = omega (arith, less-next ls l m e c.requires n, ap weight c.push.ensures.items);
     }

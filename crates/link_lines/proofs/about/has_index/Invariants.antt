@@ -1,0 +1,10 @@
+use Rattle.std.proofs.Common.{◌≡◌, false, length}
+use Rattle.link_lines.specs.About.{has_index}
+use Rattle.link_lines.specs.Lines.{words_of}
+use Rattle.link_lines.proofs.about.has_index.Given as goal
+
+abbrev pub invariant-loop-word : goal.invariant-loop-word
+invariant-loop-word l = has_index l.link l.after_name (words_of l.rest) ≡ has_index l.fn.link false (words_of l.fn.line)
+
+abbrev pub decreases-loop-word : goal.decreases-loop-word
+decreases-loop-word l = length l.rest

@@ -1,0 +1,44 @@
+-- All lines that are selected are appended, or memory runs out.
+use Rattle.std.proofs.Common.{◌≡◌, ◌∙◌, sym, subst}
+use Rattle.link_lines.specs.Messages.{first_report, messages}
+use Rattle.link_lines.specs.Options.{selection_of}
+use Rattle.link_lines.specs.Outcomes.{RunsOutAt}
+use Rattle.link_lines.specs.Walks.{report_in, reported_by}
+use Rattle.link_lines.proofs.Selecting.{IsShownWhole, fault_at_frame, fault_shown, legal_shown, memory_sufficed, refusal_shown, runs_out, shown_whole}
+use Rattle.link_lines.proofs.selected.show_selected_bytes.Goals as goal
+use Rattle.link_lines.proofs.selected.show_selected_bytes.Goals.{After-conclude}
+
+whole : (c : After-conclude) → IsShownWhole (selection_of c.args.options) c.args.limit c.args.bytes.now c.args.out.now.items c.push_messages.new.out.items (report_in c.push_messages.new.found) c.in-Ok.walked.len c.in-Ok.walked.last
+whole c = shown_whole c.messages_unfold.ensures _ _ _ _ _ _ _ _ c.in-Ok.ensures.passes c.in-Ok.ensures.ends
+
+report : (c : After-conclude) → first_report (messages c.args.options.keep_going c.args.limit c.args.bytes.now) ≡ reported_by c.conclude.result
+report c = (whole c).report ∙ sym c.conclude.ensures
+
+pub returns-in-Ok-clause-legal : goal.returns-in-Ok-clause-legal
+returns-in-Ok-clause-legal c =
+    let at = (goal.at.returns-in-Ok-clause-legal c).After-conclude in
+    legal_shown c.first_faults_are_reported.ensures c.faults_are_at_frames.ensures _ _ _ _ _ (whole at).lines c.conclude.result (report at)
+
+pub returns-in-Ok-clause-fault : goal.returns-in-Ok-clause-fault
+returns-in-Ok-clause-fault c =
+    let at = (goal.at.returns-in-Ok-clause-fault c).After-conclude in
+    fault_shown c.first_faults_are_reported.ensures c.faults_are_at_frames.ensures _ _ _ _ _ (whole at).lines c.conclude.result (report at)
+
+pub returns-in-Ok-clause-refusal : goal.returns-in-Ok-clause-refusal
+returns-in-Ok-clause-refusal c =
+    let at = (goal.at.returns-in-Ok-clause-refusal c).After-conclude in
+    refusal_shown c.first_faults_are_reported.ensures c.faults_are_at_frames.ensures _ _ _ _ _ (whole at).lines c.conclude.result (report at)
+
+pub returns-in-Ok-clause-frame_start : goal.returns-in-Ok-clause-frame_start
+returns-in-Ok-clause-frame_start c =
+    let at = (goal.at.returns-in-Ok-clause-frame_start c).After-conclude in
+    fault_at_frame c.first_faults_are_reported.ensures c.faults_are_at_frames.ensures _ _ _ _ _ (whole at).lines c.conclude.result (report at)
+
+pub returns-in-Ok-clause-memory : goal.returns-in-Ok-clause-memory
+returns-in-Ok-clause-memory c =
+    let at = (goal.at.returns-in-Ok-clause-memory c).After-conclude in
+    memory_sufficed c.first_faults_are_reported.ensures c.faults_are_at_frames.ensures _ _ _ _ _ (whole at).lines c.conclude.result (report at)
+
+pub returns-clause-memory : goal.returns-clause-memory
+returns-clause-memory c = λ m.
+    subst (λ e. RunsOutAt c.args.options.keep_going c.args.limit c.args.bytes.now e.fault.offset) (sym c.fault_at.ensures) (runs_out c.args.options.keep_going c.args.limit c.args.bytes.now c.in-Err.offset c.in-Err.ensures.memory)

@@ -1,0 +1,37 @@
+-- Whether the lines of a message are about a link.
+use Rattle.std.specs.Prelude.{ℕ, ◌==◌, ◌&&◌, ◌||◌, Bool, false, codes, bytes_eq, List, [], ◌∷◌, ◌++◌, flat_map}
+use Rattle.std.specs.List.{list_any}
+use Rattle.link_lines_values.specs.Bytes.{escaped}
+use Rattle.link_lines.specs.Lines.{level, lines_of, words_of}
+use Rattle.link_lines.specs.Remaining.{is_header, is_index_field}
+
+-- A word as it is shown in quotes, and the end of its line.
+abbrev pub quoted_end : List ℕ → List ℕ
+quoted_end word = flat_map escaped word ++ codes "\"\n"
+
+-- Whether a line is that of a name of a link: of its only one, an alternative one, or one in a list of these.
+abbrev pub is_name_line : List ℕ → List ℕ → Bool
+is_name_line link line =
+    bytes_eq line (codes "  IFLA_IFNAME \"" ++ quoted_end link) ||
+    (bytes_eq line (codes "  IFLA_ALT_IFNAME \"" ++ quoted_end link) ||
+    bytes_eq line (codes "    IFLA_ALT_IFNAME \"" ++ quoted_end link))
+
+-- Whether a field with an index has this value; `after_name` says whether the first word is the value of one.
+abbrev pub has_index : List ℕ → Bool → List (List ℕ) → Bool
+has_index link after_name [] = false
+has_index link after_name (word ∷ words) =
+    (after_name && bytes_eq word (32 ∷ link)) || has_index link (is_index_field word) words
+
+-- Whether a line is that of a header at level 1 with this index.
+abbrev pub is_index_line : List ℕ → List ℕ → Bool
+is_index_line link line = (level line == 1 && is_header line) && has_index link false (words_of line)
+
+-- The second of some lines.
+abbrev pub second : List (List ℕ) → List ℕ
+second [] = []
+second (first ∷ []) = []
+second (first ∷ (line ∷ lines)) = line
+
+-- Whether the lines of a message are about the link with this name or index.
+abbrev pub is_about : List ℕ → List ℕ → Bool
+is_about text link = list_any (is_name_line link) (lines_of text) || is_index_line link (second (lines_of text))

@@ -1,0 +1,24 @@
+//! The offset of a message in its first line.
+
+ghost use Rattle.std.specs.Prelude.{◌≡◌, ◌++◌, OnOk};
+ghost use Rattle.link_lines.specs.Offsets.{with_offset};
+
+use crate::cuts::line_len;
+use link_lines_values::push_decimal;
+use std::alloc::AllocError;
+
+/// Appends the lines of a message, with ` offset N` at the end of the first line.
+///
+/// # Errors
+///
+/// `AllocError` if `out` can't grow; it may then have a part of the lines.
+#[tactic(auto, using(crate::proofs::FirstParts::prefix_within))]
+pub fn push_with_offset(lines: &[u8], offset: u64, out: &mut Vec<u8>) -> Result<(), AllocError>
+    ensures ok { OnOk result (out.new.items ≡ out.old.items ++ with_offset offset lines.now) }
+{
+    let (first, rest) = lines.split_at(line_len(lines));
+    out.extend_from_slice(first)?;
+    out.extend_from_slice(b" offset ")?;
+    push_decimal(offset, out)?;
+    out.extend_from_slice(rest)
+}

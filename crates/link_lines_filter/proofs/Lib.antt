@@ -1,3 +1,0 @@
-pub mod FirstParts
-pub mod QuotedWords
-pub mod Keeping

@@ -1,0 +1,70 @@
+"""Captures and files of lines, as linkdiff and linkjson read them."""
+import os
+import shutil
+
+HEADER_SIZE, DEFAULT_LIMIT = 16, 1 << 20
+FIRST_WORDS = (b"RTM_", b"NLMSG_", b"type ", b"# linkcap lines")
+BODY_FAULTS = (
+    "refused body", "ports with foreign entries alone", "attribute over 65535", "normal text over the limit")
+
+
+class MissingProgram(Exception):
+    """There is no program linkshow."""
+
+
+def linkshow():
+    """The program that shows captures.
+
+    # Errors
+
+    MissingProgram if there is none.
+    """
+    program = os.environ.get("LINKSHOW", "linkshow")
+    if shutil.which(program) is None:
+        raise MissingProgram(f"no program {program}: put it on your PATH, or name it by LINKSHOW")
+    return program
+
+
+def is_body_fault(message):
+    """Whether a message of linkshow is about the body of a message, after which linkshow --keep-going goes on."""
+    return message.startswith(BODY_FAULTS)
+
+
+def whole_messages(data, limit):
+    """The number of bytes at the start that are whole messages, with their padding, and whether none can follow, since
+    the next length is no message's."""
+    offset = 0
+    while len(data) - offset >= HEADER_SIZE:
+        length = int.from_bytes(data[offset:offset + 4], "little")
+        if not HEADER_SIZE <= length <= limit:
+            return offset, True
+        end = offset + (length + 3) // 4 * 4
+        if end > len(data):
+            break
+        offset = end
+    return offset, False
+
+
+def end_of_messages(data, limit):
+    """The number of bytes at the start of a capture that are whole messages. The last one may lack padding."""
+    end, is_lost = whole_messages(data, limit)
+    length = int.from_bytes(data[end:end + 4], "little")
+    return len(data) if not is_lost and HEADER_SIZE <= length <= len(data) - end else end
+
+
+def are_lines(start):
+    """Whether a file that begins so has lines. No capture begins with their first letters, which would be a length of
+    over a gigabyte."""
+    return start.startswith(FIRST_WORDS)
+
+
+def has_version(start):
+    """Whether the first line of a file of lines is that of a golden file, which has their format version."""
+    return start.startswith(b"#")
+
+
+def decode_lines(lines):
+    """The lines of a file of lines as text, without the one with their format version."""
+    for number, line in enumerate(lines):
+        if number or not has_version(line):
+            yield line.decode(errors="replace").rstrip("\r\n")

@@ -220,6 +220,7 @@ expect "a cut frame after invalid messages" 2 "linkdiff: mixed-cut: $refused"$'\
 expect "offsets don't count" 0 "linkdiff: mixed: $refused" "$linkdiff" --keep-going mixed.lines mixed < /dev/null
 expect "a file of lines with offsets and without numbers" 0 "linkdiff: mixed: $refused" \
     "$linkdiff" --keep-going --without numbers mixed.lines mixed < /dev/null
+succeeds "an index in a heading" bash -c '"$0" --without indexes routes prefix | grep -qx "@@ .* @@ RTM_NEWADDR index 3"' "$linkdiff"
 succeeds "an offset in a heading" bash -c '"$0" --offsets routes prefix | grep -qx "@@ .* @@ RTM_NEWADDR index 3 at 48 of routes"' "$linkdiff"
 for arguments in a "a a a" "--unknown a a" "- -" "--without IFLA_NAM a a" "--label a --label b --label c a a"; do
     succeeds "usage: $arguments" bash -c '"$0" $1 2> usage; [ $? -eq 2 ] && grep -q "^usage: linkdiff" usage' "$linkdiff" "$arguments"

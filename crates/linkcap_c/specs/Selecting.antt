@@ -42,10 +42,15 @@ IsListError Takes none w Errors.Invalid = IsInvalidList Takes none w
 abbrev pub AreRead : List ℕ → List ℕ → Type 0
 AreRead only without = (types : List ℕ) × (x : Exclusion) × ReadsTypes only (Ok types) × ReadsNames without (Ok x)
 
--- A word of one of both lists is the first in it that isn't known.
+-- Why one of both lists isn't read: the types; or else, if these are read, what is left out.
+abbrev pub IsErrorOf : List ℕ → List ℕ → ListError → Type 0
+IsErrorOf only without e = IsListError TakesType [] only e ⊎
+    (((types : List ℕ) × ReadsTypes only (Ok types)) × IsListError TakesWord nothing_excluded without e)
+
+-- A word is the first that isn't known: of the types; or else, if these are read, of what is left out.
 abbrev pub IsUnknownWord : List ℕ → List ℕ → List ℕ → Type 0
 IsUnknownWord only without word = ReadsTypes only (Err (WordFault.Unknown word)) ⊎
-    ReadsNames without (Err (WordFault.Unknown word))
+    (((types : List ℕ) × ReadsTypes only (Ok types)) × ReadsNames without (Err (WordFault.Unknown word)))
 
 -- ---- selections
 
@@ -79,8 +84,7 @@ pub record Selects (flags : ℕ) (only link without : List ℕ) (o : Selection) 
 
 -- The arguments of a call are invalid: a flag isn't known, or a list of words isn't read.
 abbrev pub AreInvalid : ℕ → List ℕ → List ℕ → Type 0
-AreInvalid flags only without = (8 ≤ flags) ⊎ ((e : ListError) ×
-    (IsListError TakesType [] only e ⊎ IsListError TakesWord nothing_excluded without e))
+AreInvalid flags only without = (8 ≤ flags) ⊎ ((e : ListError) × IsErrorOf only without e)
 
 -- ---- results
 

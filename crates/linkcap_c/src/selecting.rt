@@ -11,7 +11,7 @@ ghost use Rattle.link_lines.specs.Types.{TakesType};
 ghost use Rattle.link_lines.specs.Without.{TakesWord, exclusion_of, nothing_excluded};
 ghost use Rattle.linkcap_c.specs.Buffers.{Holds, Lacks};
 ghost use Rattle.linkcap_c.specs.Faults.{ReportsFault};
-ghost use Rattle.linkcap_c.specs.Selecting.{AreInvalid, AreRead, IsInvalidList, IsListError, IsUnknownWord, ReadsNames};
+ghost use Rattle.linkcap_c.specs.Selecting.{AreInvalid, AreRead, IsErrorOf, IsInvalidList, IsUnknownWord, ReadsNames};
 ghost use Rattle.linkcap_c.specs.Selecting.{ReadsTypes, Selects, WritesShown, has_flag, selected_by};
 ghost use Rattle.linkcap_c.specs.Statuses.{IsWritingStatus, KeepsFault, KeepsSize};
 
@@ -58,8 +58,7 @@ struct Lists {
 fn read_lists<'a>(only: &'a [u8], without: &'a [u8]) -> Result<Lists, ListError<'a>>
     ensures only { IfOk result (λ lists. ReadsTypes only.now (Ok lists.only.items)) }
     ensures without { IfOk result (λ lists. ReadsNames without.now (Ok (exclusion_of lists.without))) }
-    ensures err { IfErr result (λ e. IsListError TakesType [] only.now e
-        ⊎ IsListError TakesWord nothing_excluded without.now e) }
+    ensures err { IfErr result (λ e. IsErrorOf only.now without.now e) }
 {
     let only = read_only(only)?;
     let without = read_without(without)?;
@@ -176,7 +175,8 @@ pub extern "C" fn linkcap_unknown_word(
     ensures room { result ≡ 4 → (word : List ℕ) × IsUnknownWord only.now without.now word
         × Lacks word size.new out.old }
     ensures wrong { result ≡ 3 → IsInvalidList TakesType [] only.now
-        ⊎ IsInvalidList TakesWord nothing_excluded without.now }
+        ⊎ (((types : List ℕ) × ReadsTypes only.now (Ok types))
+        × IsInvalidList TakesWord nothing_excluded without.now) }
     ensures none { result ≡ 6 → AreRead only.now without.now × (size.new ≡ 0) }
     ensures kept { (result ≡ 3) ⊎ (result ≡ 4) ⊎ (result ≡ 6) → out.new ≡ out.old }
     ensures kept_size { result ≡ 3 → size.new ≡ size.old }

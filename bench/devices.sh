@@ -188,10 +188,10 @@ expect "lines: a fault after the first piece" 2 "cut frame at 67200" $((1400 * l
 for arguments in "--limit 15" "48 48" "--limit"; do
     # shellcheck disable=SC2086
     run $arguments < "$request"
-    expect "lines: usage error: '$arguments'" 3 "usage: linkshow [--only TYPE,..] [--link WORD] [--without NAME,..] [--without-numbers] [--offsets] [--keep-going] [--kernels] [--limit N] [FILE]; linkshow --help says more" 0
+    expect "lines: usage error: '$arguments'" 3 "usage: linkshow [--only TYPE,..] [--link WORD] [--without NAME,..] [--without-numbers] [--offsets] [--keep-going] [--json] [--kernels] [--limit N] [FILE]; linkshow --help says more" 0
 done
 run $'\xff' < "$request"
-expect "lines: an argument that isn't UTF-8" 3 "usage: linkshow [--only TYPE,..] [--link WORD] [--without NAME,..] [--without-numbers] [--offsets] [--keep-going] [--kernels] [--limit N] [FILE]; linkshow --help says more" 0
+expect "lines: an argument that isn't UTF-8" 3 "usage: linkshow [--only TYPE,..] [--link WORD] [--without NAME,..] [--without-numbers] [--offsets] [--keep-going] [--json] [--kernels] [--limit N] [FILE]; linkshow --help says more" 0
 run < "$work"
 expect "lines: a directory can't be read" 2 "read failed at 0" 0
 : > "$work/text"

@@ -13,7 +13,7 @@ work=$(mktemp -d)
 trap 'rm -rf "$work"' EXIT
 request=samples/lo-request.bin
 lines=samples/lo-request.lines
-usage='usage: linkshow [--only TYPE,..] [--link WORD] [--without NAME,..] [--without-numbers] [--offsets] [--keep-going] [--kernels] [--limit N] [FILE]; linkshow --help says more'
+usage='usage: linkshow [--only TYPE,..] [--link WORD] [--without NAME,..] [--without-numbers] [--offsets] [--keep-going] [--json] [--kernels] [--limit N] [FILE]; linkshow --help says more'
 failed=0
 : > "$work/nothing"
 
@@ -108,7 +108,7 @@ grep -oE 'linkshow [0-9]+\.[0-9.]+, lines [0-9]+' docs/showing.md | head -n 1 > 
 expect "the version is that of the page" 0 "" "$work/version"
 run --help
 status=$status:$(head -n 1 "$work/text"):$(grep -c -- '^  --' "$work/text")
-expect "help" "0:usage: linkshow [--only TYPE,..] [--link WORD] [--without NAME,..]:10" "" "$work/text"
+expect "help" "0:usage: linkshow [--only TYPE,..] [--link WORD] [--without NAME,..]:11" "" "$work/text"
 # The limits are those of the header for C.
 default=$(sed -n 's/^#define LINKCAP_DEFAULT_LIMIT //p' bindings/c/linkcap.h)
 lowest=$(sed -n 's/^#define LINKCAP_MIN_LIMIT //p' bindings/c/linkcap.h)

@@ -20,7 +20,7 @@ _linkshow_words() {
 }
 
 _linkshow() {
-    _linkshow_words "--only --link --without --without-numbers --offsets --keep-going --kernels --limit --help --version"
+    _linkshow_words "--only --link --without --without-numbers --offsets --keep-going --json --kernels --limit --help --version"
 }
 
 _linkdiff() {

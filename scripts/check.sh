@@ -230,19 +230,20 @@ done
 
 cat "$work/a" "$work/b" "$work/a" > "$work/three"
 json='{"type": "RTM_GETLINK", "flags": {"value": 769, "flags": ["REQUEST", "ROOT", "MATCH"]}, "seq": 1526271540, "port": 0, '
-json+='"attributes": [{"name": "IFLA_EXT_MASK", "value": 9, "flags": ["Vf", "SkipStats"]}, {"name": "IFLA_IFNAME", "value": "lo", "quoted": true}], '
 json+='"header": {"struct": "ifinfomsg", "family": {"value": 0, "text": "AF_UNSPEC"}, "type": {"value": 0, "text": "netrom"}, "index": 0, '
-json+='"flags": {"value": 0, "flags": []}, "change": {"value": 0, "flags": []}}}'
+json+='"flags": {"value": 0, "flags": []}, "change": {"value": 0, "flags": []}}, '
+json+='"attributes": [{"name": "IFLA_EXT_MASK", "value": 9, "flags": ["Vf", "SkipStats"]}, {"name": "IFLA_IFNAME", "value": "lo", "quoted": true}]}'
 succeeds "stored lines as JSON" "$top/scripts/tests/lines.py"
 expect "a capture as JSON" 0 "" "$linkjson" a <<< "$json"
+expect "JSON of linkshow" 0 "" "$LINKSHOW" --json a <<< "$json"
 expect "lines as JSON" 0 "" "$linkjson" a.lines <<< "$json"
 expect "a golden file as JSON" 0 "" "$linkjson" headed.lines <<< "${json/\"seq\": 1526271540, \"port\": 0, /}"
 expect "JSON without numbers and an attribute" 0 "" "$linkjson" --without-numbers --without IFLA_IFNAME a \
-    <<< "$(sed 's/"seq.*0, "attr/"attr/; s/, {"name": "IFLA_IFNAME[^}]*}//' <<< "$json")"
+    <<< "$(sed 's/"seq.*0, "header/"header/; s/, {"name": "IFLA_IFNAME[^}]*}//' <<< "$json")"
 expect "JSON of a type" 0 "no messages" "$linkjson" --only newlink a < /dev/null
 expect "JSON of a link" 0 "no messages" "$linkjson" --link lo b < /dev/null
 expect "JSON of a route" 0 "" "$linkjson" --without-numbers --only newroute routes << 'END'
-{"type": "RTM_NEWROUTE", "flags": {"value": 1541, "flags": ["REQUEST", "ACK", "EXCL", "CREATE"]}, "attributes": [{"name": "RTA_DST", "value": "198.51.100.0"}, {"name": "RTA_MULTIPATH", "nested": [{"struct": "rtnexthop", "fields": {"flags": {"value": 0, "flags": []}, "hops": 0, "ifindex": 0}, "nested": [{"name": "RTA_GATEWAY", "value": "192.0.2.2"}]}, {"struct": "rtnexthop", "fields": {"flags": {"value": 0, "flags": []}, "hops": 9, "ifindex": 0}, "nested": [{"name": "RTA_GATEWAY", "value": "192.0.2.3"}]}]}], "header": {"struct": "rtmsg", "family": {"value": 2, "text": "AF_INET"}, "dst_len": 24, "src_len": 0, "tos": 0, "table": {"value": 254, "text": "main"}, "protocol": {"value": 3, "text": "boot"}, "scope": {"value": 0, "text": "universe"}, "type": {"value": 1, "text": "unicast"}, "flags": {"value": 0, "flags": []}}}
+{"type": "RTM_NEWROUTE", "flags": {"value": 1541, "flags": ["REQUEST", "ACK", "EXCL", "CREATE"]}, "header": {"struct": "rtmsg", "family": {"value": 2, "text": "AF_INET"}, "dst_len": 24, "src_len": 0, "tos": 0, "table": {"value": 254, "text": "main"}, "protocol": {"value": 3, "text": "boot"}, "scope": {"value": 0, "text": "universe"}, "type": {"value": 1, "text": "unicast"}, "flags": {"value": 0, "flags": []}}, "attributes": [{"name": "RTA_DST", "value": "198.51.100.0"}, {"name": "RTA_MULTIPATH", "nested": [{"struct": "rtnexthop", "fields": {"flags": {"value": 0, "flags": []}, "hops": 0, "ifindex": 0}, "nested": [{"name": "RTA_GATEWAY", "value": "192.0.2.2"}]}, {"struct": "rtnexthop", "fields": {"flags": {"value": 0, "flags": []}, "hops": 9, "ifindex": 0}, "nested": [{"name": "RTA_GATEWAY", "value": "192.0.2.3"}]}]}]}
 END
 expect "JSON of a cut capture" 2 "cut frame at 48" "$linkjson" cut <<< "$json"
 expect "JSON under a limit" 2 "frame over the limit at 0" "$linkjson" --limit 47 a < /dev/null
@@ -256,8 +257,8 @@ for option in "--only newlink" --limit=48 --offsets --keep-going; do
         bash -c '"$0" $1 a.lines' "$linkjson" "$option" < /dev/null
 done
 at() { sed "s/\"port\": 0, /&\"offset\": $1, /" <<< "${2:-$json}"; }
-invalid='{"type": "RTM_GETLINK", "flags": {"value": 769, "flags": ["REQUEST", "ROOT", "MATCH"]}, "seq": 1, "port": 0, "attributes": [], '
-invalid+='"refused": "a header of 4 bytes", "body": "00000000"}'
+invalid='{"type": "RTM_GETLINK", "flags": {"value": 769, "flags": ["REQUEST", "ROOT", "MATCH"]}, "seq": 1, "port": 0, '
+invalid+='"refused": "a header of 4 bytes", "body": "00000000", "attributes": []}'
 expect "JSON with offsets" 0 "" "$linkjson" --offsets three < <(at 0; at 48 "${json/lo/l1}"; at 96)
 expect "JSON with offsets and without numbers" 0 "" "$linkjson" --offsets --without numbers three \
     < <({ at 0; at 48 "${json/lo/l1}"; at 96; } | sed 's/"seq.*"offset/"offset/')

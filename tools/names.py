@@ -1,7 +1,8 @@
 #!/usr/bin/env python3
-"""Writes the sets of attributes' names that the Python package needs to read lines.
+"""Writes the sets of attributes' names that are needed to read lines.
 
-    tools/names.py            writes NAMES, COUNTERS and INDEXES of lines_filter.py, BYTES and NUMBER_LISTS of lines_json.py
+    tools/names.py            writes NAMES, COUNTERS and INDEXES of lines_filter.py, and BYTES and NUMBER_LISTS of lines_json.py
+                              and of the crate link_lines_json
     tools/names.py --check    ends with status 1 if one of these differs from the tables
 
 The names, their groups and the formats of values are those of the independent implementation, tools/oracle/rows.tsv and
@@ -18,6 +19,7 @@ sys.path.append(str(TOP / "tools/oracle"))
 import linkshow  # noqa: E402
 
 PACKAGE = TOP / "bindings/python/linkcap"
+CRATE = TOP / "crates/link_lines_json/src"
 
 
 def names_with(*formats):
@@ -26,21 +28,38 @@ def names_with(*formats):
     return {name for name, style in rows if style.split()[0] in formats and name != "[]"}
 
 
+BYTES = names_with("bytes", "hardware_address", "bridge_id")
+NUMBER_LISTS = names_with("numbers")
+
 # (file, set, names)
 SETS = (
-    ("lines_filter.py", "NAMES", linkshow.NAMES),
-    ("lines_filter.py", "COUNTERS", linkshow.GROUPS["counters"]),
-    ("lines_filter.py", "INDEXES", linkshow.GROUPS["indexes"]),
-    ("lines_json.py", "BYTES", names_with("bytes", "hardware_address", "bridge_id")),
-    ("lines_json.py", "NUMBER_LISTS", names_with("numbers")),
+    (PACKAGE / "lines_filter.py", "NAMES", linkshow.NAMES),
+    (PACKAGE / "lines_filter.py", "COUNTERS", linkshow.GROUPS["counters"]),
+    (PACKAGE / "lines_filter.py", "INDEXES", linkshow.GROUPS["indexes"]),
+    (PACKAGE / "lines_json.py", "BYTES", BYTES),
+    (PACKAGE / "lines_json.py", "NUMBER_LISTS", NUMBER_LISTS),
+    (CRATE / "names.rt", "BYTES", BYTES),
+    (CRATE / "names.rt", "NUMBER_LISTS", NUMBER_LISTS),
 )
 
 
-def with_set(text, name, members):
-    """A file's text in which a set has these members."""
+def python_set(name, members):
+    """The definition of a set in Python, and a pattern of any such definition."""
     lines = textwrap.wrap(" ".join(sorted(members)), 124, initial_indent="    ", subsequent_indent="    ")
-    block = '%s = frozenset("""\n%s""".split())\n' % (name, "\n".join(lines))
-    new, count = re.subn(r'^%s = frozenset\("""\n.*?"""\.split\(\)\)\n' % name, block, text, flags=re.M | re.S)
+    definition = '%s = frozenset("""\n%s""".split())\n' % (name, "\n".join(lines))
+    return definition, r'^%s = frozenset\("""\n.*?"""\.split\(\)\)\n' % name
+
+
+def rattle_constant(name, members):
+    """The definition of a constant in Rattle, and a pattern of any such definition."""
+    lines = "".join('    b"%s",\n' % member for member in sorted(members))
+    return "pub const %s: &[&[u8]] = &[\n%s];\n" % (name, lines), r"^pub const %s: &\[&\[u8\]\] = &\[\n.*?\];\n" % name
+
+
+def with_set(path, name, members):
+    """A file's text in which a set has these members."""
+    definition, pattern = (rattle_constant if path.suffix == ".rt" else python_set)(name, members)
+    new, count = re.subn(pattern, definition, path.read_text(encoding="utf-8"), flags=re.M | re.S)
     if count != 1:
         raise SystemExit("names: no set %s" % name)
     return new
@@ -48,14 +67,14 @@ def with_set(text, name, members):
 
 def main():
     is_check, status = sys.argv[1:] == ["--check"], 0
-    for file, name, members in SETS:
-        path = PACKAGE / file
-        text = path.read_text(encoding="utf-8")
-        new = with_set(text, name, members)
-        if new != text and is_check:
-            print("names: %s of %s differs from the tables: tools/names.py writes it" % (name, file))
+    for path, name, members in SETS:
+        new = with_set(path, name, members)
+        if new == path.read_text(encoding="utf-8"):
+            continue
+        if is_check:
+            print("names: %s of %s differs from the tables: tools/names.py writes it" % (name, path.name))
             status = 1
-        elif new != text:
+        else:
             path.write_text(new, encoding="utf-8")
     return status
 

@@ -225,6 +225,36 @@ static void check_pieces(const Bytes &capture, uint32_t limit, const LineChoice 
     LAW(text.status == LINKCAP_OK || piece.fault.kind == text.fault.kind);
 }
 
+// Pieces of any sizes yield the selected lines of the whole capture, or its JSON, and its first fault.
+static void check_selected_pieces(const Bytes &capture, uint32_t limit, uint32_t flags, std::minstd_rand &random)
+{
+    Result whole = selected_lines(capture, limit, flags, "");
+    Bytes written;
+    uint64_t used = 0, available = 0;
+    uint32_t status = LINKCAP_OK;
+    linkcap_fault first = {};
+    for (size_t capacity = 0;;) {
+        bool is_last = available == capture.size();
+        Bytes rest(capture.begin() + used, capture.begin() + available);
+        Piece piece = show_selected_some(rest, is_last, limit, used, flags, capacity);
+        counts.pieces++;
+        LAW(piece.status == LINKCAP_OK || piece.status == LINKCAP_FAULT || piece.status == LINKCAP_NO_ROOM);
+        if (piece.status == LINKCAP_FAULT && status == LINKCAP_OK) {
+            status = LINKCAP_FAULT;
+            first = {piece.fault.kind, piece.fault.side, used + piece.fault.offset};
+        }
+        written.insert(written.end(), piece.written.begin(), piece.written.end());
+        used += piece.progress.used;
+        capacity = piece.progress.wanted;
+        if (piece.status == LINKCAP_FAULT ? piece.fault.offset == piece.progress.used : piece.status == LINKCAP_OK && is_last)
+            break;
+        if (piece.status == LINKCAP_OK)
+            available = std::min<uint64_t>(capture.size(), available + 1 + random() % (capture.size() / 2 + 1));
+    }
+    LAW(status == whole.status && written == whole.written);
+    LAW(status == LINKCAP_OK || is_same_fault(first, whole.fault));
+}
+
 // Without options the selected lines are all; if messages after the first fault are shown too, all are a prefix.
 static void check_selections(const Bytes &capture, uint32_t limit, const Result &listing)
 {
@@ -241,6 +271,8 @@ static void check_selections(const Bytes &capture, uint32_t limit, const Result 
     LAW(unnumbered.written == selected_lines(capture, limit, 0, "NUMBERS").written);
     Result rest = selected_lines(capture, limit, LINKCAP_OFFSETS, "counters,indexes,IFLA_MTU");
     LAW(rest.status == listing.status && is_text(rest.written, true));
+    Result objects = selected_lines(capture, limit, LINKCAP_JSON, "");
+    LAW(objects.status == listing.status && is_text(objects.written, true));
 }
 
 static void check_one(const Bytes &capture, uint32_t limit, std::minstd_rand &random)
@@ -266,6 +298,7 @@ static void check_one(const Bytes &capture, uint32_t limit, std::minstd_rand &ra
     check_pieces(capture, limit, nullptr, text, random);
     LineChoice choice = {random() % 2 == 0, random() % 2 ? std::vector<uint16_t>{} : std::vector<uint16_t>{16, 3}};
     check_pieces(capture, limit, &choice, lines(capture, limit, choice), random);
+    check_selected_pieces(capture, limit, random() % 16, random);
 }
 
 // ---- two captures

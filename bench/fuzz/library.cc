@@ -174,6 +174,15 @@ Piece show_some(const Bytes &piece, bool is_last, uint32_t limit, const LineChoi
     return collect_output(result, piece, out, capacity);
 }
 
+Piece show_selected_some(const Bytes &piece, bool is_last, uint32_t limit, uint64_t offset, uint32_t flags, size_t capacity)
+{
+    Piece result = {};
+    uint8_t *out = output.get_tail(capacity);
+    result.status = linkcap_show_selected_some(first_input.store(piece), piece.size(), is_last, limit, offset, flags, nullptr, 0,
+                                               nullptr, 0, nullptr, 0, out, capacity, &result.progress, &result.fault);
+    return collect_output(result, piece, out, capacity);
+}
+
 Message next_message(const Bytes &capture, uint32_t limit, uint64_t offset)
 {
     Message result = {};

@@ -61,7 +61,7 @@ struct Quirks {
     std::vector<linkcap_quirk> list;
 };
 
-// The result of linkcap_normalize_some or linkcap_show_some for one piece.
+// The result of linkcap_normalize_some, linkcap_show_some or linkcap_show_selected_some for one piece.
 struct Piece {
     uint32_t status;
     linkcap_fault fault;
@@ -82,6 +82,8 @@ Result selected_lines(const Bytes &capture, uint32_t limit, uint32_t flags, cons
 Reason why(const Bytes &capture, uint32_t limit);
 Piece normalize_some(const Bytes &piece, bool is_last, uint32_t limit, size_t capacity);
 Piece show_some(const Bytes &piece, bool is_last, uint32_t limit, const LineChoice &choice, size_t capacity);
+// Calls linkcap_show_selected_some with the flags, for a piece at an offset of a capture.
+Piece show_selected_some(const Bytes &piece, bool is_last, uint32_t limit, uint64_t offset, uint32_t flags, size_t capacity);
 Message next_message(const Bytes &capture, uint32_t limit, uint64_t offset);
 Quirks quirks(const Bytes &capture, uint32_t limit);
 Bytes fault_text(const linkcap_fault &fault);

@@ -59,11 +59,12 @@ enum linkcap_status {
     LINKCAP_NONE = 6       /* there is no further message, no refused body, or no unknown word */
 };
 
-/* Flags of linkcap_show_selected: the options of the program linkshow that have no value. */
+/* Flags of linkcap_show_selected and linkcap_show_selected_some: the options of the program linkshow that have no value. */
 enum linkcap_show_flag {
     LINKCAP_WITHOUT_NUMBERS = 1, /* without sequence and port numbers */
     LINKCAP_OFFSETS = 2,         /* each message's first line ends with its offset in the capture, in bytes */
-    LINKCAP_KEEP_GOING = 4       /* a message with a fault in its body is shown too, in hex, and those after it */
+    LINKCAP_KEEP_GOING = 4,      /* a message with a fault in its body is shown too, in hex, and those after it */
+    LINKCAP_JSON = 8             /* each message is an object of JSON, with what its lines have, in a line of its own */
 };
 
 /* Kinds of faults. Captures in memory have the first eight; the last four are those of the program. */
@@ -97,7 +98,7 @@ struct linkcap_sizes {
     uint64_t text_high;
 };
 
-/* How far linkcap_normalize_some or linkcap_show_some came. */
+/* How far linkcap_normalize_some, linkcap_show_some or linkcap_show_selected_some came. */
 struct linkcap_progress {
     uint64_t used;    /* bytes of the piece whose texts, or lines, are written */
     uint64_t written; /* bytes of these texts or lines */
@@ -273,6 +274,25 @@ uint32_t linkcap_unknown_word(const uint8_t *only, size_t only_length, const uin
 uint32_t linkcap_show_some(const uint8_t *piece, size_t length, bool last, uint32_t limit, bool without_numbers,
                            const uint16_t *types, size_t types_length, uint8_t *out, size_t room,
                            struct linkcap_progress *progress, struct linkcap_fault *fault);
+
+/*
+ * Writes the lines of the messages that are whole in one piece of a capture, as linkcap_show_selected selects them, and as
+ * linkcap_show_some writes them: with the same results and the same rules for what is given again. `offset` is the piece's
+ * own, in bytes from the capture's start: the offsets that LINKCAP_OFFSETS shows are those in the capture. *fault, as that of
+ * linkcap_show_some, has the offset in the piece. Beside these,
+ *
+ * LINKCAP_FAULT        has the first fault of the piece. With LINKCAP_KEEP_GOING, and if it is one of a body, its message is
+ *                      written too, and used: fault->offset is less than progress->used. The caller then keeps the first of
+ *                      these faults, and gives the bytes after the used ones, or with `last` none, until another result.
+ *                      Else showing stops at the message: fault->offset is progress->used.
+ * LINKCAP_WRONG        is also returned for flags and lists, as by linkcap_show_selected, and for a piece that ends 2^64 bytes
+ *                      or more after the capture's start. Nothing is written.
+ * LINKCAP_NO_MEMORY    has the offset of the message for whose lines there was no memory, which is progress->used.
+ */
+uint32_t linkcap_show_selected_some(const uint8_t *piece, size_t length, bool last, uint32_t limit, uint64_t offset,
+                                    uint32_t flags, const uint8_t *only, size_t only_length, const uint8_t *link,
+                                    size_t link_length, const uint8_t *without, size_t without_length, uint8_t *out,
+                                    size_t room, struct linkcap_progress *progress, struct linkcap_fault *fault);
 
 /*
  * Writes each encoding of a capture that some kernels treat differently from its normal text, in the order of the bytes, to

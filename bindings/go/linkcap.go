@@ -66,6 +66,8 @@ type Selection struct {
 	Offsets bool
 	// KeepGoing also shows messages with a fault of their body, and those after them.
 	KeepGoing bool
+	// JSON makes an object of each message's lines, in a line of its own.
+	JSON bool
 }
 
 // flags returns the flags for the library.
@@ -79,6 +81,9 @@ func (s *Selection) flags() C.uint32_t {
 	}
 	if s.KeepGoing {
 		flags |= C.LINKCAP_KEEP_GOING
+	}
+	if s.JSON {
+		flags |= C.LINKCAP_JSON
 	}
 	return flags
 }

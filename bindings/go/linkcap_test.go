@@ -118,6 +118,9 @@ RTM_GETLINK flags 0x1 (REQUEST) offset 40
   ifinfomsg family 0 (AF_UNSPEC) type 0 (netrom) flags 0x0 change 0x0
   IFLA_IFNAME "lo"
 `: {LineOptions: linkcap.LineOptions{Only: []uint16{18, 77}}, Link: "lo", Without: "indexes", KeepGoing: true},
+		`{"type": "RTM_NEWLINK", "flags": {"value": 0, "flags": []}, "offset": 0, "refused": "IFLA_MTU: a payload of 3 bytes", "body": "000000000000000000000000000000000700040001020300", "attributes": []}
+{"type": "RTM_GETLINK", "flags": {"value": 1, "flags": ["REQUEST"]}, "offset": 40, "header": {"struct": "ifinfomsg", "family": {"value": 0, "text": "AF_UNSPEC"}, "type": {"value": 0, "text": "netrom"}, "index": 0, "flags": {"value": 0, "flags": []}, "change": {"value": 0, "flags": []}}, "attributes": [{"name": "IFLA_IFNAME", "value": "lo", "quoted": true}]}
+`: {LineOptions: linkcap.LineOptions{WithoutNumbers: true}, Offsets: true, KeepGoing: true, JSON: true},
 		"": {Offsets: true},
 	} {
 		lines, err := linkcap.SelectedLines(both, selection)
@@ -125,13 +128,34 @@ RTM_GETLINK flags 0x1 (REQUEST) offset 40
 		if lines != "" || string(fault.Written) != want || fault.Kind != linkcap.Refused || fault.Offset != 0 {
 			t.Errorf("%+v: %q, %v, %s", selection, lines, fault, fault.Written)
 		}
+		for _, size := range []int{1, 7, 16, 4096} {
+			got, err := io.ReadAll(linkcap.NewSelectedLineReader(&chunks{both, size}, selection))
+			inPieces := requireFault(t, err)
+			if string(got) != want || inPieces.Error() != fault.Error() || inPieces.Offset != 0 {
+				t.Errorf("%+v in pieces of %d: %q, %v", selection, size, got, err)
+			}
+		}
+	}
+	for _, name := range []string{"req-veth", "get-veth"} {
+		want := readFile(t, "samples/"+name+".lines")
+		for _, size := range []int{1, 7, 16, 4096} {
+			source := &chunks{readSample(t, name), size}
+			got, err := io.ReadAll(linkcap.NewSelectedLineReader(source, linkcap.Selection{KeepGoing: true}))
+			if err != nil || !bytes.Equal(got, want) {
+				t.Errorf("%s in pieces of %d: %v", name, size, err)
+			}
+		}
 	}
 	if lines, err := linkcap.SelectedLines(request, linkcap.Selection{Link: "1"}); lines != "" || err != nil {
 		t.Error(lines, err)
 	}
-	_, err := linkcap.SelectedLines(request, linkcap.Selection{Without: "counters,mtu"})
-	if name := linkcap.UnknownNameError(""); !errors.As(err, &name) || name != "mtu" {
-		t.Error(err)
+	unknown := linkcap.Selection{Without: "counters,mtu"}
+	_, err := linkcap.SelectedLines(request, unknown)
+	_, readErr := io.ReadAll(linkcap.NewSelectedLineReader(bytes.NewReader(request), unknown))
+	for _, err := range []error{err, readErr} {
+		if name := linkcap.UnknownNameError(""); !errors.As(err, &name) || name != "mtu" {
+			t.Error(err)
+		}
 	}
 	many := linkcap.LineOptions{Only: make([]uint16, 33)}
 	if _, err := linkcap.SelectedLines(request, linkcap.Selection{LineOptions: many}); err != linkcap.ErrTooMany {

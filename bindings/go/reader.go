@@ -19,12 +19,14 @@ import (
 type Reader struct {
 	source     io.Reader
 	limit      Limit
-	options    *LineOptions // of lines; nil for normal text
+	options    *LineOptions // of lines; nil for normal text, or with a selection
+	selection  *Selection   // of lines; nil for normal text, or with options
 	piece      []byte       // bytes that were read, and aren't used yet
 	messageLen int          // if the piece is shorter, no call writes anything
 	output     []byte       // texts or lines that calls wrote
 	position   int          // the number of bytes of output that Read has returned
 	start      uint64       // the start of the piece, in bytes from the capture's start
+	kept       error        // the first fault, if messages after it are shown too
 	err        error        // the error that Read returns after the output
 	buffer     [16 << 10]byte
 }
@@ -43,6 +45,18 @@ func NewLineReader(source io.Reader, options LineOptions) *Reader {
 // NewLineReader returns a Reader of a capture's lines, as Lines returns them.
 func (l Limit) NewLineReader(source io.Reader, options LineOptions) *Reader {
 	return &Reader{source: source, limit: l, options: &options}
+}
+
+// NewSelectedLineReader returns a Reader of the lines that a selection has, with DefaultLimit.
+func NewSelectedLineReader(source io.Reader, selection Selection) *Reader {
+	return DefaultLimit.NewSelectedLineReader(source, selection)
+}
+
+// NewSelectedLineReader returns a Reader of the lines that a selection has, as SelectedLines returns them. With KeepGoing, Read
+// returns the first fault after the capture's lines, or after those before a fault of a header. If the selection isn't valid, it
+// returns the error of SelectedLines.
+func (l Limit) NewSelectedLineReader(source io.Reader, selection Selection) *Reader {
+	return &Reader{source: source, limit: l, selection: &selection}
 }
 
 // Read reads further bytes of the normal text, or of the lines.
@@ -77,14 +91,23 @@ func (r *Reader) readPiece() bool {
 	if r.err == nil {
 		r.err = err
 	}
+	if r.err == io.EOF && r.kept != nil {
+		r.err = r.kept
+	}
 	return n > 0 || err != nil
 }
 
-// call writes the messages that are whole to the free bytes, and returns the status.
-func (r *Reader) call(rest []byte, isLast bool, free []byte, progress *C.struct_linkcap_progress,
+// call writes the messages that are whole to the free bytes, and returns the status. The rest is at an offset of the capture.
+func (r *Reader) call(rest []byte, offset uint64, isLast bool, free []byte, progress *C.struct_linkcap_progress,
 	fault *C.struct_linkcap_fault) C.uint32_t {
 	at, length, limit := address(rest), C.size_t(len(rest)), C.uint32_t(r.limit)
 	out, capacity := address(free), C.size_t(len(free))
+	if r.selection != nil {
+		types, link, without := r.selection.typeList(), []byte(r.selection.Link), []byte(r.selection.Without)
+		return C.linkcap_show_selected_some(at, length, C.bool(isLast), limit, C.uint64_t(offset), r.selection.flags(),
+			address(types), C.size_t(len(types)), address(link), C.size_t(len(link)), address(without),
+			C.size_t(len(without)), out, capacity, progress, fault)
+	}
 	if r.options == nil {
 		return C.linkcap_normalize_some(at, length, C.bool(isLast), limit, out, capacity, progress, fault)
 	}
@@ -101,13 +124,19 @@ func (r *Reader) write(isLast bool) error {
 		free := r.output[len(r.output):cap(r.output)]
 		var progress C.struct_linkcap_progress
 		var fault C.struct_linkcap_fault
-		status := r.call(rest, isLast, free, &progress, &fault)
+		status := r.call(rest, r.start+uint64(used), isLast, free, &progress, &fault)
 		r.output = r.output[:len(r.output)+int(progress.written)]
+		if status == C.LINKCAP_FAULT && r.kept == nil {
+			r.kept = r.failure(status, fault, used+int(fault.offset))
+		}
 		used += int(progress.used)
 		switch {
 		case status == C.LINKCAP_OK:
 			r.drop(used)
 			return nil
+		case status == C.LINKCAP_FAULT && fault.offset < progress.used: // the message is written, and those after it are to be
+		case status == C.LINKCAP_FAULT:
+			return r.kept
 		case status != C.LINKCAP_NO_ROOM:
 			return r.failure(status, fault, used)
 		case progress.wanted > math.MaxInt/2:
@@ -129,13 +158,16 @@ func (r *Reader) drop(used int) {
 	}
 }
 
-// failure returns the error of the message after the used bytes, with offsets from the capture's start.
-func (r *Reader) failure(status C.uint32_t, fault C.struct_linkcap_fault, used int) error {
+// failure returns the error of the message at an offset of the piece, with offsets from the capture's start.
+func (r *Reader) failure(status C.uint32_t, fault C.struct_linkcap_fault, at int) error {
 	fault.offset = 0
-	err := failure(status, fault, r.piece[used:], nil, r.limit)
+	err := failure(status, fault, r.piece[at:], nil, r.limit)
+	if err == ErrLimit && r.selection != nil && r.limit >= C.LINKCAP_MIN_LIMIT {
+		return listError([]byte(r.selection.Without))
+	}
 	var e *Error
 	if errors.As(err, &e) {
-		e.Offset = r.start + uint64(used)
+		e.Offset = r.start + uint64(at)
 		e.Why = e.Why.shift(e.Offset)
 	}
 	return err

@@ -5,11 +5,12 @@
 
 PROGRAM is linkshow. It shows each capture, by default those of samples/ up to 4,000 bytes,
 and each with some bytes changed, under each option alone and under each pair of them, one
-capture after the other for the pairs. Output, standard error and status are compared. The
-status is 1 if a run differs.
+capture after the other for the pairs. Output, standard error and status are compared: of
+--json the objects, whose members may come in another order. The status is 1 if a run differs.
 """
 import glob
 import itertools
+import json
 import os
 import random
 import subprocess
@@ -17,6 +18,7 @@ import sys
 
 HERE = os.path.dirname(os.path.abspath(__file__))
 sys.path.insert(0, HERE)
+import json_of_lines        # noqa: E402
 import linkoracle as o      # noqa: E402
 import linkshow             # noqa: E402
 
@@ -35,6 +37,7 @@ OPTIONS = [
     (["--link", "lo"], {"link": "lo"}),
     (["--only", "newlink,RTM_NEWADDR,24"], {"only": {16, 20, 24}}),
     (["--limit", "400"], {"limit": 400}),
+    (["--json"], {"json": True}),
 ]
 
 
@@ -53,17 +56,27 @@ def captures(paths):
 
 def expected(capture, choice):
     """(status, output, lines of standard error)."""
-    text, fault = linkshow.lines(capture, **choice)
+    text, fault = linkshow.lines(capture, **{name: value for name, value in choice.items() if name != "json"})
+    output = json_of_lines.json_of_lines(text) if "json" in choice else text.encode()
     if fault is None:
-        return 0, text.encode(), [] if text else ["no messages"]
+        return 0, output, [] if text else ["no messages"]
     reason = linkshow.why(capture, choice.get("limit", o.DEFAULT_LIMIT))
-    return 2, text.encode(), [o.display(fault) + (": " + reason if reason else "")]
+    return 2, output, [o.display(fault) + (": " + reason if reason else "")]
+
+
+def objects(output):
+    """The objects of lines of JSON; the output itself if a line isn't JSON."""
+    try:
+        return [json.loads(line) for line in output.splitlines()]
+    except ValueError:
+        return output
 
 
 def run(program, arguments, capture):
     process = subprocess.run([program, *arguments], input=capture, capture_output=True, check=False)
     errors = process.stderr.decode("utf-8", "replace").splitlines()
-    return process.returncode, process.stdout, [line for line in errors if not line.startswith("linkshow: th")]
+    output = objects(process.stdout) if "--json" in arguments else process.stdout
+    return process.returncode, output, [line for line in errors if not line.startswith("linkshow: th")]
 
 
 def choices(pairs):

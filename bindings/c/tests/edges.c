@@ -1,10 +1,11 @@
 /*
  * Tests edge cases of the calls: an empty capture, null, a limit under 16, a buffer one byte too short, a capture cut at each
- * byte, words that aren't known, a failure of each allocation, eight threads at once.
+ * byte, words that aren't known, selected lines in pieces, a failure of each allocation, eight threads at once.
  *
  *     edges CAPTURE ..
  *
- * Each CAPTURE is a file that is already canonical. Built with -Wl,--wrap=malloc,--wrap=realloc,--wrap=free.
+ * Each CAPTURE is a file NAME.bin that is already canonical, and NAME.lines has its lines. Built with
+ * -Wl,--wrap=malloc,--wrap=realloc,--wrap=free.
  */
 #include <assert.h>
 #include <inttypes.h>
@@ -150,6 +151,9 @@ static void test_null(struct bytes capture)
     assert(linkcap_show_some(capture.at, capture.length, true, limit, false, NULL, 0, NULL, 0, &progress, &fault)
            == LINKCAP_NO_ROOM);
     assert(progress.used == 0 && progress.written == 0 && progress.wanted > 0);
+    assert(linkcap_show_selected_some(NULL, 0, true, limit, 9, 0, NULL, 0, NULL, 0, NULL, 0, NULL, 0, &progress, &fault)
+           == LINKCAP_OK);
+    assert(progress.used == 0 && progress.written == 0 && progress.wanted == 0);
     assert(linkcap_same(NULL, 0, NULL, 0, limit, &fault) == LINKCAP_OK);
     assert(linkcap_same(NULL, 0, capture.at, capture.length, limit, &fault) == LINKCAP_DIFFERENT);
     assert(linkcap_same(capture.at, capture.length, NULL, 0, limit, &fault) == LINKCAP_DIFFERENT);
@@ -190,6 +194,8 @@ static void test_limit_of_15(struct bytes capture)
         assert(linkcap_normalize_some(capture.at, capture.length, true, low, out, sizeof out, &progress, &fault) == LINKCAP_WRONG);
         assert(linkcap_show_some(capture.at, capture.length, true, low, false, NULL, 0, out, sizeof out, &progress, &fault)
                == LINKCAP_WRONG);
+        assert(linkcap_show_selected_some(capture.at, capture.length, true, low, 0, 0, NULL, 0, NULL, 0, NULL, 0, out, sizeof out,
+                                          &progress, &fault) == LINKCAP_WRONG);
         assert(linkcap_same_ignoring_numbers(capture.at, capture.length, out, 0, low, &fault) == LINKCAP_WRONG);
         assert(linkcap_next_message(capture.at, capture.length, low, 0, &message, &fault) == LINKCAP_WRONG);
         assert(linkcap_quirks(capture.at, capture.length, low, &quirk, 1, &length, &fault) == LINKCAP_WRONG && length == 7);
@@ -397,6 +403,14 @@ static const char all_lines[] = "RTM_NEWLINK flags 0x0 offset 0\n"
                                 "RTM_GETLINK flags 0x1 (REQUEST) offset 40\n"
                                 "  ifinfomsg family 0 (AF_UNSPEC) type 0 (netrom) index 0 flags 0x0 change 0x0\n"
                                 "  IFLA_IFNAME \"lo\"\n";
+static const char all_objects[] = "{\"type\": \"RTM_NEWLINK\", \"flags\": {\"value\": 0, \"flags\": []}, \"offset\": 0, "
+                                  "\"refused\": \"IFLA_MTU: a payload of 3 bytes\", "
+                                  "\"body\": \"000000000000000000000000000000000700040001020300\", \"attributes\": []}\n"
+                                  "{\"type\": \"RTM_GETLINK\", \"flags\": {\"value\": 1, \"flags\": [\"REQUEST\"]}, "
+                                  "\"offset\": 40, \"header\": {\"struct\": \"ifinfomsg\", \"family\": {\"value\": 0, "
+                                  "\"text\": \"AF_UNSPEC\"}, \"type\": {\"value\": 0, \"text\": \"netrom\"}, \"index\": 0, "
+                                  "\"flags\": {\"value\": 0, \"flags\": []}, \"change\": {\"value\": 0, \"flags\": []}}, "
+                                  "\"attributes\": [{\"name\": \"IFLA_IFNAME\", \"value\": \"lo\", \"quoted\": true}]}\n";
 static const char link_lines[] = "RTM_GETLINK flags 0x1 (REQUEST) seq 1 port 0\n"
                                  "  ifinfomsg family 0 (AF_UNSPEC) type 0 (netrom) flags 0x0 change 0x0\n"
                                  "  IFLA_IFNAME \"lo\"\n";
@@ -426,6 +440,143 @@ static void test_selected_lines(writer *call, const char *expected)
     assert(fault.kind == LINKCAP_REFUSED && fault.side == 0 && fault.offset == 0);
 }
 
+/* What of a capture linkcap_show_selected_some selects. */
+struct selection {
+    uint32_t flags;
+    const char *only, *link, *without;
+};
+
+/* Writes lines in pieces of `size` bytes to `out`, each message's to exactly the bytes that it needs, and keeps the first fault.
+ * Returns the number of bytes written. *status is LINKCAP_OK, LINKCAP_FAULT, or that of a call that ran out of memory. */
+static size_t write_selected_pieces(struct bytes capture, size_t size, uint32_t max_length, const struct selection *choice,
+                                    uint8_t *out, size_t capacity, uint32_t *status, struct linkcap_fault *first)
+{
+    size_t used = 0, end = 0, length = 0, free_bytes = 0;
+    bool is_faulty = false;
+    for (;;) {
+        struct linkcap_progress progress;
+        struct linkcap_fault fault;
+        assert(free_bytes <= capacity - length);
+        *status = linkcap_show_selected_some(capture.at + used, end - used, end == capture.length, max_length, used, choice->flags,
+                                             TEXT(choice->only), TEXT(choice->link), TEXT(choice->without), out + length,
+                                             free_bytes, &progress, &fault);
+        assert(*status != LINKCAP_WRONG);
+        if (*status == LINKCAP_NO_MEMORY || (*status == LINKCAP_FAULT && !is_faulty)) {
+            is_faulty = true;
+            *first = fault;
+            first->offset += used;
+        }
+        length += progress.written;
+        if (*status == LINKCAP_NO_MEMORY)
+            return length;
+        used += progress.used;
+        free_bytes = progress.wanted;
+        if (*status == LINKCAP_FAULT ? fault.offset == progress.used : *status == LINKCAP_OK && end == capture.length)
+            break;
+        if (*status == LINKCAP_OK)
+            end = capture.length - end < size ? capture.length : end + size;
+    }
+    *status = is_faulty ? LINKCAP_FAULT : LINKCAP_OK;
+    return length;
+}
+
+static const size_t piece_sizes[] = {1, 7, 16, 40, 41, 4096};
+
+/* The lines of all pieces are those of the whole, and the first fault is kept. */
+static void test_selected_pieces(void)
+{
+    static const struct {
+        struct selection choice;
+        const char *expected;
+    } cases[] = {
+        {{LINKCAP_WITHOUT_NUMBERS | LINKCAP_OFFSETS | LINKCAP_KEEP_GOING, "", "", ""}, all_lines},
+        {{LINKCAP_WITHOUT_NUMBERS | LINKCAP_OFFSETS | LINKCAP_KEEP_GOING | LINKCAP_JSON, "", "", ""}, all_objects},
+        {{LINKCAP_KEEP_GOING, "getlink,77", "lo", "indexes"}, link_lines},
+        {{LINKCAP_OFFSETS, "", "", ""}, ""},
+    };
+    struct bytes capture = {selected_messages, sizeof selected_messages};
+    uint8_t out[1024];
+    for (size_t i = 0; i < sizeof cases / sizeof cases[0]; i++)
+        for (size_t j = 0; j < sizeof piece_sizes / sizeof piece_sizes[0]; j++) {
+            uint32_t status;
+            struct linkcap_fault fault;
+            size_t length = write_selected_pieces(capture, piece_sizes[j], limit, &cases[i].choice, out, sizeof out, &status, &fault);
+            assert(length == strlen(cases[i].expected) && memcmp(out, cases[i].expected, length) == 0);
+            assert(status == LINKCAP_FAULT && fault.kind == LINKCAP_REFUSED && fault.side == 0 && fault.offset == 0);
+        }
+}
+
+/* The lines of a sample in pieces are those of the file beside it, which has them. */
+static void test_sample_pieces(const char *name, struct bytes capture)
+{
+    static const struct selection choice = {LINKCAP_KEEP_GOING, "", "", ""};
+    char path[4096];
+    size_t stem = strlen(name) - strlen(".bin");
+    assert(stem + sizeof ".lines" <= sizeof path && strcmp(name + stem, ".bin") == 0);
+    sprintf(path, "%.*s.lines", (int)stem, name);
+    struct bytes expected = read_file(path);
+    uint8_t *out = __real_malloc(expected.length);
+    for (size_t j = 0; j < sizeof piece_sizes / sizeof piece_sizes[0]; j++) {
+        uint32_t status;
+        struct linkcap_fault fault;
+        size_t length = write_selected_pieces(capture, piece_sizes[j], limit, &choice, out, expected.length, &status, &fault);
+        assert(status == LINKCAP_OK && length == expected.length && memcmp(out, expected.at, length) == 0);
+    }
+    __real_free(out);
+    __real_free(expected.at);
+}
+
+/* With LINKCAP_KEEP_GOING a message with a fault of its body is used, if there is space for its lines and its padding is there;
+ * a fault of a header isn't. */
+static void test_faults_of_pieces(void)
+{
+    uint8_t out[512], messages[44] = {0};
+    const char *block = strstr(all_lines, "RTM_GETLINK");
+    size_t length = (size_t)(block - all_lines);
+    struct linkcap_progress progress;
+    struct linkcap_fault fault = {0, 7, 7};
+    uint32_t flags = LINKCAP_WITHOUT_NUMBERS | LINKCAP_OFFSETS | LINKCAP_KEEP_GOING;
+    memcpy(messages, selected_messages, 40);
+    memset(out, UNTOUCHED, sizeof out);
+    assert(linkcap_show_selected_some(messages, 40, false, limit, 0, flags, NULL, 0, NULL, 0, NULL, 0, out, length - 1, &progress,
+                                      &fault) == LINKCAP_NO_ROOM);
+    assert(progress.used == 0 && progress.written == 0 && progress.wanted == length && fault.kind == 0 && fault.offset == 7);
+    assert(is_untouched(out, out + sizeof out));
+    assert(linkcap_show_selected_some(messages, 40, false, limit, 0, flags, NULL, 0, NULL, 0, NULL, 0, out, length, &progress, &fault)
+           == LINKCAP_FAULT);
+    assert(progress.used == 40 && progress.written == length && progress.wanted == 0 && memcmp(out, all_lines, length) == 0);
+    assert(fault.kind == LINKCAP_REFUSED && fault.side == 0 && fault.offset == 0);
+    assert(is_untouched(out + length, out + sizeof out));
+    /* Without the flag it isn't. */
+    assert(linkcap_show_selected_some(messages, 40, false, limit, 0, 0, NULL, 0, NULL, 0, NULL, 0, out, length, &progress, &fault)
+           == LINKCAP_FAULT);
+    assert(progress.used == 0 && progress.written == 0 && fault.kind == LINKCAP_REFUSED && fault.offset == 0);
+    /* A cut message, and a piece that ends at 2^64 - 1 bytes, or after that. */
+    assert(linkcap_show_selected_some(messages + 40, 4, true, limit, 40, flags, NULL, 0, NULL, 0, NULL, 0, out, length, &progress,
+                                      &fault) == LINKCAP_FAULT);
+    assert(progress.used == 0 && progress.written == 0 && fault.kind == LINKCAP_CUT && fault.offset == 0);
+    assert(linkcap_show_selected_some(messages, 40, false, limit, UINT64_MAX - 40, flags, NULL, 0, NULL, 0, NULL, 0, out, sizeof out,
+                                      &progress, &fault) == LINKCAP_FAULT);
+    assert(progress.used == 40);
+    fault = (struct linkcap_fault){0, 7, 7};
+    assert(linkcap_show_selected_some(messages, 40, false, limit, UINT64_MAX - 39, flags, NULL, 0, NULL, 0, NULL, 0, out, sizeof out,
+                                      &progress, &fault) == LINKCAP_WRONG);
+    assert(progress.used == 40 && fault.kind == 0 && fault.side == 7 && fault.offset == 7);
+}
+
+/* linkcap_show_selected_some, called until it is done, with the signature of a `writer`. */
+static uint32_t show_selected_pieces(const uint8_t *capture, size_t length, uint32_t max_length, uint8_t *out, size_t capacity,
+                                     uint64_t *written, struct linkcap_fault *fault)
+{
+    static const struct selection choice = {LINKCAP_OFFSETS | LINKCAP_KEEP_GOING, "", "", ""};
+    uint32_t status;
+    struct bytes whole = {(uint8_t *)capture, length};
+    *written = write_selected_pieces(whole, length / 2 + 1, max_length, &choice, out, capacity, &status, fault);
+    if (status == LINKCAP_NO_MEMORY) /* the test expects no output, but lines before the failure are written */
+        memset(out, UNTOUCHED, *written);
+    return status;
+}
+
 static long test_selection(void)
 {
     struct bytes capture = {selected_messages, sizeof selected_messages};
@@ -436,6 +587,7 @@ static long test_selection(void)
     test_capacities(show_link, capture, capture.length, LINKCAP_FAULT, 1);
     failures += test_failing_allocations(show_all, capture, capture.length);
     failures += test_failing_allocations(show_link, capture, capture.length);
+    failures += test_failing_allocations(show_selected_pieces, capture, capture.length);
     return failures;
 }
 
@@ -446,7 +598,7 @@ static void test_wrong_selections(void)
         uint32_t limit, flags;
         const char *only, *without;
     } cases[] = {
-        {15, 0, "", ""},          {1 << 20, 8, "", ""},          {1 << 20, UINT32_MAX, "", ""}, {1 << 20, 0, "getlnk", ""},
+        {15, 0, "", ""},          {1 << 20, 16, "", ""},         {1 << 20, UINT32_MAX, "", ""}, {1 << 20, 0, "getlnk", ""},
         {1 << 20, 0, "16,", ""},  {1 << 20, 0, "65536", ""},     {1 << 20, 0, "", "mtu"},       {1 << 20, 0, "", "numbers,,"},
         {1 << 20, 0, "\xff", ""}, {1 << 20, 0, "16", "IFLA_X"},
         {1 << 20, 0, "1,2,3,4,5,6,7,8,9,10,11,12,13,14,15,16,17,18,19,20,21,22,23,24,25,26,27,28,29,30,31,32,33", ""},
@@ -454,11 +606,16 @@ static void test_wrong_selections(void)
     uint8_t out[4] = {UNTOUCHED, UNTOUCHED, UNTOUCHED, UNTOUCHED};
     uint64_t length = 7;
     struct linkcap_fault fault = {0, 7, 7};
+    struct linkcap_progress progress = {7, 7, 7};
     for (size_t i = 0; i < sizeof cases / sizeof cases[0]; i++) {
         assert(linkcap_show_selected(selected_messages, sizeof selected_messages, cases[i].limit, cases[i].flags,
                                      TEXT(cases[i].only), NULL, 0, TEXT(cases[i].without), out, sizeof out, &length, &fault)
                == LINKCAP_WRONG);
+        assert(linkcap_show_selected_some(selected_messages, sizeof selected_messages, true, cases[i].limit, 0, cases[i].flags,
+                                          TEXT(cases[i].only), NULL, 0, TEXT(cases[i].without), out, sizeof out, &progress, &fault)
+               == LINKCAP_WRONG);
         assert(length == 7 && fault.kind == 0 && fault.side == 7 && fault.offset == 7);
+        assert(progress.used == 7 && progress.written == 7 && progress.wanted == 7);
     }
     assert(is_untouched(out, out + sizeof out));
 }
@@ -575,6 +732,8 @@ int main(int argc, char **argv)
     test_quirks();
     test_numbers();
     failures += test_selection();
+    test_selected_pieces();
+    test_faults_of_pieces();
     test_wrong_selections();
     test_unknown_words();
     for (int i = 1; i < argc; i++) {
@@ -582,6 +741,7 @@ int main(int argc, char **argv)
         size_t last_cut = capture.length - 8;
         test_limit_of_15(capture);
         test_null(capture);
+        test_sample_pieces(argv[i], capture);
         test_capacities(linkcap_normalize, capture, capture.length, LINKCAP_OK, 1 + capture.length / 500);
         test_capacities(linkcap_normalize, capture, last_cut, LINKCAP_FAULT, 1 + capture.length / 500);
         test_capacities(linkcap_show, capture, capture.length, LINKCAP_OK, 1 + capture.length / 100);
@@ -594,6 +754,7 @@ int main(int argc, char **argv)
         failures += test_failing_allocations(linkcap_show, capture, last_cut);
         failures += test_failing_allocations(normalize_in_pieces, capture, capture.length);
         failures += test_failing_allocations(show_in_pieces, capture, capture.length);
+        failures += test_failing_allocations(show_selected_pieces, capture, capture.length);
         failures += test_failing_allocations(show_all, capture, capture.length);
         failures += test_failing_allocations(show_all, capture, last_cut);
         test_allocate_nothing(capture);

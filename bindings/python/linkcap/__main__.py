@@ -73,12 +73,9 @@ def _options(args: Any) -> Dict[str, Any]:
 
 
 def _lines(args: Any, file: BinaryIO) -> Iterator[bytes]:
-    """The lines of one file, piece by piece if the options allow it."""
-    if args.link is None and not (args.without or args.offsets or args.keep_going):
-        reader = linkcap.LineReader(args.limit, numbers=not args.without_numbers, only=args.only)
-        yield from (lines.encode() for lines in reader.read_file(file))
-    else:
-        yield linkcap.lines(file.read(), args.limit, **_options(args)).encode()
+    """The lines of one file, piece by piece."""
+    reader = linkcap.LineReader(args.limit, **_options(args))
+    yield from (lines.encode() for lines in reader.read_file(file))
 
 
 def _json(messages: List[Dict[str, Any]]) -> Iterator[bytes]:

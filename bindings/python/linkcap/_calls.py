@@ -4,7 +4,7 @@ import ctypes
 import enum
 import operator
 import struct
-from typing import Any, Callable, Dict, Iterable, List, NamedTuple, Optional, SupportsIndex, Union
+from typing import Any, Callable, Dict, Iterable, List, NamedTuple, Optional, SupportsIndex, Tuple, Union
 
 from . import _fault, _native, lines_json
 from ._fault import Refusal, failure
@@ -144,6 +144,31 @@ def _word(link: Union[str, int, None]) -> bytes:
     return b"" if link is None else str(link).encode()
 
 
+class Selection:
+    """What the keywords of `lines` select, as arguments of the calls that write lines."""
+
+    def __init__(self, numbers: bool, only: Optional[Iterable[MessageType]], link: Union[str, int, None], without: Iterable[str],
+                 offsets: bool, keep_going: bool) -> None:
+        types, names, word = type_array(only), _excluded(without), _word(link)
+        flags = 0 if numbers else _native.WITHOUT_NUMBERS
+        flags |= _native.OFFSETS if offsets else 0
+        flags |= _native.KEEP_GOING if keep_going else 0
+        #: whether no message is selected
+        self.is_empty = only is not None and not types
+        #: whether the calls that take types as numbers suffice; the others take at most 32
+        self.is_plain = flags <= _native.WITHOUT_NUMBERS and not names and not word
+        #: the arguments, some of them addresses, which are valid as long as this exists
+        self.arguments: Tuple[Any, ...]
+        if self.is_plain:
+            self._types = types
+            at, length = types.buffer_info()
+            self.arguments = (not numbers, at or _native.NOT_NULL, length)
+        else:
+            lists = [BorrowedBytes(text) for text in (_joined(types), word, names)]
+            self._lists = lists
+            self.arguments = (flags, *(part for words in lists for part in (words.at, words.length)))
+
+
 def lines(capture: Capture, limit: SupportsIndex = DEFAULT_LIMIT, *, numbers: bool = True,
           only: Optional[Iterable[MessageType]] = None, link: Union[str, int, None] = None, without: Iterable[str] = (),
           offsets: bool = False, keep_going: bool = False) -> str:
@@ -164,21 +189,12 @@ def lines(capture: Capture, limit: SupportsIndex = DEFAULT_LIMIT, *, numbers: bo
     >>> lines(bytes.fromhex("10000000030002000100000000000000"), without=["numbers"], offsets=True).splitlines()
     ['NLMSG_DONE flags 0x2 (MULTI) offset 0', '  code 0']
     """
-    most, types, names, word = checked_limit(limit), type_array(only), _excluded(without), _word(link)
-    if only is not None and not types:
+    most, selection = checked_limit(limit), Selection(numbers, only, link, without, offsets, keep_going)
+    if selection.is_empty:
         check(capture, most)
         return ""
-    flags = 0 if numbers else _native.WITHOUT_NUMBERS
-    flags |= _native.OFFSETS if offsets else 0
-    flags |= _native.KEEP_GOING if keep_going else 0
-    if flags <= _native.WITHOUT_NUMBERS and not names and not word:
-        at, length = types.buffer_info()
-        text = _write(_native.call("linkcap_show_with"), capture, most, lambda size: 4 * size + 256, not numbers,
-                      at or _native.NOT_NULL, length)
-        return text.decode("ascii")
-    with BorrowedBytes(_joined(types)) as shown, BorrowedBytes(word) as about, BorrowedBytes(names) as excluded:
-        text = _write(_native.call("linkcap_show_selected"), capture, most, lambda size: 4 * size + 256, flags, shown.at,
-                      shown.length, about.at, about.length, excluded.at, excluded.length)
+    name = "linkcap_show_with" if selection.is_plain else "linkcap_show_selected"
+    text = _write(_native.call(name), capture, most, lambda size: 4 * size + 256, *selection.arguments)
     return text.decode("ascii")
 
 

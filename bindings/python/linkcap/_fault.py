@@ -87,6 +87,16 @@ def refusal(at: int, length: int, limit: int, start: int = 0) -> Optional[Refusa
     return Refusal(f"{words[:-len(end)]} at {offset}", offset)
 
 
+def first_fault(fault: _native.FaultStruct, at: int, length: int, limit: int, start: int = 0, written: bytes = b"") -> Fault:
+    """The first fault of the bytes at an address, which begin `start` bytes after the capture's start, with its reason."""
+    offset = fault.offset
+    reason = None
+    if fault.kind == Kind.REFUSED:
+        with contextlib.suppress(MemoryError):
+            reason = refusal(at + offset, length - offset, limit, start + offset)
+    return Fault(fault.kind, start + offset, fault.side or None, written, reason)
+
+
 def failure(status: int, fault: _native.FaultStruct, at: int, length: int, limit: int, start: int = 0,
             written: bytes = b"") -> Exception:
     """The exception for a status that isn't a success, over the bytes at an address."""
@@ -94,9 +104,4 @@ def failure(status: int, fault: _native.FaultStruct, at: int, length: int, limit
         return MemoryError("no memory for the capture's text")
     if status != _native.FAULT:
         return ValueError("a limit is a number from 16 to 4294967295")
-    offset = fault.offset
-    reason = None
-    if fault.kind == Kind.REFUSED:
-        with contextlib.suppress(MemoryError):
-            reason = refusal(at + offset, length - offset, limit, start + offset)
-    return Fault(fault.kind, start + offset, fault.side or None, written, reason)
+    return first_fault(fault, at, length, limit, start, written)

@@ -27,7 +27,7 @@ else:
 
 VERSION = 2
 OK, DIFFERENT, FAULT, WRONG, NO_ROOM, NO_MEMORY, NONE = range(7)
-#: the flags of linkcap_show_selected
+#: the flags of linkcap_show_selected and linkcap_show_selected_some
 WITHOUT_NUMBERS, OFFSETS, KEEP_GOING = 1, 2, 4
 
 
@@ -141,6 +141,8 @@ def _load() -> ctypes.CDLL:
         "linkcap_same_ignoring_numbers": [*capture, *capture, number, address],
         "linkcap_show": [*capture, number, *capture, address, address],
         "linkcap_show_selected": [*capture, number, number, *capture, *capture, *capture, *capture, address, address],
+        "linkcap_show_selected_some": [*capture, ctypes.c_bool, number, ctypes.c_uint64, number, *capture, *capture, *capture,
+                                       *capture, address, address],
         "linkcap_show_some": [*capture, ctypes.c_bool, number, ctypes.c_bool, *capture, *capture, address, address],
         "linkcap_show_with": [*capture, number, ctypes.c_bool, *capture, *capture, address, address],
         "linkcap_unknown_word": [*capture, *capture, *capture, address],

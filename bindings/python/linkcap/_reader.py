@@ -1,11 +1,11 @@
 """Captures that come in pieces."""
 import ctypes
 import threading
-from typing import Any, Generic, Iterable, Iterator, List, Optional, Protocol, SupportsIndex, Tuple, TypeVar
+from typing import Any, Generic, Iterable, Iterator, List, Optional, Protocol, SupportsIndex, Tuple, TypeVar, Union
 
 from . import _native
-from ._calls import DEFAULT_LIMIT, checked_limit, type_array
-from ._fault import Fault, failure
+from ._calls import DEFAULT_LIMIT, Selection, checked_limit
+from ._fault import Fault, failure, first_fault
 from ._native import BorrowedBytes, Capture, address_of
 from ._types import MessageType
 
@@ -29,8 +29,6 @@ class _Pieces(Generic[ResultT]):
     """
 
     _call: str
-    #: the arguments of the call between the limit and the buffer
-    _options: Tuple[Any, ...] = ()
 
     def __init__(self, limit: SupportsIndex = DEFAULT_LIMIT) -> None:
         self._limit = checked_limit(limit)
@@ -38,7 +36,12 @@ class _Pieces(Generic[ResultT]):
         self._start = 0  # of the rest, in bytes from the capture's start
         self._least_length = _HEADER  # with a shorter rest no call writes anything
         self._has_ended = False
+        self._kept: Optional[Fault] = None  # the first fault, if messages after it are written too
         self._lock = threading.Lock()
+
+    def _arguments(self, offset: int) -> Tuple[Any, ...]:
+        """The arguments of the call between the limit and the buffer, for bytes at an offset of the capture."""
+        return ()
 
     def _result(self, output: bytes) -> ResultT:
         """The result of `feed` and `finish`, from the bytes that were written."""
@@ -66,7 +69,11 @@ class _Pieces(Generic[ResultT]):
         try:
             self._has_ended = True
             with BorrowedBytes(self._rest) as rest:
-                return self._result(self._write(rest.at, rest.length, True)[1])
+                text = self._write(rest.at, rest.length, True)[1]
+            if self._kept:
+                self._kept.written = text
+                raise self._kept
+            return self._result(text)
         finally:
             self._lock.release()
 
@@ -124,12 +131,19 @@ class _Pieces(Generic[ResultT]):
         used, capacity, status = 0, length + 256, _native.NO_ROOM
         while status == _native.NO_ROOM:
             out = _native.Output(capacity)
-            status = call(at + used, length - used, is_last, self._limit, *self._options, out.at, out.capacity,
-                          address_of(progress), address_of(fault))
+            status = call(at + used, length - used, is_last, self._limit, *self._arguments(self._start + used), out.at,
+                          out.capacity, address_of(progress), address_of(fault))
             texts.append(out.take(progress.written))
+            if status == _native.FAULT and fault.offset < progress.used:
+                # The message with the fault is written, and those after it are to be.
+                self._kept = self._kept or first_fault(fault, at + used, length - used, self._limit, self._start + used)
+                status = _native.NO_ROOM
             used += progress.used
             capacity = max(progress.wanted, length - used + 256)
         text = b"".join(texts)
+        if status == _native.FAULT and self._kept:
+            self._kept.written = text
+            raise self._kept
         if status != _native.OK:
             fault.offset = 0  # the fault is in the message after the used bytes
             raise failure(status, fault, at + used, length - used, self._limit, self._start + used, text)
@@ -153,7 +167,8 @@ class Reader(_Pieces[bytes]):
 class LineReader(_Pieces[str]):
     """Shows a capture that comes in pieces, as `Reader` normalises one: `feed`, `finish` and `read_file` return its lines.
 
-    `numbers` and `only` are those of `lines`. A reader takes memory for one piece, its lines and a cut message, for a capture
+    The keywords are those of `lines`. With `keep_going`, a fault is raised at the capture's end, or at a fault of a header:
+    the first one, with what is written then. A reader takes memory for one piece, its lines and a cut message, for a capture
     of any length.
 
     >>> import io
@@ -161,15 +176,16 @@ class LineReader(_Pieces[str]):
     'NLMSG_DONE flags 0x2 (MULTI)\\n  code 0\\n'
     """
 
-    _call = "linkcap_show_some"
-
     def __init__(self, limit: SupportsIndex = DEFAULT_LIMIT, *, numbers: bool = True,
-                 only: Optional[Iterable[MessageType]] = None) -> None:
+                 only: Optional[Iterable[MessageType]] = None, link: Union[str, int, None] = None, without: Iterable[str] = (),
+                 offsets: bool = False, keep_going: bool = False) -> None:
         super().__init__(limit)
-        self._types = type_array(only)
-        self._shows_nothing = only is not None and not self._types
-        at, length = self._types.buffer_info()
-        self._options = (not numbers, at or _native.NOT_NULL, length)
+        self._selection = Selection(numbers, only, link, without, offsets, keep_going)
+        self._call = "linkcap_show_some" if self._selection.is_plain else "linkcap_show_selected_some"
+
+    def _arguments(self, offset: int) -> Tuple[Any, ...]:
+        selected = self._selection.arguments
+        return selected if self._selection.is_plain else (offset, *selected)
 
     def _result(self, output: bytes) -> str:
         return output.decode("ascii")
@@ -178,6 +194,6 @@ class LineReader(_Pieces[str]):
         try:
             used, output = super()._write(at, length, is_last)
         except Fault as fault:
-            fault.written = b"" if self._shows_nothing else fault.written
+            fault.written = b"" if self._selection.is_empty else fault.written
             raise
-        return used, b"" if self._shows_nothing else output
+        return used, b"" if self._selection.is_empty else output

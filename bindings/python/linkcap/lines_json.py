@@ -158,23 +158,29 @@ class _Message:
     """The JSON of a message, to which its lines are added one by one."""
 
     def __init__(self, tokens: _Tokens) -> None:
-        self.json: Json = {"type": _type(tokens), **_fields(tokens), "attributes": []}
-        if "flags" not in self.json:
+        self._members: Json = {"type": _type(tokens), **_fields(tokens)}
+        if "flags" not in self._members:
             raise ValueError
-        self._lists: List[List[Json]] = [self.json["attributes"]]
+        self._lists: List[List[Json]] = [[]]
+        self._attributes = self._lists[0]
+
+    @property
+    def json(self) -> Json:
+        """The dictionary of the message, with its attributes last."""
+        return {**self._members, "attributes": self._attributes}
 
     def add(self, depth: int, line: str, tokens: _Tokens) -> None:
         word = tokens.peek()
         if depth == 1 and word in ("body", "rest"):
-            self.json[word] = tokens.rest()[1]
+            self._members[word] = tokens.rest()[1]
         elif depth == 1 and word == "code":
-            self.json["code"] = int(tokens.rest()[1])
+            self._members["code"] = int(tokens.rest()[1])
         elif depth == 1 and word == "refused:":
-            self.json["refused"] = line.strip().partition(" ")[2]
+            self._members["refused"] = line.strip().partition(" ")[2]
         elif depth == 1 and word == "request":
-            self.json["request"] = self._request(tokens)
+            self._members["request"] = self._request(tokens)
         elif depth == 1 and _is_struct(word):
-            self.json["header"] = {"struct": tokens.take(), **_fields(tokens)}
+            self._members["header"] = {"struct": tokens.take(), **_fields(tokens)}
         else:
             entry = {"struct": tokens.take(), "fields": _fields(tokens)} if _is_struct(word) else _attribute(tokens)
             self._list(depth).append(entry)

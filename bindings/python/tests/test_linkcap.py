@@ -22,11 +22,34 @@ REFUSED = bytes.fromhex("28000000100000000000000000000000") + bytes(16) + bytes.
 DONE = bytes.fromhex("10000000030002000000000000000000")
 
 
+# keywords of `lines`, and what they select in the independent implementation
+SELECTIONS: List[Tuple[Dict[str, Any], Dict[str, Any]]] = [
+    ({"keep_going": True}, {"keep_going": True}),
+    ({"offsets": True, "numbers": False}, {"offsets": True, "numbers": False}),
+    ({"without": ["counters", "Indexes"]}, {"without": "counters,indexes"}),
+    ({"without": ["numbers", "ifla_mtu"], "keep_going": True}, {"without": "numbers,IFLA_MTU", "keep_going": True}),
+    ({"link": 2}, {"link": "2"}),
+    ({"link": "lo", "keep_going": True, "offsets": True}, {"link": "lo", "keep_going": True, "offsets": True}),
+    ({"only": ["newlink", "RTM_NEWADDR", 24], "offsets": True}, {"only": {16, 20, 24}, "offsets": True}),
+]
+
+
 def normalize(capture: bytes, limit: int) -> Result:
     try:
         return linkcap.normalize(capture, limit), None
     except linkcap.Fault as fault:
         return fault.written, fault
+
+
+def selected_pieces(capture: bytes, size: int, options: Dict[str, Any]) -> Tuple[str, str]:
+    """The lines of a capture in pieces that these keywords select, and the words of the first fault or ""."""
+    reader, texts = linkcap.LineReader(**options), []
+    try:
+        for at in range(0, len(capture), size):
+            texts.append(reader.feed(capture[at:at + size]))
+        return "".join(texts) + reader.finish(), ""
+    except linkcap.Fault as fault:
+        return "".join(texts) + fault.written.decode(), fault.words
 
 
 def normalize_pieces(capture: bytes, limit: int, size: int) -> Result:
@@ -321,24 +344,37 @@ class Edges(unittest.TestCase):
         self.assertEqual(linkcap.quirks(linkcap.normalize(capture)), [])
 
     def test_selections(self) -> None:
-        """The lines and the fault are those of the independent implementation."""
-        selections: List[Tuple[Dict[str, Any], Dict[str, Any]]] = [
-            ({"keep_going": True}, {"keep_going": True}),
-            ({"offsets": True, "numbers": False}, {"offsets": True, "numbers": False}),
-            ({"without": ["counters", "Indexes"]}, {"without": "counters,indexes"}),
-            ({"without": ["numbers", "ifla_mtu"], "keep_going": True}, {"without": "numbers,IFLA_MTU", "keep_going": True}),
-            ({"link": 2}, {"link": "2"}),
-            ({"link": "lo", "keep_going": True, "offsets": True}, {"link": "lo", "keep_going": True, "offsets": True}),
-            ({"only": ["newlink", "RTM_NEWADDR", 24], "offsets": True}, {"only": {16, 20, 24}, "offsets": True}),
-        ]
+        """The lines and the fault are those of the independent implementation, also in pieces."""
         samples = [sample(f"{name}.bin") for name in ("lo-request", "req-veth", "req-routes", "notify-vrf")]
         for capture in [*samples, REFUSED.join(samples), samples[0] + REFUSED + samples[0][:20]]:
-            for options, choice in selections:
+            for options, choice in SELECTIONS:
+                expected = selected_lines(capture, **choice)
                 try:
                     result = linkcap.lines(capture, **options), ""
                 except linkcap.Fault as fault:
                     result = fault.written.decode(), fault.words
-                self.assertTrue(result == selected_lines(capture, **choice), options)
+                self.assertTrue(result == expected, options)
+                for size in (1, 7, 16, 4096):
+                    self.assertTrue(selected_pieces(capture, size, options) == expected, (size, options))
+
+    def test_faults_of_a_line_reader(self) -> None:
+        """With keep_going the first fault is raised at the end, or at a fault of a header; it has its reason."""
+        capture = sample("lo-request.bin")
+        for last, kind in ((b"", None), (capture[:20], linkcap.Kind.CUT), (bytes(16), linkcap.Kind.SHORT_LENGTH)):
+            reader = linkcap.LineReader(keep_going=True)
+            self.assertEqual(reader.feed(capture[:17]), "")
+            self.assertTrue(reader.feed(capture[17:] + REFUSED + DONE + REFUSED).endswith(REFUSED[16:].hex() + "\n"))
+            with self.assertRaises(linkcap.Fault) as raised:
+                reader.feed(last)
+                reader.finish()
+            fault = raised.exception
+            assert fault.why is not None
+            self.assertEqual((fault.kind, fault.offset, fault.written), (linkcap.Kind.REFUSED, len(capture), b""), kind)
+            self.assertEqual(fault.why.offset, len(capture) + 32)
+            with self.assertRaises(ValueError):
+                reader.feed(capture)
+        with self.assertRaisesRegex(ValueError, "no attribute or group is called 'mtu'"):
+            linkcap.LineReader(without=["mtu"])
 
     def test_invalid_selections(self) -> None:
         capture = sample("lo-request.bin")

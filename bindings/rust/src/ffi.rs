@@ -12,6 +12,7 @@ pub const NONE: u32 = 6;
 pub const WITHOUT_NUMBERS: u32 = 1;
 pub const OFFSETS: u32 = 2;
 pub const KEEP_GOING: u32 = 4;
+pub const JSON: u32 = 8;
 
 #[repr(C)]
 #[derive(Default)]
@@ -134,6 +135,24 @@ extern "C" {
         out: *mut u8,
         capacity: usize,
         written: &mut u64,
+        fault: &mut Fault,
+    ) -> u32;
+    pub fn linkcap_show_selected_some(
+        piece: *const u8,
+        length: usize,
+        last: bool,
+        limit: u32,
+        offset: u64,
+        flags: u32,
+        only: *const u8,
+        only_length: usize,
+        link: *const u8,
+        link_length: usize,
+        without: *const u8,
+        without_length: usize,
+        out: *mut u8,
+        capacity: usize,
+        progress: &mut Progress,
         fault: &mut Fault,
     ) -> u32;
     pub fn linkcap_unknown_word(

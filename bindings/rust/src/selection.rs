@@ -17,25 +17,28 @@ pub struct Selection<'a> {
     pub offsets: bool,
     /// Show messages with a fault of their body too, and those after them.
     pub keep_going: bool,
+    /// Make an object of JSON of each message's lines, in a line of its own.
+    pub json: bool,
 }
 
 impl Selection<'_> {
     /// Returns the flags for the library.
-    fn flags(&self) -> u32 {
+    pub(crate) fn flags(&self) -> u32 {
         let flag = |is_set, flag| if is_set { flag } else { 0 };
         flag(self.lines.without_numbers, ffi::WITHOUT_NUMBERS)
             | flag(self.offsets, ffi::OFFSETS)
             | flag(self.keep_going, ffi::KEEP_GOING)
+            | flag(self.json, ffi::JSON)
     }
 
     /// Returns the list of types for the library.
-    fn types(&self) -> String {
+    pub(crate) fn types(&self) -> String {
         self.lines.only.iter().map(u16::to_string).collect::<Vec<String>>().join(",")
     }
 }
 
 /// Returns the error for lists that the library doesn't read.
-fn list_error(without: &str) -> Error {
+pub(crate) fn list_error(without: &str) -> Error {
     let mut name = Vec::new();
     if let Err(error) = reserve(&mut name, without.len()) {
         return error;
@@ -70,6 +73,10 @@ fn list_error(without: &str) -> Error {
 /// let noop = b"\x10\0\0\0\x01\0\0\0\x01\0\0\0\0\0\0\0";
 /// let selection = Selection { without: "numbers", offsets: true, ..Selection::default() };
 /// assert_eq!(lines_selected(noop, DEFAULT_LIMIT, selection)?, "NLMSG_NOOP flags 0x0 offset 0\n");
+///
+/// let selection = Selection { without: "numbers", json: true, ..Selection::default() };
+/// let object = r#"{"type": "NLMSG_NOOP", "flags": {"value": 0, "flags": []}, "attributes": []}"#;
+/// assert_eq!(lines_selected(noop, DEFAULT_LIMIT, selection)?.trim_end(), object);
 /// # Ok::<(), linkcap::Error>(())
 /// ```
 pub fn lines_selected(capture: &[u8], limit: u32, selection: Selection<'_>) -> Result<String, Error> {

@@ -198,14 +198,35 @@ fn show_selected() {
         (Selection { lines: lines(false, &[18, 77]), link: "lo", without: "indexes", ..default }, about_lo),
         (Selection { keep_going: false, ..default }, ""),
     ] {
-        let error = linkcap::lines_selected(&[&refused[..], request].concat(), DEFAULT_LIMIT, selection).expect_err("a fault");
+        let capture = [&refused[..], request].concat();
+        let error = linkcap::lines_selected(&capture, DEFAULT_LIMIT, selection).expect_err("a fault");
         let fault = error.fault().expect("a fault");
         assert_eq!(std::str::from_utf8(&fault.written), Ok(expected));
         assert_eq!((fault.kind, fault.offset), (Kind::Refused, 0));
+        for size in [1, 7, 16, 4096] {
+            let mut reader = LineReader::with_selection(DEFAULT_LIMIT, selection).expect("a selection");
+            let mut lines = Vec::new();
+            let result = capture.chunks(size).try_for_each(|piece| reader.feed(piece, &mut lines));
+            let in_pieces = result.and_then(|()| reader.finish(&mut lines)).expect_err("a fault");
+            assert_eq!(std::str::from_utf8(&lines), Ok(expected));
+            let in_pieces = in_pieces.fault().expect("a fault");
+            assert_eq!((in_pieces.kind, in_pieces.offset, &in_pieces.why), (Kind::Refused, 0, &fault.why));
+        }
+    }
+    for sample in ["samples/req-veth", "samples/get-veth"] {
+        let (capture, expected) = (read_file(&format!("{sample}.bin")), read_file(&format!("{sample}.lines")));
+        for size in [1, 7, 16, 4096] {
+            let (mut reader, mut lines) = (LineReader::with_selection(DEFAULT_LIMIT, default).expect("a selection"), Vec::new());
+            capture.chunks(size).try_for_each(|piece| reader.feed(piece, &mut lines)).expect("a legal capture");
+            reader.finish(&mut lines).expect("a legal capture");
+            assert!(lines == expected, "{sample} in pieces of {size}");
+        }
     }
     assert_eq!(linkcap::lines_selected(request, DEFAULT_LIMIT, Selection { link: "1", ..default }), Ok(String::new()));
     let unknown = Selection { without: "counters,mtu", ..default };
     assert_eq!(linkcap::lines_selected(request, DEFAULT_LIMIT, unknown), Err(Error::UnknownName("mtu".to_string())));
+    assert!(matches!(LineReader::with_selection(DEFAULT_LIMIT, unknown), Err(Error::UnknownName(word)) if word == "mtu"));
+    assert!(matches!(LineReader::with_selection(15, default), Err(Error::Limit)));
     let types: Vec<u16> = (0..33).collect();
     let too_many = Selection { lines: lines(false, &types), ..default };
     assert_eq!(linkcap::lines_selected(request, DEFAULT_LIMIT, too_many), Err(Error::TooMany));

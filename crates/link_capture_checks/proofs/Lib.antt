@@ -1,3 +1,4 @@
+pub mod Listings
 pub mod Types
 pub mod Written
 pub mod Steps

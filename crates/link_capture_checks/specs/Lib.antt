@@ -1,3 +1,4 @@
+pub mod Listings
 pub mod Measures
 pub mod Partings
 pub mod Sides

@@ -1,6 +1,6 @@
 //! The arguments and the exit statuses of the program linkcap.
 
-ghost use Rattle.std.specs.Prelude.{◌≡◌, ◌≢◌, ◌≤◌, ℕ, ⊤, [], map, IfSome, IfNone, string_bytes};
+ghost use Rattle.std.specs.Prelude.{◌≡◌, ℕ, [], map, IfSome, IfNone, string_bytes};
 ghost use Rattle.std.specs.Str.Parse.{digits_value};
 ghost use Rattle.link_capture_commands.specs.Commands.{IsLimitArgument, IsLimit, IsCommand, HasLimit, status_of, status_of_same};
 

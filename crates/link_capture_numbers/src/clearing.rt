@@ -1,6 +1,6 @@
 //! Clears the sequence and port numbers of messages.
 
-ghost use Rattle.std.specs.Prelude.{◌≡◌, ◌+◌, ◌<◌, ◌≤◌, ◌^◌, ◌++◌, true, false, length, take, drop, IfSome, IfNone};
+ghost use Rattle.std.specs.Prelude.{◌≡◌, ◌+◌, ◌<◌, ◌≤◌, ◌^◌, true, false, length, IfSome, IfNone};
 ghost use Rattle.netlink_packet_core_grammar.specs.Frames.{frame_length};
 ghost use Rattle.link_capture_numbers.specs.Cleared.{is_frame, zeros_at, repeats_request, first_frame_cleared, numbers_cleared};
 

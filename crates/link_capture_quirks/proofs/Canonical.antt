@@ -29,7 +29,8 @@ use Rattle.link_capture_quirks.specs.declared.tables.Table.TheVariants.{Inet, Pr
 use Rattle.link_capture_quirks.specs.QuirkRows.{quirk_if, over_one_byte, over_one_u32, has_nul, is_long_alias, link_quirk, data_quirk, is_flag, is_strict, bit_quirk, payload_quirk, header_quirk}
 use Rattle.link_capture_quirks.specs.QuirkLists.{quirks_at, direct_quirks, inside_of, list_kind_after, inside_quirks, list_quirks}
 use Rattle.link_capture_quirks.specs.declared.tables.Table.{Table}
-use Rattle.link_capture_quirks.specs.QuirkTables.{Listing, family_table, inside, whole}
+use Rattle.link_capture_checks.specs.Listings.{whole}
+use Rattle.link_capture_quirks.specs.QuirkTables.{Listing, family_table, inside}
 use Rattle.link_capture_quirks.proofs.Inside.{at_kind, either, split}
 use Rattle.link_capture_quirks.specs.QuirkLaws.{ListsUnfoldByAttributes, link_list, IsDataTable, WrittenAttributesHaveNone}
 

@@ -3,7 +3,8 @@ use Rattle.std.proofs.Common.{◌≡◌, ℕ, ◌+◌, ◌-◌, ◌^◌, ◌≤�
 use Rattle.netlink_packet_core_grammar.specs.Attributes.{Attribute, nla_align, attribute_length, proper_kind, first_attribute}
 use Rattle.link_capture_quirks.specs.declared.quirk_at.QuirkAt.{QuirkAt}
 use Rattle.link_capture_quirks.specs.declared.walk.Level.{Level}
-use Rattle.link_capture_quirks.specs.QuirkTables.{depth, listing}
+use Rattle.link_capture_checks.specs.Listings.{listing}
+use Rattle.link_capture_quirks.specs.QuirkTables.{depth}
 use Rattle.link_capture_quirks.specs.QuirkRows.{bit_quirk, payload_quirk}
 use Rattle.link_capture_quirks.specs.QuirkLists.{quirks_at, direct_quirks, inside_of, list_kind_after, inside_quirks, list_quirks}
 use Rattle.link_capture_quirks.specs.QuirkWalks.{optional_quirk, level_quirks, levels_quirks, walk_quirks, IsWithin, AreWithin, weight}

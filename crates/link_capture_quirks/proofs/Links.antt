@@ -1,5 +1,5 @@
 -- The attributes of a link, as they are written, have no quirk at any depth.
-use Rattle.std.proofs.Common.{◌≡◌, ℕ, zero, suc, Bool, true, false, eqb, List, Option, Some, None, refl, sym, ap, subst, ◌∙◌, arith}
+use Rattle.std.proofs.Common.{◌≡◌, ℕ, zero, suc, Bool, true, false, eqb, List, Option, Some, None, refl, sym, ap, subst, ◌∙◌}
 use Rattle.netlink_packet_core_grammar.specs.Attributes.{proper_kind}
 use Rattle.netlink_packet_core_grammar.specs.Texts.{without_nul}
 use Rattle.netlink_packet_core_grammar.proofs.Texts.{without_nul-end}
@@ -18,8 +18,9 @@ use Rattle.link_message_grammar.specs.LinkMessage.{Family, unspec}
 use Rattle.link_message_grammar.specs.NestedTables.{inet, specific, xdp, vf_infos}
 use Rattle.link_message_grammar.proofs.Parts.{attributes_are_looked_up}
 use Rattle.link_capture_quirks.specs.declared.tables.Table.{Table}
-use Rattle.link_capture_quirks.specs.declared.tables.Table.TheVariants.{Unspec, Info, Families, Inet, Programs, Functions, OfKind}
-use Rattle.link_capture_quirks.specs.QuirkTables.{Listing, whole, held_list, at_payload_start, inside_link, inside_table, has_peer, next_table, next_list}
+use Rattle.link_capture_quirks.specs.declared.tables.Table.TheVariants.{Unspec, Info, Families, Inet, Programs, Functions}
+use Rattle.link_capture_checks.specs.Listings.{whole}
+use Rattle.link_capture_quirks.specs.QuirkTables.{Listing, held_list, at_payload_start, inside_link, inside_table, has_peer, next_list}
 use Rattle.link_capture_quirks.specs.QuirkLaws.{ListsUnfoldByAttributes, link_list, WrittenAttributesHaveNone}
 use Rattle.link_capture_quirks.proofs.Lists.{HasNone, NoneInside, WritesNoQuirks, list-none, rows-none}
 use Rattle.link_capture_quirks.proofs.Inside.{at_kind, split, nothing-inside, whole-list, written-inside, HasNoQuirks, no-quirks-direct}

@@ -2,6 +2,7 @@
 use Rattle.std.proofs.Common.{◌≡◌, ℕ, zero, suc, ◌+◌, ◌≤◌, List, [], ◌∷◌, ◌++◌, length, drop, Option, Some, None, refl, ap, ◌∙◌, arith, length-drop}
 use Rattle.netlink_packet_core_grammar.specs.Attributes.{Attribute, nla_align, attribute_length, first_attribute}
 use Rattle.netlink_packet_core_grammar.specs.Laws.{FirstIsWithin}
+use Rattle.link_capture_checks.proofs.Listings.{rest_shorter}
 use Rattle.link_capture_quirks.specs.QuirkTables.{Listing}
 use Rattle.link_capture_quirks.specs.QuirkLists.{direct_quirks, inside_of, list_kind_after, inside_quirks, next_list_quirks, quirks_within, list_quirks}
 use Rattle.link_capture_quirks.specs.QuirkLaws.{ListsUnfoldByAttributes}
@@ -14,9 +15,6 @@ shorter : (k m : ℕ) (p : List ℕ) → length p ≤ m → length (drop k p) �
 shorter k m p h = omega (arith, length-drop k p)
 
 module _ (w : FirstIsWithin) where
-  rest_shorter : (bytes : List ℕ) (e : Attribute) (rest : List ℕ) → first_attribute bytes ≡ Some (e, rest) → 4 + length rest ≤ length bytes
-  rest_shorter bytes e rest h = omega (arith, w.within bytes e rest h, w.rest_length bytes e rest h)
-
   same_inside : (m n offset : ℕ) (o : Option (Listing × ℕ)) (p : List ℕ) → Agree m n → length p ≤ m → length p ≤ n → inside_quirks (λ l q b. quirks_within m l q b) offset o p ≡ inside_quirks (λ l q b. quirks_within n l q b) offset o p
   same_inside m n offset None p i h k = refl
   same_inside m n offset (Some x) p i h k = i x.0 (offset + x.1) (drop x.1 p) (shorter x.1 m p h) (shorter x.1 n p k)
@@ -25,7 +23,7 @@ module _ (w : FirstIsWithin) where
   same_next m n l offset bytes i p q None h = refl
   same_next m n l offset bytes i p q (Some x) h =
       let a = w.within bytes x.0 x.1 h in
-      let r = rest_shorter bytes x.0 x.1 h in
+      let r = rest_shorter w bytes x.0 x.1 h in
       ap (λ z. direct_quirks l.table offset x.0 ++ (z ++ quirks_within m (list_kind_after l x.0) (offset + nla_align (attribute_length x.0)) x.1)) (same_inside m n (offset + 4) (inside_of l x.0) x.0.payload i (omega (arith, a, p)) (omega (arith, a, q)))
       ∙ ap (λ z. direct_quirks l.table offset x.0 ++ (inside_quirks (λ l q b. quirks_within n l q b) (offset + 4) (inside_of l x.0) x.0.payload ++ z)) (i (list_kind_after l x.0) (offset + nla_align (attribute_length x.0)) x.1 (omega (arith, r, p)) (omega (arith, r, q)))
 
@@ -48,7 +46,7 @@ module _ (w : FirstIsWithin) where
   next l offset [] e after h = absurd (let a = w.within [] e after h in omega (arith, a))
   next l offset (b ∷ bytes) e after h =
       let a = w.within (b ∷ bytes) e after h in
-      let r = rest_shorter (b ∷ bytes) e after h in
+      let r = rest_shorter w (b ∷ bytes) e after h in
       let following = offset + nla_align (attribute_length e) in
       ap (λ o. next_list_quirks (λ m q d. quirks_within (length bytes) m q d) l offset o) h
       ∙ ap (λ z. direct_quirks l.table offset e ++ (z ++ quirks_within (length bytes) (list_kind_after l e) following after)) (known_inside (length bytes) (offset + 4) (inside_of l e) e.payload (omega (arith, a)))

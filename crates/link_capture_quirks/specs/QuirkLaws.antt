@@ -1,5 +1,5 @@
 -- The laws of encoding quirks, as the functions of `laws` state them.
-use Rattle.std.specs.Prelude.{◌≡◌, ℕ, Bool, true, false, ◌+◌, List, [], ◌++◌, drop, Some, None, Ok, Err}
+use Rattle.std.specs.Prelude.{◌≡◌, ℕ, true, false, ◌+◌, List, [], ◌++◌, drop, Some, None, Ok, Err}
 use Rattle.netlink_packet_core_grammar.specs.Attributes.{Attribute, proper_kind, nla_align, attribute_length}
 use Rattle.netlink_packet_core_grammar.specs.Attributes.{first_attribute}
 use Rattle.link_capture_grammar.specs.declared.fault.FaultKind.{FaultKind}
@@ -20,7 +20,8 @@ use Rattle.link_capture_quirks.specs.declared.tables.Table.{Table}
 use Rattle.link_capture_quirks.specs.declared.tables.Table.TheVariants.{Unspec, Bridge, Link, Inet, Programs, Functions}
 use Rattle.link_capture_quirks.specs.declared.tables.Table.TheVariants.{OfKind}
 use Rattle.link_capture_quirks.specs.QuirkRows.{header_quirk}
-use Rattle.link_capture_quirks.specs.QuirkTables.{Listing, whole}
+use Rattle.link_capture_checks.specs.Listings.{whole}
+use Rattle.link_capture_quirks.specs.QuirkTables.{Listing}
 use Rattle.link_capture_quirks.specs.QuirkLists.{direct_quirks, inside_of, list_kind_after, inside_quirks, list_quirks}
 use Rattle.link_capture_quirks.specs.CaptureQuirks.{frame_quirks, quirks_after}
 

@@ -1,7 +1,7 @@
 -- The lists in which encoding quirks occur: the list inside an attribute, and the list kind of the attributes after it.
 use Rattle.std.specs.Prelude.{ℕ, ◌+◌, ◌==◌, ◌&&◌, ◌||◌, nat_le, Bool, true, false, cond, List, length, slice_index}
 use Rattle.std.specs.Prelude.{Option, Some, None}
-use Rattle.attribute_tables_grammar.specs.Lists.{Context, nothing}
+use Rattle.attribute_tables_grammar.specs.Lists.{Context}
 use Rattle.attribute_tables_grammar.specs.Tables.{info_next}
 use Rattle.link_tables.specs.declared.rows.Form.TheVariants.{FirstOnly}
 use Rattle.link_tables.specs.declared.rows.Held.{Held}
@@ -9,15 +9,17 @@ use Rattle.link_tables.specs.declared.rows.Held.TheVariants.{List as HeldList}
 use Rattle.link_tables.specs.declared.table.Table.{Table as Shared}
 use Rattle.link_tables.specs.declared.table.TheConstants.{LINK_UNSPEC, LINK_BRIDGE, VXLAN, GENEVE, GRE, GRE6}
 use Rattle.link_tables.specs.declared.table.TheConstants.{IP4_TUNNEL, IP6_TUNNEL, BAREUDP, BATADV, NETKIT, VETH, VXCAN}
-use Rattle.link_tables.specs.InForce.{held_in_force, in_force}
+use Rattle.link_tables.specs.InForce.{held_in_force}
 use Rattle.link_tables.specs.Tables as tables
+use Rattle.link_capture_checks.specs.Listings.{Listing as ListingOf, whole}
+use Rattle.link_capture_quirks.specs.declared.kinds.TheConstants.{AF_INET, IFLA_AF_SPEC, IFLA_LINKINFO}
+use Rattle.link_capture_quirks.specs.declared.kinds.TheConstants.{IFLA_VFINFO_LIST, IFLA_XDP}
 use Rattle.link_capture_quirks.specs.declared.tables.Data.{Data}
 use Rattle.link_capture_quirks.specs.declared.tables.Data.TheVariants.{Other, Vxlan, Geneve, Gre, Gre6, IpTunnel}
 use Rattle.link_capture_quirks.specs.declared.tables.Data.TheVariants.{BareUdp, Batadv, Netkit, Pair, AfterFirst}
 use Rattle.link_capture_quirks.specs.declared.tables.Table.{Table}
 use Rattle.link_capture_quirks.specs.declared.tables.Table.TheVariants.{Unspec, Bridge, Link, Info, Families, Inet}
 use Rattle.link_capture_quirks.specs.declared.tables.Table.TheVariants.{Programs, Functions, OfKind}
-use Rattle.link_capture_quirks.specs.declared.tables.Listed.{Listed}
 
 -- ---- the data of a kind of link, by the shared tables
 
@@ -50,20 +52,9 @@ info_list c k = held_list (held_in_force c k)
 
 -- ---- lists
 
--- A list from some attribute on: its kind, the kinds of link and of port in force there, and whether peers inside the
--- list are judged.
-pub record Listing : Type 0 where
-  pub table : Table
-  pub context : Context
-  pub judged : Bool
-
--- The list that a list in code represents.
-abbrev pub listing : Listed → Listing
-listing l = record { table = l.table; context = in_force l.force; judged = l.judged }
-
--- A list from its first attribute on.
-abbrev pub whole : Table → Bool → Listing
-whole t judged = record { table = t; context = nothing; judged = judged }
+-- A list from some attribute on, by its kind.
+abbrev pub Listing : Type 0
+Listing = ListingOf Table
 
 -- The attributes of a link, by their table.
 abbrev pub link_attributes : Shared → Table
@@ -98,15 +89,16 @@ next_list l k p =
 -- The list inside an attribute of a link, of every address family.
 abbrev pub inside_link : ℕ → Option Table
 inside_link k =
-    cond (k == 18) (Some Info) (cond (k == 22) (Some Functions) (cond (k == 43) (Some Programs) None))
+    cond (k == IFLA_LINKINFO) (Some Info)
+    (cond (k == IFLA_VFINFO_LIST) (Some Functions) (cond (k == IFLA_XDP) (Some Programs) None))
 
 -- The list inside an attribute, unless it is a peer.
 abbrev pub inside_table : Table → Context → ℕ → Option Table
-inside_table Unspec c k = cond (k == 26) (Some Families) (inside_link k)
+inside_table Unspec c k = cond (k == IFLA_AF_SPEC) (Some Families) (inside_link k)
 inside_table Bridge c k = inside_link k
 inside_table Link c k = inside_link k
 inside_table Info c k = info_list c k
-inside_table Families c k = cond (k == 2) (Some Inet) None
+inside_table Families c k = cond (k == AF_INET) (Some Inet) None
 inside_table _ c k = None
 
 -- Attributes of kind 1 in these data are peers.

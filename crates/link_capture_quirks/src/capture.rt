@@ -1,6 +1,6 @@
 //! The encoding quirks of a capture, as an iterator.
 
-ghost use Rattle.std.specs.Prelude.{◌≡◌, ◌≤◌, ◌<◌, ◌+◌, ◌^◌, ◌∷◌, ◌++◌, [], ℕ, drop, length, Some, None, Ok, Err, MatchOption, MatchResult};
+ghost use Rattle.std.specs.Prelude.{◌≡◌, ◌≤◌, ◌+◌, ◌++◌, length};
 ghost use Rattle.std.specs.Iterator.{YieldsFirst, item_count};
 ghost use Rattle.link_capture_grammar.specs.Captures.{first_fault};
 ghost use Rattle.link_capture_quirks.specs.CaptureQuirks.{capture_quirks, QuirksLeft, items_left};

@@ -3,6 +3,7 @@
 #![tactic(auto)]
 
 mod capture;
+mod kinds;
 pub mod laws;
 mod quirk_at;
 mod rows;

@@ -8,8 +8,10 @@ ghost use Rattle.link_capture_quirks.specs.QuirkRows.{link_quirk, is_flag, value
 ghost use Rattle.link_capture_quirks.specs.QuirkRows.{payload_quirk, is_strict, nested_bit_quirk};
 ghost use Rattle.link_capture_quirks.specs.QuirkRows.{bit_quirk, header_quirk};
 
+use crate::kinds::{IFLA_IFALIAS, IFLA_IFNAME, IFLA_MAP, IFLA_PARENT_DEV_NAME, IFLA_PROTINFO};
 use crate::quirk_at::Quirk;
 use crate::tables::{Data, Table};
+use link_capture_grammar::link_types::RTM_GETLINK;
 use netlink_packet_core_attributes::view::read_u32;
 
 /// Returns a quirk if the condition holds.
@@ -54,10 +56,10 @@ fn link_quirk(kind: u16, payload: &[u8]) -> Option<Quirk>
     ensures { result ≡ link_quirk kind payload.now }
 {
     match kind {
-        3 => quirk_if(payload.is_empty(), Quirk::NameWithoutNul),
-        14 => quirk_if(payload.len() < 32, Quirk::ShortMap),
-        20 => quirk_if(is_long_alias(payload), Quirk::LongAlias),
-        56 => quirk_if(!has_nul(payload), Quirk::NameWithoutNul),
+        IFLA_IFNAME => quirk_if(payload.is_empty(), Quirk::NameWithoutNul),
+        IFLA_MAP => quirk_if(payload.len() < 32, Quirk::ShortMap),
+        IFLA_IFALIAS => quirk_if(is_long_alias(payload), Quirk::LongAlias),
+        IFLA_PARENT_DEV_NAME => quirk_if(!has_nul(payload), Quirk::NameWithoutNul),
         _ => None,
     }
 }
@@ -136,7 +138,7 @@ fn nested_bit_quirk(table: Table, kind: u16) -> Option<Quirk>
     ensures { result ≡ nested_bit_quirk table kind }
 {
     match table {
-        Table::Bridge => quirk_if(kind == 12, Quirk::NestedPortSettings),
+        Table::Bridge => quirk_if(kind == IFLA_PROTINFO, Quirk::NestedPortSettings),
         Table::Programs => quirk_if(kind == 8, Quirk::StrayNestedBit),
         Table::OfKind(kind_data) => quirk_if(is_strict(kind_data, kind), Quirk::StrayNestedBit),
         _ => None,
@@ -170,6 +172,8 @@ pub fn header_quirk(message_type: u16, body: &[u8]) -> Option<Quirk>
     requires { 16 ≤ length body.now }
     ensures { result ≡ header_quirk message_type body.now }
 {
-    // RTM_GETLINK (rtnetlink.h)
-    quirk_if(message_type == 18 && body[1] != 0, Quirk::HeaderByte)
+    quirk_if(
+        message_type == RTM_GETLINK && body[1] != 0,
+        Quirk::HeaderByte,
+    )
 }

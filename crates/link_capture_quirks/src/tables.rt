@@ -2,11 +2,14 @@
 
 ghost use Rattle.std.specs.Prelude.{◌≡◌, ◌≤◌, ◌<◌, length, option_map, IfSome};
 ghost use Rattle.link_tables.specs.InForce.{in_force};
+ghost use Rattle.link_capture_checks.specs.Listings.{listing};
 ghost use Rattle.link_capture_quirks.specs.QuirkTables.{data_of, data_in, data_list, info_list};
-ghost use Rattle.link_capture_quirks.specs.QuirkTables.{family_table, next_table, next_context, next_list, inside_link, inside_table};
-ghost use Rattle.link_capture_quirks.specs.QuirkTables.{has_peer, inside, listing, whole, table_depth, depth};
+ghost use Rattle.link_capture_quirks.specs.QuirkTables.{family_table, next_list, inside_link, inside_table};
+ghost use Rattle.link_capture_quirks.specs.QuirkTables.{has_peer, inside, depth};
 
-use link_tables::{Form, Held, InForce, NO_KINDS, info_held, next_force, table};
+use crate::kinds::{AF_INET, IFLA_AF_SPEC, IFLA_LINKINFO, IFLA_VFINFO_LIST, IFLA_XDP};
+use link_capture_checks::Listed;
+use link_tables::{Form, Held, InForce, info_held, table};
 
 // The indexes of the shared tables in whose rows quirks differ.
 const LINK_UNSPEC: u8 = table::LINK_UNSPEC.0;
@@ -80,28 +83,6 @@ pub enum Table {
     OfKind(Data),
 }
 
-/// A list from some attribute on: its kind, the kinds of link and of port in force there, and
-/// whether peers inside the list are judged.
-#[derive(Clone, Copy)]
-pub struct Listed<'a> {
-    pub table: Table,
-    pub force: InForce<'a>,
-    pub judged: bool,
-}
-
-impl<'a> Listed<'a> {
-    /// Returns a list from its first attribute on.
-    pub fn new(table: Table, judged: bool) -> Self
-        ensures { listing result ≡ whole table judged }
-    {
-        Listed {
-            table,
-            force: NO_KINDS,
-            judged,
-        }
-    }
-}
-
 /// Returns the data with the rows of a table, by its index.
 fn data_of(table: u8) -> Data
     ensures { result ≡ data_of table }
@@ -170,37 +151,18 @@ pub fn family_table(family: u8) -> Table
     }
 }
 
-/// Returns the list kind of the attributes after an attribute.
-fn next_table(table: Table) -> Table
-    ensures next { result ≡ next_table table }
-    ensures as_deep { table_depth result ≡ table_depth table }
-{
-    match table {
-        Table::OfKind(Data::Pair) => Table::OfKind(Data::AfterFirst),
-        _ => table,
-    }
-}
-
-/// Returns the kinds in force after an attribute of a list.
-fn force_after<'a>(list: Listed<'a>, kind: u16, payload: &'a [u8]) -> InForce<'a>
-    ensures { in_force result
-        ≡ next_context list.entry.table (in_force list.entry.force) kind payload.now }
-{
-    match list.table {
-        Table::Info => next_force(list.force, kind, payload),
-        _ => list.force,
-    }
-}
-
 /// Returns the rest of a list after an attribute, whose kind has no flag bits.
-pub fn next_list<'a>(list: Listed<'a>, kind: u16, payload: &'a [u8]) -> Listed<'a>
+pub fn next_list<'a>(list: Listed<'a, Table>, kind: u16, payload: &'a [u8]) -> Listed<'a, Table>
     ensures next { listing result ≡ next_list (listing list.entry) kind payload.now }
     ensures as_deep { depth (listing result) ≡ depth (listing list.entry) }
 {
-    Listed {
-        table: next_table(list.table),
-        force: force_after(list, kind, payload),
-        judged: list.judged,
+    match list.table {
+        Table::Info => list.after_info(kind, payload),
+        Table::OfKind(Data::Pair) => Listed {
+            table: Table::OfKind(Data::AfterFirst),
+            ..list
+        },
+        _ => list,
     }
 }
 
@@ -209,9 +171,9 @@ fn inside_link(kind: u16) -> Option<Table>
     ensures { result ≡ inside_link kind }
 {
     match kind {
-        18 => Some(Table::Info),
-        22 => Some(Table::Functions),
-        43 => Some(Table::Programs),
+        IFLA_LINKINFO => Some(Table::Info),
+        IFLA_VFINFO_LIST => Some(Table::Functions),
+        IFLA_XDP => Some(Table::Programs),
         _ => None,
     }
 }
@@ -221,10 +183,10 @@ fn inside_table(table: Table, force: InForce<'_>, kind: u16) -> Option<Table>
     ensures { result ≡ inside_table table (in_force force.entry) kind }
 {
     match table {
-        Table::Unspec if kind == 26 => Some(Table::Families),
+        Table::Unspec if kind == IFLA_AF_SPEC => Some(Table::Families),
         Table::Unspec | Table::Bridge | Table::Link => inside_link(kind),
         Table::Info => info_list(force, kind),
-        Table::Families if kind == 2 => Some(Table::Inet),
+        Table::Families if kind == AF_INET => Some(Table::Inet),
         _ => None,
     }
 }
@@ -239,7 +201,11 @@ fn has_peer(table: Table) -> bool
 /// Returns the list in an attribute, and the number of bytes before it: 16 for a peer's header,
 /// which is a link's.
 #[tactic(auto, unfolding(crate::specs::QuirkTables::inside))]
-pub fn inside<'a>(list: Listed<'a>, kind: u16, payload: &'a [u8]) -> Option<(Listed<'a>, usize)>
+pub fn inside<'a>(
+    list: Listed<'a, Table>,
+    kind: u16,
+    payload: &'a [u8],
+) -> Option<(Listed<'a, Table>, usize)>
     ensures inside { option_map (λ x. (listing x.0, x.1)) result
         ≡ inside (listing list.entry) kind payload.now }
     ensures header_size { IfSome result (λ x. x.1 ≤ length payload.now) }

@@ -10,9 +10,9 @@ ghost use Rattle.link_capture_quirks.specs.QuirkWalks.{optional_quirk, levels_qu
 use crate::laws::lists_unfold_by_attributes;
 use crate::quirk_at::{Quirk, QuirkAt};
 use crate::rows::{attribute_quirks, header_quirk};
-use crate::tables::{Listed, Table, family_table, inside, next_list};
+use crate::tables::{Table, family_table, inside, next_list};
 use arrayvec::ArrayVec;
-use link_capture_checks::frame_body;
+use link_capture_checks::{Listed, frame_body};
 use link_capture_grammar::link_types::is_link_type;
 use link_interpreter::{KIND_BOUND, first_attribute};
 use link_tables::LINK_HEADER_LEN;
@@ -26,7 +26,7 @@ const DEPTH: usize = 6;
 /// The rest of a list, and its offset in bytes from the capture's start.
 #[derive(Clone, Copy, Drop)]
 pub(crate) struct Level<'a> {
-    pub list: Listed<'a>,
+    pub list: Listed<'a, Table>,
     pub offset: usize,
     pub rest: &'a [u8],
 }

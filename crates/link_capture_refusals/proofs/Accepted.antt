@@ -15,13 +15,13 @@ use Rattle.link_capture_refusals.specs.declared.tables.Inside.{Inside}
 use Rattle.link_capture_refusals.specs.declared.tables.Inside.TheVariants as I
 use Rattle.link_tables.specs.declared.table.Table.{Table}
 use Rattle.link_capture_refusals.specs.declared.reason.Reason.TheVariants as R
-use Rattle.link_capture_refusals.specs.RefusalTables.{Listing, row_in, whole}
+use Rattle.link_capture_refusals.specs.RefusalTables.{Listing, list_table, row_in, whole}
 use Rattle.link_tables.specs.Tables.{family_table}
 use Rattle.link_capture_refusals.specs.RowRules.{LinksAreTables, RowsAreTheTables, following, grammar_at, is_accepted, peer_of, row_rule}
 use Rattle.link_capture_refusals.specs.Refusals.{Found, ListRefusal, attribute_refusal, found_at, list_rest, inside_refusal, link_refusal, list_refusal, named, next_refusal, or_else, refusal_within, row_refusal, whole_refusal}
 use Rattle.link_capture_refusals.specs.RefusalLaws.{LinksAreAccepted, ListsAreAccepted}
 use Rattle.std.proofs.lemmas.Bool.{ltb-true, ltb-false, le-leb, lt-leb}
-use Rattle.link_capture_refusals.proofs.ListUnfolding.{rest_shorter}
+use Rattle.link_capture_checks.proofs.Listings.{rest_shorter}
 
 -- ---- refusals
 
@@ -64,7 +64,7 @@ module _ (w : FirstIsWithin) (steps : MeasuresUnfold) (determines : MeasuresDete
   record Known (n : ℕ) : Type 0 where
     walked : (judged : Bool) (f : Form) (t : Table) (c : Context) (offset : ℕ) (bytes rest : List ℕ) (m : Measure) → IsWalked (form_of f) bytes → length rest ≤ n →
         MeasuredSoFar (form_of f) (grammar_at judged t) bytes m c rest →
-        (list_rule (form_of f) (grammar_at judged t)).accepted bytes ≡ is_none (refusal_within n (record { form = f; table = t; context = c; judged = judged }) offset rest)
+        (list_rule (form_of f) (grammar_at judged t)).accepted bytes ≡ is_none (refusal_within n (record { table = list_table f t; context = c; judged = judged }) offset rest)
     first : (judged : Bool) (t : Table) (offset b : ℕ) (bytes : List ℕ) → length (b ∷ bytes) ≤ n →
         (list_rule first_only (grammar_at judged t)).accepted (b ∷ bytes) ≡ is_none (refusal_within n (whole FirstOnly t judged) offset (b ∷ bytes))
 
@@ -90,9 +90,9 @@ module _ (w : FirstIsWithin) (steps : MeasuresUnfold) (determines : MeasuresDete
 
     attribute_some : (l : Listing) (offset : ℕ) (e : Attribute) → length e.payload ≤ n → is_accepted l e ≡ false → is_none (attribute_refusal (within n) l offset e) ≡ false
     attribute_some l offset e s h =
-        ap (λ b. is_none (cond b None (row_refusal (within n) l.judged (row_in l.table l.context (proper_kind e.kind)) offset e.payload))) h
-        ∙ row_some l.judged (row_in l.table l.context (proper_kind e.kind)) offset e.payload s
-        (sym (ap (λ r. r.accepted e.payload) (rows l.judged l.table l.context (proper_kind e.kind))) ∙ by_kept (is_kept (form_of l.form) e) _ h)
+        ap (λ b. is_none (cond b None (row_refusal (within n) l.judged (row_in l.table.rows l.context (proper_kind e.kind)) offset e.payload))) h
+        ∙ row_some l.judged (row_in l.table.rows l.context (proper_kind e.kind)) offset e.payload s
+        (sym (ap (λ r. r.accepted e.payload) (rows l.judged l.table.rows l.context (proper_kind e.kind))) ∙ by_kept (is_kept (form_of l.table.form) e) _ h)
       where
         by_kept : (b a : Bool) → cond b a true ≡ false → a ≡ false
         by_kept true a h = h
@@ -115,7 +115,7 @@ module _ (w : FirstIsWithin) (steps : MeasuresUnfold) (determines : MeasuresDete
       g = grammar_at judged t
 
       abbrev at : Form → Context → Listing
-      at f c = record { form = f; table = t; context = c; judged = judged }
+      at f c = record { table = list_table f t; context = c; judged = judged }
 
       abbrev here : Context → Attribute → Rule
       here c e = (row_of g c e).rule
@@ -182,7 +182,7 @@ module _ (w : FirstIsWithin) (steps : MeasuresUnfold) (determines : MeasuresDete
 
   walked_zero : (judged : Bool) (f : Form) (t : Table) (c : Context) (offset : ℕ) (bytes rest : List ℕ) (m : Measure) → IsWalked (form_of f) bytes → length rest ≤ 0 →
       MeasuredSoFar (form_of f) (grammar_at judged t) bytes m c rest →
-      (list_rule (form_of f) (grammar_at judged t)).accepted bytes ≡ is_none (refusal_within zero (record { form = f; table = t; context = c; judged = judged }) offset rest)
+      (list_rule (form_of f) (grammar_at judged t)).accepted bytes ≡ is_none (refusal_within zero (record { table = list_table f t; context = c; judged = judged }) offset rest)
   unfolding refusal_within
   walked_zero judged f t c offset bytes [] m v l s = done (form_of f) (grammar_at judged t) bytes c m v s
   walked_zero judged f t c offset bytes (b ∷ rest) m v l s = absurd (omega (arith, l))

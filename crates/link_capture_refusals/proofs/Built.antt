@@ -1,11 +1,10 @@
 -- The rows with names are those of the grammar's tables.
 use Rattle.std.proofs.Common.{◌≡◌, ℕ, zero, suc, Bool, true, false, cond, List, [], ◌∷◌, get_or, map, Option, Some, None, refl, sym, ap, ◌∙◌}
 use Rattle.std.proofs.Math.ListN.{get_or-map}
-use Rattle.std.specs.List.{list_all}
 use Rattle.std.specs.Prelude.{◌==◌, not, option_map}
 use Rattle.attribute_tables_grammar.specs.Laws.{RowsAreLookedUp, NamesAreLookedUp}
 use Rattle.attribute_tables_grammar.specs.Lists.{any, Context, list_rule}
-use Rattle.attribute_tables_grammar.specs.LookUps.{line_at, Line, link_info_of, payload_at, payload_rule, row_of_line, rows_rule, rule_or_raw, table_row}
+use Rattle.attribute_tables_grammar.specs.LookUps.{line_at, Line, link_info_of, payload_at, row_of_line, rows_rule, rule_or_raw, table_row}
 use Rattle.attribute_tables_grammar.specs.Peers.{Peer}
 use Rattle.attribute_tables_grammar.specs.Rules.{shape_rule}
 use Rattle.attribute_tables_grammar.specs.Shapes as shapes

@@ -30,7 +30,7 @@ none_taken (Some r) q h = absurd cc
 module _ (s : ListsUnfoldByAttributes) (l : Listing) (offset : ℕ) (rest : List ℕ) (e : Attribute) (after : List ℕ) (o : Option Refusal) (h : 0 < length rest) (f : first_attribute rest ≡ Some (e, after))
     (a : all_found o ≡ attribute_refusal list_refusal l offset e) where
   abbrev more : Option Found
-  more = list_refusal (following l e) (offset + nla_align (attribute_length e)) (list_rest l.form after)
+  more = list_refusal (following l e) (offset + nla_align (attribute_length e)) (list_rest l.table.form after)
 
   by_first : list_refusal l offset rest ≡ or_else (all_found o) more
   by_first = unfolds_next s l offset rest h ∙ ap (next_refusal list_refusal l offset rest) f ∙ ap (λ z. or_else z more) (sym a)

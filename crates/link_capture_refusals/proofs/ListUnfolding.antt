@@ -9,6 +9,7 @@ use Rattle.link_message_grammar.specs.Body.{body_rule}
 use Rattle.link_capture_refusals.specs.declared.tables.Inside.{Inside}
 use Rattle.link_capture_refusals.specs.declared.tables.Inside.TheVariants as I
 use Rattle.link_capture_refusals.specs.declared.reason.Reason.TheVariants as R
+use Rattle.link_capture_checks.proofs.Listings.{rest_shorter}
 use Rattle.link_capture_refusals.specs.RefusalTables.{Listing, row_in, whole}
 use Rattle.link_tables.specs.Tables.{family_table}
 use Rattle.link_capture_refusals.specs.RowRules.{following, is_accepted}
@@ -41,21 +42,18 @@ module _ (f g : ListRefusal) (k : ℕ) (i : Same f g k) where
   same_row judged (Some x) attribute_offset p h = ap (option_map (named x.0)) (same_inside judged x.1 attribute_offset p h)
 
   same_attribute : (l : Listing) (offset : ℕ) (e : Attribute) → length e.payload ≤ k → attribute_refusal f l offset e ≡ attribute_refusal g l offset e
-  same_attribute l offset e h = ap (cond (is_accepted l e) None) (same_row l.judged (row_in l.table l.context (proper_kind e.kind)) offset e.payload h)
+  same_attribute l offset e h = ap (cond (is_accepted l e) None) (same_row l.judged (row_in l.table.rows l.context (proper_kind e.kind)) offset e.payload h)
 
 module _ (w : FirstIsWithin) where
-  pub rest_shorter : (bytes : List ℕ) (e : Attribute) (rest : List ℕ) → first_attribute bytes ≡ Some (e, rest) → 4 + length rest ≤ length bytes
-  rest_shorter bytes e rest h = omega (arith, w.within bytes e rest h, w.rest_length bytes e rest h)
-
   same_next : (f g : ListRefusal) (k : ℕ) → Same f g k → (l : Listing) (offset : ℕ) (bytes : List ℕ) → length bytes ≤ suc k → (o : Option (Attribute × List ℕ)) → first_attribute bytes ≡ o →
       next_refusal f l offset bytes o ≡ next_refusal g l offset bytes o
   same_next f g k i l offset bytes p None h = refl
   same_next f g k i l offset bytes p (Some x) h =
       let a = w.within bytes x.0 x.1 h in
-      let r = rest_shorter bytes x.0 x.1 h in
+      let r = rest_shorter w bytes x.0 x.1 h in
       let after_it = offset + nla_align (attribute_length x.0) in
-      ap (λ o. or_else o (f (following l x.0) after_it (list_rest l.form x.1))) (same_attribute f g k i l offset x.0 (omega (arith, a, p)))
-      ∙ ap (or_else (attribute_refusal g l offset x.0)) (i (following l x.0) after_it (list_rest l.form x.1) (omega (arith, shorter_rest l.form x.1, r, p)))
+      ap (λ o. or_else o (f (following l x.0) after_it (list_rest l.table.form x.1))) (same_attribute f g k i l offset x.0 (omega (arith, a, p)))
+      ∙ ap (or_else (attribute_refusal g l offset x.0)) (i (following l x.0) after_it (list_rest l.table.form x.1) (omega (arith, shorter_rest l.table.form x.1, r, p)))
 
   pub enough : (m n : ℕ) (l : Listing) (offset : ℕ) (bytes : List ℕ) → length bytes ≤ m → length bytes ≤ n → refusal_within m l offset bytes ≡ refusal_within n l offset bytes
   unfolding refusal_within

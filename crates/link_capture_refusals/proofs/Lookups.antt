@@ -1,5 +1,5 @@
 -- Rows in code, and their values.
-use Rattle.std.proofs.Common.{◌≡◌, ℕ, zero, suc, ◌+◌, ◌-◌, ◌<◌, ◌≤◌, ◌++◌, length, Bool, true, false, cond, List, [], ◌∷◌, get_or, Bor, Option, Some, None, refl, sym, ap, ◌∙◌, subst, zero-add, arith}
+use Rattle.std.proofs.Common.{◌≡◌, ℕ, zero, suc, ◌+◌, ◌-◌, ◌<◌, ◌≤◌, length, Bool, true, false, cond, List, [], ◌∷◌, get_or, Bor, Option, Some, None, refl, sym, ap, ◌∙◌, subst, zero-add, arith}
 use Rattle.std.specs.Prelude.{◌==◌, ◌&&◌, nat_lt, not, option_map}
 use Rattle.std.specs.List.{list_all}
 use Rattle.std.specs.Str.{IsAscii, IsUtf8}
@@ -25,8 +25,7 @@ use Rattle.link_interpreter.specs.Measures.{rows_of}
 use Rattle.link_tables.specs.Tables.{is_link_info, table_of}
 use Rattle.attribute_tables_grammar.specs.Lists.{Context}
 use Rattle.link_capture_refusals.specs.declared.tables.Inside.{Inside}
-use Rattle.link_capture_refusals.specs.declared.tables.Inside.TheVariants as I
-use Rattle.link_capture_refusals.specs.RowRules.{following, grammar_at, grammar_of, peer_of}
+use Rattle.link_capture_refusals.specs.RowRules.{following, grammar_at, peer_of}
 use Rattle.link_capture_refusals.specs.RefusalTables.{IsLower, Listing, NamedRow, data_rows, depth, find, info_inside, inside_depth, inside_of, is_name, message_rows, row_values, table_rows}
 
 -- a row in code, and its value
@@ -156,11 +155,11 @@ unfolding info_grammar_under
 next_in judged true t c e h = refl
 next_in judged false t c e h = absurd cc
 
-pub info_rest : (l : Listing) (e : Attribute) → is_link_info l.table ≡ true → is_kept (form_of l.form) e ≡ true → record l { context = info_next l.context (proper_kind e.kind) e.payload } ≡ following l e
+pub info_rest : (l : Listing) (e : Attribute) → is_link_info l.table.rows ≡ true → is_kept (form_of l.table.form) e ≡ true → record l { context = info_next l.context (proper_kind e.kind) e.payload } ≡ following l e
 unfolding grammar_at
 info_rest l e h k =
     ap (λ c. record l { context = c })
-    (sym (next_in l.judged (is_link_info l.table) l.table l.context e h) ∙ ap (λ b. cond b ((grammar_at l.judged l.table).next l.context e) l.context) (sym k))
+    (sym (next_in l.judged (is_link_info l.table.rows) l.table.rows l.context e h) ∙ ap (λ b. cond b ((grammar_at l.judged l.table.rows).next l.context e) l.context) (sym k))
 
 -- ---- rows in two parts
 

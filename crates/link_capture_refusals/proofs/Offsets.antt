@@ -9,13 +9,13 @@ use Rattle.link_tables.specs.declared.rows.Form.TheVariants.{Any, OfKindOne}
 use Rattle.link_capture_refusals.specs.declared.tables.Inside.{Inside}
 use Rattle.link_capture_refusals.specs.declared.tables.Inside.TheVariants as I
 use Rattle.link_capture_refusals.specs.declared.reason.Reason.TheVariants as R
-use Rattle.link_capture_refusals.specs.RefusalTables.{Listing, row_in, whole}
+use Rattle.link_capture_refusals.specs.RefusalTables.{Listing, list_table, row_in, whole}
 use Rattle.link_tables.specs.Tables.{family_table}
 use Rattle.link_capture_refusals.specs.RowRules.{following, is_accepted}
 use Rattle.link_capture_refusals.specs.RefusalLaws.{IsBetween}
 use Rattle.link_capture_refusals.specs.Refusals.{Found, ListRefusal, attribute_refusal, found_at, list_rest, inside_refusal, link_refusal, list_refusal, named, next_refusal, or_else, refusal_within, row_refusal, whole_refusal}
 use Rattle.link_capture_refusals.proofs.Continuing.{shorter_rest}
-use Rattle.link_capture_refusals.proofs.ListUnfolding.{rest_shorter}
+use Rattle.link_capture_checks.proofs.Listings.{rest_shorter}
 
 -- the offset of a refusal, if there is one, is between two offsets
 abbrev pub IsPlacedBetween : ℕ → ℕ → Option Found → Type 0
@@ -48,9 +48,9 @@ Within f k = (l : Listing) (offset : ℕ) (bytes : List ℕ) → length bytes �
 
 module _ (f : ListRefusal) (k : ℕ) (i : Within f k) where
   between_whole : (l : Listing) (attribute_offset : ℕ) (p : List ℕ) → length p ≤ k → IsPlacedBetween attribute_offset (attribute_offset + 4 + length p) (whole_refusal f l attribute_offset p)
-  between_whole l attribute_offset [] h = by_form l.form
+  between_whole l attribute_offset [] h = by_form l.table.form
     where
-      by_form : (form : Form) → IsPlacedBetween attribute_offset (attribute_offset + 4 + 0) (whole_refusal f (record l { form = form }) attribute_offset [])
+      by_form : (form : Form) → IsPlacedBetween attribute_offset (attribute_offset + 4 + 0) (whole_refusal f (record l { table = list_table form l.table.rows }) attribute_offset [])
       by_form Any = tt
       by_form OfKindOne = tt
       by_form form = (omega arith, omega arith)
@@ -79,8 +79,8 @@ module _ (f : ListRefusal) (k : ℕ) (i : Within f k) where
 
   between_attribute : (l : Listing) (offset : ℕ) (e : Attribute) → length e.payload ≤ k → IsPlacedBetween offset (offset + 4 + length e.payload) (attribute_refusal f l offset e)
   between_attribute l offset e h =
-      let o = row_refusal f l.judged (row_in l.table l.context (proper_kind e.kind)) offset e.payload in
-      between_if offset (offset + 4 + length e.payload) (is_accepted l e) o (between_row l.judged (row_in l.table l.context (proper_kind e.kind)) offset e.payload h)
+      let o = row_refusal f l.judged (row_in l.table.rows l.context (proper_kind e.kind)) offset e.payload in
+      between_if offset (offset + 4 + length e.payload) (is_accepted l e) o (between_row l.judged (row_in l.table.rows l.context (proper_kind e.kind)) offset e.payload h)
 
 -- no bytes have no refusal
 module _ (w : FirstIsWithin) (f : ListRefusal) (k : ℕ) (i : Within f k) (none : (l : Listing) (offset : ℕ) → f l offset [] ≡ None) where
@@ -96,10 +96,10 @@ module _ (w : FirstIsWithin) (f : ListRefusal) (k : ℕ) (i : Within f k) (none 
       let a = w.within bytes x.0 x.1 h in
       let r = rest_shorter w bytes x.0 x.1 h in
       let d = w.rest_length bytes x.0 x.1 h in
-      let g = shorter_rest l.form x.1 in
-      between_else offset (offset + length bytes) (attribute_refusal f l offset x.0) (f (following l x.0) (offset + nla_align (attribute_length x.0)) (list_rest l.form x.1))
+      let g = shorter_rest l.table.form x.1 in
+      between_else offset (offset + length bytes) (attribute_refusal f l offset x.0) (f (following l x.0) (offset + nla_align (attribute_length x.0)) (list_rest l.table.form x.1))
       (wider offset (offset + 4 + length x.0.payload) offset (offset + length bytes) (attribute_refusal f l offset x.0) (omega arith) (omega (arith, a)) (between_attribute f k i l offset x.0 (omega (arith, a, p))))
-      (between_rest (following l x.0) offset (nla_align (attribute_length x.0)) (offset + length bytes) (list_rest l.form x.1) (omega (arith, g, r, p)) (λ n. omega (arith, n, g, d)))
+      (between_rest (following l x.0) offset (nla_align (attribute_length x.0)) (offset + length bytes) (list_rest l.table.form x.1) (omega (arith, g, r, p)) (λ n. omega (arith, n, g, d)))
 
 module _ (w : FirstIsWithin) where
   between_within : (n : ℕ) → Within (λ l q d. refusal_within n l q d) n

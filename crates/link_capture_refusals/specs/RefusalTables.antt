@@ -1,8 +1,8 @@
 -- The lists of links: the names of their attributes, and what these contain.
-use Rattle.std.specs.Prelude.{ℕ, zero, suc, ◌==◌, ◌<◌, ◌||◌, nat_le, nat_lt, Bool, cond, List, [], ◌∷◌, ◌++◌, codes}
+use Rattle.std.specs.Prelude.{ℕ, zero, suc, ◌==◌, ◌<◌, ◌||◌, nat_lt, Bool, cond, List, [], ◌∷◌, ◌++◌, codes}
 use Rattle.std.specs.Prelude.{get_or, map, Option, Some, None, option_map}
 use Rattle.std.specs.List.{list_all}
-use Rattle.attribute_tables_grammar.specs.Lists.{Context, nothing}
+use Rattle.attribute_tables_grammar.specs.Lists.{Context}
 use Rattle.link_tables.specs.declared.rows.Form.{Form}
 use Rattle.link_tables.specs.declared.rows.Form.TheVariants.{NonEmpty}
 use Rattle.link_tables.specs.declared.rows.Held.{Held}
@@ -10,13 +10,14 @@ use Rattle.link_tables.specs.declared.rows.Held.TheVariants as H
 use Rattle.link_tables.specs.declared.table.Table.{Table}
 use Rattle.link_tables.specs.declared.table.TheConstants.{AMT, LINK_INFO, LINK_UNSPEC, MACVLAN_ADDRESS, SPECIFIC, VF}
 use Rattle.link_tables.specs.declared.table.TheConstants.{VF_INFOS, VF_PORTS, VLAN}
-use Rattle.link_tables.specs.InForce.{held_in_force, in_force}
+use Rattle.link_tables.specs.InForce.{held_in_force}
 use Rattle.link_tables.specs.Tables.{is_link_info}
+use Rattle.link_capture_checks.specs.Listings.{Listing as ListingOf, whole as whole_of}
 use Rattle.link_capture_refusals.specs.declared.reason.Reason.TheVariants.{NoKind, NoPortKind}
 use Rattle.link_capture_refusals.specs.declared.rows.TheConstants.{DATA_ROWS, MESSAGE_ROWS}
 use Rattle.link_capture_refusals.specs.declared.tables.Inside.{Inside}
 use Rattle.link_capture_refusals.specs.declared.tables.Inside.TheVariants as I
-use Rattle.link_capture_refusals.specs.declared.tables.Listed.{Listed}
+use Rattle.link_capture_refusals.specs.declared.tables.ListTable.{ListTable}
 
 -- ---- rows
 
@@ -91,21 +92,17 @@ row_in t c k = cond (is_link_info t) (info_row c k) (table_row (find k (get_or t
 
 -- ---- lists
 
--- The rest of a list of the attributes of a table: its list kind, the kinds in force there, and whether peers inside
--- are judged.
-pub record Listing : Type 0 where
-  pub form : Form
-  pub table : Table
-  pub context : Context
-  pub judged : Bool
+-- A list from some attribute on, by its list kind and the table of its attributes.
+abbrev pub Listing : Type 0
+Listing = ListingOf ListTable
 
--- The value of a list in code.
-abbrev pub listing : Listed → Listing
-listing l = record { form = l.form; table = l.table; context = in_force l.force; judged = l.judged }
+-- A list kind, and the table of its attributes.
+abbrev pub list_table : Form → Table → ListTable
+list_table f t = record { form = f; rows = t }
 
--- A list from its first attribute on.
+-- A list of the attributes of a table, from its first attribute on.
 abbrev pub whole : Form → Table → Bool → Listing
-whole f t judged = record { form = f; table = t; context = nothing; judged = judged }
+whole f t judged = whole_of (list_table f t) judged
 
 -- ---- how deeply attributes are nested, by the index of a table
 

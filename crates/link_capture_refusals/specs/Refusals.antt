@@ -64,7 +64,7 @@ empty_refusal FirstOnly attribute_offset = Some (found_at (attribute_offset + 4)
 
 -- The refusal of a list that is the payload of the attribute at `attribute_offset`.
 abbrev pub whole_refusal : ListRefusal → Listing → ℕ → List ℕ → Option Found
-whole_refusal list l attribute_offset [] = empty_refusal l.form attribute_offset
+whole_refusal list l attribute_offset [] = empty_refusal l.table.form attribute_offset
 whole_refusal list l attribute_offset (b ∷ p) = list l (attribute_offset + 4) (b ∷ p)
 
 -- The refusal of a link's body at `offset`: of its header, or of one of its attributes.
@@ -97,7 +97,7 @@ row_refusal list judged (Some x) attribute_offset p =
 abbrev pub attribute_refusal : ListRefusal → Listing → ℕ → Attribute → Option Found
 attribute_refusal list l offset e =
     cond (is_accepted l e) None
-    (row_refusal list l.judged (row_in l.table l.context (proper_kind e.kind)) offset e.payload)
+    (row_refusal list l.judged (row_in l.table.rows l.context (proper_kind e.kind)) offset e.payload)
 
 -- The bytes with which a list continues after an attribute.
 abbrev pub list_rest : Form → List ℕ → List ℕ
@@ -109,7 +109,7 @@ abbrev pub next_refusal : ListRefusal → Listing → ℕ → List ℕ → Optio
 next_refusal list l offset bytes None = Some (found_at offset (no_attribute bytes))
 next_refusal list l offset bytes (Some x) =
     or_else (attribute_refusal list l offset x.0)
-    (list (following l x.0) (offset + nla_align (attribute_length x.0)) (list_rest l.form x.1))
+    (list (following l x.0) (offset + nla_align (attribute_length x.0)) (list_rest l.table.form x.1))
 
 -- ---- lists, in at most n steps
 

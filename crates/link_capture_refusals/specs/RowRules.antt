@@ -27,20 +27,19 @@ grammar_at judged t =
 
 -- The rows of the table of a list, and the context after each attribute.
 abbrev pub grammar_of : Listing → Grammar
-grammar_of l = grammar_at l.judged l.table
+grammar_of l = grammar_at l.judged l.table.rows
 
 -- The first attribute of a list is dropped by the list kind, or accepted by its row.
 abbrev pub is_accepted : Listing → Attribute → Bool
-is_accepted l e = cond (is_kept (form_of l.form) e) ((row_of (grammar_of l) l.context e).rule.accepted e.payload) true
+is_accepted l e = cond (is_kept (form_of l.table.form) e) ((row_of (grammar_of l) l.context e).rule.accepted e.payload) true
 
 -- The rest of a list after an attribute.
 abbrev pub following : Listing → Attribute → Listing
 following l e =
     record {
-      form = l.form;
       table = l.table;
       context =
-          cond (is_kept (form_of l.form) e) ((grammar_of l).next l.context e) l.context;
+          cond (is_kept (form_of l.table.form) e) ((grammar_of l).next l.context e) l.context;
       judged = l.judged;
     }
 

@@ -1,6 +1,6 @@
 //! Refusals: the attribute that isn't accepted, its offset and the reason.
 
-ghost use Rattle.std.specs.Prelude.{◌≡◌, ◌≤◌, ◌<◌, ◌+◌, ◌++◌, length, map, Some};
+ghost use Rattle.std.specs.Prelude.{◌≡◌, ◌<◌, ◌+◌, ◌++◌, length, map, Some};
 ghost use Rattle.link_capture_refusals.specs.ReasonTexts.{words};
 ghost use Rattle.link_capture_refusals.specs.Refusals.{found_at, named};
 ghost use Rattle.link_capture_refusals.specs.RefusalViews.{found};

@@ -5,18 +5,20 @@ ghost use Rattle.attribute_tables_grammar.specs.Lists as Lists;
 ghost use Rattle.link_tables.specs.declared.table.TheConstants.{AMT, LINK_INFO, VLAN};
 ghost use Rattle.link_tables.specs.InForce.{held_in_force, in_force};
 ghost use Rattle.link_tables.specs.Rows.{form_of};
+ghost use Rattle.link_capture_checks.specs.Listings.{listing};
 ghost use Rattle.link_capture_refusals.specs.RefusalTables.{IsLower, data_rows, find, info_inside, info_row, inside_of};
-ghost use Rattle.link_capture_refusals.specs.RefusalTables.{listing, message_rows, row_in, table_row, table_rows, whole};
+ghost use Rattle.link_capture_refusals.specs.RefusalTables.{message_rows, row_in, table_row, table_rows, whole};
 ghost use Rattle.link_capture_refusals.specs.RowRules.{following};
 
 use crate::names::{find, rows_at, text_of};
 use crate::reason::Reason;
 use crate::rows::{DATA_ROWS, MESSAGE_ROWS, NamedRow};
+use link_capture_checks::Listed;
 use link_interpreter::KIND_BOUND;
 use link_tables::table::{AMT, LINK_INFO, VLAN};
 use link_tables::{
     Form, Held, IFLA_INFO_DATA, IFLA_INFO_KIND, IFLA_INFO_SLAVE_DATA, IFLA_INFO_SLAVE_KIND,
-    IFLA_INFO_XSTATS, InForce, NO_KINDS, Shape, Table, info_held, next_force,
+    IFLA_INFO_XSTATS, InForce, Shape, Table, info_held,
 };
 
 /// The content of an attribute's payload.
@@ -32,28 +34,18 @@ pub enum Inside {
     Refused(Reason),
 }
 
-/// The rest of a list of the attributes of a table: its list kind, the link kinds in force there,
-/// and whether peers inside are judged.
+/// Which list it is: its list kind, and the table of its attributes.
 #[derive(Clone, Copy)]
-pub struct Listed<'a> {
+pub struct ListTable {
     pub form: Form,
-    pub table: Table,
-    pub force: InForce<'a>,
-    pub judged: bool,
+    pub rows: Table,
 }
 
-impl<'a> Listed<'a> {
-    /// Returns a list from its first attribute on.
-    pub fn new(form: Form, table: Table, judged: bool) -> Self
-        ensures { listing result ≡ whole form table judged }
-    {
-        Listed {
-            form,
-            table,
-            force: NO_KINDS,
-            judged,
-        }
-    }
+/// Returns a list of the attributes of a table from its first attribute on.
+pub fn whole<'a>(form: Form, rows: Table, judged: bool) -> Listed<'a, ListTable>
+    ensures { listing result ≡ whole form rows judged }
+{
+    Listed::new(ListTable { form, rows }, judged)
 }
 
 /// Returns the content of a payload.
@@ -140,15 +132,15 @@ fn table_row(table: Table, kind: u16) -> Option<(&'static str, Inside)>
 
 /// Returns the name of a kind without flag bits in a list, and the content of its payload.
 #[tactic(auto, unfolding(crate::specs::RefusalTables::row_in))]
-pub fn row_in(list: Listed<'_>, kind: u16) -> Option<(&'static str, Inside)>
+pub fn row_in(list: Listed<'_, ListTable>, kind: u16) -> Option<(&'static str, Inside)>
     ensures row { option_map (λ x. (x.0.now, x.1)) result
-        ≡ row_in list.entry.table (listing list.entry).context kind }
-    ensures lower { IfSome result (λ x. IsLower list.entry.table.0 x.1) }
+        ≡ row_in list.entry.table.rows (listing list.entry).context kind }
+    ensures lower { IfSome result (λ x. IsLower list.entry.table.rows.0 x.1) }
 {
-    if list.table.is_link_info() {
+    if list.table.rows.is_link_info() {
         info_row(list.force, kind)
     } else {
-        table_row(list.table, kind)
+        table_row(list.table.rows, kind)
     }
 }
 
@@ -164,15 +156,16 @@ pub fn is_kept(form: Form, kind: u16) -> bool
 
 /// Returns the rest of a list after an attribute, whose kind may have flag bits.
 #[tactic(auto, unfolding(crate::specs::RowRules::grammar_at))]
-pub fn next_list<'a>(list: Listed<'a>, kind: u16, payload: &'a [u8]) -> Listed<'a>
+pub fn next_list<'a>(
+    list: Listed<'a, ListTable>,
+    kind: u16,
+    payload: &'a [u8],
+) -> Listed<'a, ListTable>
     ensures { listing result
         ≡ following (listing list.entry) (record { kind = kind; payload = payload.now }) }
 {
-    if !is_kept(list.form, kind) || !list.table.is_link_info() {
+    if !is_kept(list.table.form, kind) || !list.table.rows.is_link_info() {
         return list;
     }
-    Listed {
-        force: next_force(list.force, kind % KIND_BOUND, payload),
-        ..list
-    }
+    list.after_info(kind % KIND_BOUND, payload)
 }

@@ -5,7 +5,8 @@ ghost use Rattle.link_tables.specs.Rows.{shape_of};
 ghost use Rattle.link_interpreter.specs.Sameness.{attribute_of};
 ghost use Rattle.attribute_tables_grammar.specs.Shapes.{accepts};
 ghost use Rattle.link_capture_refusals.specs.ReasonTexts.{shape_reason};
-ghost use Rattle.link_capture_refusals.specs.RefusalTables.{depth, inside_depth, listing};
+ghost use Rattle.link_capture_checks.specs.Listings.{listing};
+ghost use Rattle.link_capture_refusals.specs.RefusalTables.{depth, inside_depth};
 ghost use Rattle.link_capture_refusals.specs.RowRules.{inside_rule, peer_of};
 ghost use Rattle.link_capture_refusals.specs.Refusals.{attribute_refusal, found_at, list_rest, inside_refusal, link_refusal};
 ghost use Rattle.link_capture_refusals.specs.Refusals.{list_refusal, no_attribute, peer_refusal, whole_refusal};
@@ -16,8 +17,9 @@ use crate::laws::{
 };
 use crate::reason::{Reason, shape_reason};
 use crate::refusal::Refusal;
-use crate::tables::{Inside, Listed, is_kept, next_list, row_in};
+use crate::tables::{Inside, ListTable, is_kept, next_list, row_in, whole};
 use attribute_tables_grammar::laws::measures_determine_rules;
+use link_capture_checks::Listed;
 use link_interpreter::{Attribute, KIND_BOUND, PeerSet, first_attribute, measure_shape};
 use link_message_checks::{LinkPeer, has_empty_ports};
 use link_tables::{Form, LINK_HEADER_LEN, Shape, family_table};
@@ -63,7 +65,7 @@ pub(crate) fn link_refusal(
     if body.len() < LINK_HEADER_LEN {
         return Some(Refusal::at(attribute_offset, Reason::CutLink(body.len())));
     }
-    let list = Listed::new(Form::Any, family_table(body[0]), judged);
+    let list = whole(Form::Any, family_table(body[0]), judged);
     list_refusal(list, offset + 16, &body[LINK_HEADER_LEN..])
 }
 
@@ -92,17 +94,21 @@ fn peer_refusal(judged: bool, attribute_offset: u64, payload: &[u8]) -> Option<R
 
 /// Returns the refusal of a list in the attribute at `attribute_offset`.
 #[cycle(refusal)]
-fn whole_refusal(list: Listed<'_>, attribute_offset: u64, payload: &[u8]) -> Option<Refusal>
+fn whole_refusal(
+    list: Listed<'_, ListTable>,
+    attribute_offset: u64,
+    payload: &[u8],
+) -> Option<Refusal>
     requires near { attribute_offset + 4 + length payload.now < 2 ^ 63 }
     ensures found { all_found result
         ≡ whole_refusal list_refusal (listing list.entry) attribute_offset payload.now }
     ensures path_fits { IfSome result
-        (λ r. length r.path.items ≤ depth list.entry.judged list.entry.table.0) }
+        (λ r. length r.path.items ≤ depth list.entry.judged list.entry.table.rows.0) }
 {
     if !payload.is_empty() {
         return list_refusal(list, attribute_offset + 4, payload);
     }
-    match list.form {
+    match list.table.form {
         Form::NonEmpty | Form::Ports => Some(Refusal::at(attribute_offset, Reason::EmptyList)),
         Form::FirstOnly => Some(Refusal::at(attribute_offset + 4, Reason::CutHeader(0))),
         Form::Any | Form::OfKindOne => None,
@@ -127,7 +133,7 @@ fn inside_refusal(
         Inside::Refused(reason) => Some(Refusal::at(attribute_offset, reason)),
         Inside::Value(shape) => value_refusal(shape, attribute_offset, payload),
         Inside::List(form, table) => whole_refusal(
-            Listed::new(form, table, judged),
+            whole(form, table, judged),
             attribute_offset,
             payload,
         ),
@@ -137,15 +143,19 @@ fn inside_refusal(
 
 /// Returns the refusal of an attribute at `offset`.
 #[cycle(refusal)]
-fn attribute_refusal(list: Listed<'_>, offset: u64, attribute: Attribute<'_>) -> Option<Refusal>
+fn attribute_refusal(
+    list: Listed<'_, ListTable>,
+    offset: u64,
+    attribute: Attribute<'_>,
+) -> Option<Refusal>
     requires near { offset + 4 + length attribute.payload.now < 2 ^ 63 }
     ensures found { all_found result ≡ attribute_refusal list_refusal (listing list.entry) offset
         (attribute_of attribute.entry) }
     ensures path_fits { IfSome result
-        (λ r. length r.path.items ≤ depth list.entry.judged list.entry.table.0) }
+        (λ r. length r.path.items ≤ depth list.entry.judged list.entry.table.rows.0) }
 {
     rows_are_the_tables();
-    if !is_kept(list.form, attribute.kind) {
+    if !is_kept(list.table.form, attribute.kind) {
         return None;
     }
     let Some((name, inside)) = row_in(list, attribute.kind % KIND_BOUND) else {
@@ -169,11 +179,11 @@ fn list_rest(form: Form, after: &[u8]) -> &[u8]
 
 /// Returns the refusal of a list whose bytes begin at `offset`.
 #[cycle(refusal)]
-fn list_refusal(list: Listed<'_>, offset: u64, bytes: &[u8]) -> Option<Refusal>
+fn list_refusal(list: Listed<'_, ListTable>, offset: u64, bytes: &[u8]) -> Option<Refusal>
     requires near { offset + length bytes.now < 2 ^ 63 }
     ensures found { all_found result ≡ list_refusal (listing list.entry) offset bytes.now }
     ensures path_fits { IfSome result
-        (λ r. length r.path.items ≤ depth list.entry.judged list.entry.table.0) }
+        (λ r. length r.path.items ≤ depth list.entry.judged list.entry.table.rows.0) }
 {
     lists_unfold_by_attributes();
     let mut list = list;
@@ -189,7 +199,7 @@ fn list_refusal(list: Listed<'_>, offset: u64, bytes: &[u8]) -> Option<Refusal>
         }
         list = next_list(list, attribute.kind, attribute.payload);
         offset += nla_align(4 + attribute.payload.len()) as u64;
-        rest = list_rest(list.form, after);
+        rest = list_rest(list.table.form, after);
     }
     None
 }

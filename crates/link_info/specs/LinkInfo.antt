@@ -16,7 +16,7 @@ use Rattle.link_info_data.specs.PortData.{info_port_data_entry, info_port_data_f
 use Rattle.link_info_data.specs.Xstats.{xstats_bytes}
 use Rattle.link_info_data.specs.declared.info_data.InfoData.{InfoData}
 use Rattle.link_info_data.specs.declared.info_port.InfoPortData.{InfoPortData}
-use Rattle.link_info.specs.declared.infos.InForce.{InForce}
+use Rattle.link_info.specs.declared.infos.NamesInForce.{NamesInForce}
 use Rattle.link_info.specs.declared.infos.LinkInfo.{LinkInfo}
 use Rattle.link_info.specs.declared.infos.LinkInfo.TheVariants as Info
 
@@ -45,7 +45,7 @@ context_of kind port_kind =
     record { kind = option_map (λ b. b.now) kind; port_kind = option_map (λ b. b.now) port_kind }
 
 -- The context of the names that a reader of the list holds.
-abbrev pub in_force : InForce → Context
+abbrev pub in_force : NamesInForce → Context
 in_force f = context_of f.kind f.port_kind
 
 -- ---- the attribute at the start of the bytes, under a rule of peers and in a context

@@ -97,7 +97,7 @@ impl Nla for LinkInfo {
 
 /// The names of the kind and the port kind in force, borrowed from the list.
 #[derive(Clone, Copy)]
-struct InForce<'a> {
+struct NamesInForce<'a> {
     kind: Option<&'a str>,
     port_kind: Option<&'a str>,
 }
@@ -105,9 +105,9 @@ struct InForce<'a> {
 // The kinds in force after an attribute that was read. If this fails, the attribute is rejected
 // under every rule of peers.
 fn next_in_force<'a>(
-    force: InForce<'a>,
+    force: NamesInForce<'a>,
     buf: &NlaBuffer<&'a [u8]>,
-) -> Result<InForce<'a>, DecodeError>
+) -> Result<NamesInForce<'a>, DecodeError>
     requires { IsAttribute (storage buf.now).now }
     ensures next { IfOk result
         (λ f. in_force f ≡ context_after_first (in_force force.entry) (storage buf.now).now) }
@@ -116,15 +116,15 @@ fn next_in_force<'a>(
         → is_accepted_in p (in_force force.entry) (storage buf.now).now ≡ false) }
 {
     match buf.kind() {
-        IFLA_INFO_KIND => Ok(InForce {
+        IFLA_INFO_KIND => Ok(NamesInForce {
             kind: Some(parse_str(buf.value())?),
             port_kind: force.port_kind,
         }),
-        IFLA_INFO_SLAVE_KIND => Ok(InForce {
+        IFLA_INFO_SLAVE_KIND => Ok(NamesInForce {
             kind: force.kind,
             port_kind: Some(parse_str(buf.value())?),
         }),
-        IFLA_INFO_SLAVE_DATA => Ok(InForce {
+        IFLA_INFO_SLAVE_DATA => Ok(NamesInForce {
             kind: force.kind,
             port_kind: None,
         }),
@@ -165,7 +165,7 @@ impl LinkInfo {
     // Reads one attribute with these kinds in force, a peer by a rule.
     fn read<R: PeerRule>(
         alloc: Global,
-        force: InForce<'_>,
+        force: NamesInForce<'_>,
         buf: &NlaBuffer<&[u8]>,
         rule: &R,
     ) -> Result<LinkInfo, DecodeError>
@@ -226,7 +226,7 @@ impl LinkInfo {
         info_grammar_is_lawful();
         rule.rule_is_lawful();
         let mut list = Vec::new(alloc);
-        let mut force = InForce {
+        let mut force = NamesInForce {
             kind: None,
             port_kind: None,
         };

@@ -1,7 +1,7 @@
 -- All lines of a message are shown.
-use Rattle.std.proofs.Common.{◌≡◌, ℕ, Bool, true, false, cond, List, [], Option, None, Some, refl, sym, ap, ◌∙◌}
+use Rattle.std.proofs.Common.{◌≡◌, ℕ, false, cond, List, [], ap, ◌∙◌}
 use Rattle.link_lines.specs.MessageLaws.{NothingOmittedKeepsAll}
-use Rattle.link_lines.specs.Remaining.{nothing_omitted, remaining_lines}
+use Rattle.link_lines.specs.Remaining.{remaining_lines}
 use Rattle.link_lines.specs.MessageLines.{IsWhole, Selection, is_about_any, placed_lines, selected}
 
 pub all_selected : NothingOmittedKeepsAll → (o : Selection) → IsWhole o → (lines : List ℕ) → selected o lines ≡ lines
@@ -9,5 +9,5 @@ all_selected all o w lines =
     ap (λ link. cond (is_about_any link lines) (remaining_lines o.omitted lines) []) w.link
     ∙ ap (λ omitted. remaining_lines omitted lines) w.omitted ∙ all lines
 
-pub all_lines : NothingOmittedKeepsAll → (o : Selection) → IsWhole o → o.offsets ≡ false → (offset : ℕ) (lines : List ℕ) → placed_lines o offset lines ≡ lines
-all_lines all o w e offset lines = rw (e) (all_selected all o w lines)
+pub all_lines : NothingOmittedKeepsAll → (o : Selection) → IsWhole o → o.offsets ≡ false → o.json ≡ false → (offset : ℕ) (lines : List ℕ) → placed_lines o offset lines ≡ lines
+all_lines all o w e j offset lines = rw (e, j) (all_selected all o w lines)

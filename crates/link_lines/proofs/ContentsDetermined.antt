@@ -34,8 +34,8 @@ content (Faulty offset kind frame) = Frame frame
 content (Last offset kind frame) = Frame []
 
 lines_of : NothingOmittedKeepsAll → (m : Message) → message_lines all_messages m ≡ own_lines m
-lines_of all (Accepted offset text) = all_lines all all_messages (record { link = refl; omitted = refl }) refl offset (text_lines everything text)
-lines_of all (Faulty offset kind frame) = all_lines all all_messages (record { link = refl; omitted = refl }) refl offset (faulty_lines true kind frame)
+lines_of all (Accepted offset text) = all_lines all all_messages (record { link = refl; omitted = refl }) refl refl offset (text_lines everything text)
+lines_of all (Faulty offset kind frame) = all_lines all all_messages (record { link = refl; omitted = refl }) refl refl offset (faulty_lines true kind frame)
 lines_of all (Last offset kind frame) = refl
 
 first_content : (limit : ℕ) (m : Message) (more : List Message) → IsShown limit m → contents (m ∷ more) ≡ content m ∷ contents more

@@ -17,7 +17,7 @@ pub mod FaultyDetermined
 pub mod MessagesDetermined
 pub mod ContentsDetermined
 pub mod OffsetsDetermined
-pub mod FirstParts
 pub mod FirstLines
 pub mod QuotedWords
 pub mod Keeping
+pub mod Pieces

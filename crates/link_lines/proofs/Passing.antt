@@ -1,5 +1,5 @@
 -- Messages that were passed in a walk.
-use Rattle.std.proofs.Common.{◌≡◌, ℕ, ◌+◌, ◌-◌, ◌<◌, ◌≤◌, Bool, true, false, List, [], ◌∷◌, ◌++◌, length, drop, Option, None, Some, Err, refl, sym, ap, subst, ◌∙◌, arith, append_assoc, append-nil}
+use Rattle.std.proofs.Common.{◌≡◌, ℕ, ◌+◌, ◌<◌, Bool, true, false, List, [], ◌∷◌, ◌++◌, length, drop, Option, None, Some, refl, sym, ap, subst, ◌∙◌, arith, append_assoc, append-nil}
 use Rattle.std.proofs.lemmas.Grind.{flat_map-append}
 use Rattle.std.proofs.lemmas.List.{drop-append-le, drop-drop}
 use Rattle.netlink_packet_core_grammar.specs.Attributes.{nla_align}
@@ -8,7 +8,7 @@ use Rattle.link_capture_grammar.specs.declared.fault.FaultKind.TheVariants.{Cut,
 use Rattle.link_lines.specs.MessageLaws.{MessagesUnfold}
 use Rattle.link_lines.specs.MessageLines.{Selection, message_lines, messages_lines}
 use Rattle.link_lines.specs.Messages.{Message, Message.Accepted, Message.Faulty, Message.Last, Report, first_report, frame_of, frame_reason, is_of_body, last_fault, messages_at, report_of}
-use Rattle.link_lines.specs.Walks.{AreBetween, IsFirst, Passes, StopsThere, or_else}
+use Rattle.link_lines.specs.Walks.{IsFirst, Passes, StopsThere, or_else}
 
 -- ---- messages, one after the other
 

@@ -1,7 +1,7 @@
 -- The progress of showing a capture from a source to a sink.
-use Rattle.std.proofs.Common.{◌≡◌, ◌≢◌, ◌&&◌, eqb, ltb, ℕ, ◌+◌, ◌-◌, ◌^◌, ◌<◌, ◌≤◌, min, inl, inr, Bool, true, false, List, [], ◌∷◌, ◌++◌, length, take, drop, Option, None, Some, Result, Ok, Err, refl, sym, ap, subst, ◌∙◌, arith, length-append, append_assoc, append-nil}
-use Rattle.std.specs.Prelude.{◌⊎◌, nat_lt, option_map}
-use Rattle.std.proofs.lemmas.List.{drop_all, length-drop, length-take, take_all, take_at}
+use Rattle.std.proofs.Common.{◌≡◌, ◌≢◌, ◌&&◌, eqb, ltb, ℕ, ◌+◌, ◌-◌, ◌^◌, ◌<◌, ◌≤◌, min, inl, inr, Bool, false, List, [], ◌∷◌, ◌++◌, length, take, drop, Option, None, Some, Result, Ok, Err, refl, sym, ap, subst, ◌∙◌, arith, length-append, append-nil}
+use Rattle.std.specs.Prelude.{◌⊎◌, nat_lt}
+use Rattle.std.proofs.lemmas.List.{drop_all, length-drop, length-take, take_at}
 use Rattle.std.proofs.lemmas.Bool.{lt-ltb, ne_eqb}
 use Rattle.std.specs.Io.KnownBytes.{Appends, Consumes}
 use Rattle.std.proofs.KnownBytes.{Appends-nil, Appends-trans, Consumes-nil, Consumes-trans}
@@ -22,7 +22,7 @@ use Rattle.link_lines.specs.Outcomes.{IsReadThrough, Shown, ShownAt, ShowsPrefix
 use Rattle.link_lines.specs.Refused.{reported_refusal, without_refusal}
 use Rattle.link_lines.specs.Walks.{Ends, FinishedWith, Passes, StopsThere, or_else, report_in}
 use Rattle.link_lines.specs.declared.refused.ShowFault.{ShowFault}
-use Rattle.link_lines.proofs.Passing.{last_there, lines_more, lines_of_none, open_more, or_none, reports_more}
+use Rattle.link_lines.proofs.Passing.{last_there, lines_more, lines_of_none, open_more, reports_more}
 use Rattle.link_lines.proofs.Reaching.{AreCut, Concluded, Reaches, concluded, first_reported, nothing_reported, no_tail, open_tail, reached, reaches_piece, reaches_rest}
 
 -- The bytes s were read, and the lines of their messages are written. What isn't shown are the bytes `rest`, which begin

@@ -1,5 +1,5 @@
 -- The messages of the bytes that were read, and those that are still to be shown.
-use Rattle.std.proofs.Common.{◌≡◌, ℕ, ◌+◌, ◌-◌, ◌<◌, ◌≤◌, inl, inr, Bool, true, false, List, [], ◌∷◌, ◌++◌, length, drop, Option, None, Some, Err, refl, sym, ap, subst, ◌∙◌, arith, append_assoc, append-nil}
+use Rattle.std.proofs.Common.{◌≡◌, ℕ, ◌+◌, ◌-◌, ◌≤◌, inl, inr, Bool, List, [], ◌∷◌, ◌++◌, length, drop, Option, None, Some, Err, refl, sym, ap, subst, ◌∙◌, arith, append_assoc, append-nil}
 use Rattle.std.specs.Prelude.{◌⊎◌, option_map}
 use Rattle.std.proofs.lemmas.List.{drop-append-le, drop-drop, drop_all}
 use Rattle.link_capture_grammar.specs.Captures.{first_fault, first_frame}
@@ -8,10 +8,10 @@ use Rattle.link_capture_grammar.specs.declared.fault.FaultKind.TheVariants.{Cut}
 use Rattle.link_capture_reader.specs.Outcomes.{IsOpen}
 use Rattle.link_lines.specs.MessageLaws.{FirstFaultsAreReported, MessagesUnfold, reported}
 use Rattle.link_lines.specs.MessageLines.{Selection, messages_lines, shown}
-use Rattle.link_lines.specs.Messages.{Message, Report, first_report, frame_of, last_fault, messages, messages_at, report_of}
+use Rattle.link_lines.specs.Messages.{Message, Report, first_report, last_fault, messages, messages_at}
 use Rattle.link_lines.specs.Refused.{reported_refusal}
 use Rattle.link_lines.specs.Walks.{AreBetween, or_else}
-use Rattle.link_lines.proofs.Passing.{IsLast, last_there, lines_more, lines_of_none, open_more, reports_more}
+use Rattle.link_lines.proofs.Passing.{last_there, lines_more, lines_of_none, open_more, reports_more}
 
 -- Of the capture that begins with s, these are the messages up to the offset n of c, which begins at the offset `start`,
 -- whatever follows.

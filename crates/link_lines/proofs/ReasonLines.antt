@@ -125,7 +125,7 @@ empty_line FirstOnly offset = tt
 -- What holds for the lists inside holds for an attribute and for the list that has it.
 module _ (list : ListRefusal) (each : (l : Listing) (offset : ℕ) (bytes : List ℕ) → IsOnALine (list l offset bytes)) where
   whole_line : (l : Listing) (offset : ℕ) (p : List ℕ) → IsOnALine (whole_refusal list l offset p)
-  whole_line l offset [] = empty_line l.form offset
+  whole_line l offset [] = empty_line l.table.form offset
   whole_line l offset (b ∷ p) = each l (offset + 4) (b ∷ p)
 
   link_line : (judged : Bool) (attribute_offset offset : ℕ) (b : List ℕ) → IsOnALine (link_refusal list judged attribute_offset offset b)
@@ -145,15 +145,15 @@ module _ (list : ListRefusal) (each : (l : Listing) (offset : ℕ) (bytes : List
 
   attribute_line : (l : Listing) (offset : ℕ) (e : Attribute) → IsOnALine (attribute_refusal list l offset e)
   attribute_line l offset e =
-      let row = row_in l.table l.context (proper_kind e.kind) in
+      let row = row_in l.table.rows l.context (proper_kind e.kind) in
       cond_both (is_accepted l e) None (row_refusal list l.judged row offset e.payload) IsOnALine
-      (λ a. tt) (λ a. row_line l.judged row offset e.payload (row_name l.table l.context (proper_kind e.kind)))
+      (λ a. tt) (λ a. row_line l.judged row offset e.payload (row_name l.table.rows l.context (proper_kind e.kind)))
 
   next_line : (l : Listing) (offset : ℕ) (bytes : List ℕ) (o : Option (Attribute × List ℕ)) → IsOnALine (next_refusal list l offset bytes o)
   next_line l offset bytes None = tt
   next_line l offset bytes (Some x) =
       first_line (attribute_refusal list l offset x.0) _ (attribute_line l offset x.0)
-      (each (following l x.0) (offset + nla_align (attribute_length x.0)) (list_rest l.form x.1))
+      (each (following l x.0) (offset + nla_align (attribute_length x.0)) (list_rest l.table.form x.1))
 
 within_line : (n : ℕ) (l : Listing) (offset : ℕ) (bytes : List ℕ) → IsOnALine (refusal_within n l offset bytes)
 unfolding refusal_within

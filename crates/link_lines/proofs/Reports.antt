@@ -1,13 +1,12 @@
 -- The report of the first fault.
-use Rattle.std.proofs.Common.{◌≡◌, ℕ, zero, suc, ◌+◌, ◌-◌, Bool, true, false, cond, List, [], ◌∷◌, drop, Option, Some, None, Ok, Err, refl, sym, ap, ◌∙◌, arith}
+use Rattle.std.proofs.Common.{◌≡◌, ℕ, zero, suc, ◌+◌, ◌-◌, Bool, true, false, List, [], ◌∷◌, drop, Option, Some, None, Ok, Err, refl, ap, ◌∙◌, arith}
 use Rattle.std.specs.Prelude.{option_map}
 use Rattle.netlink_packet_core_grammar.specs.Attributes.{nla_align}
-use Rattle.netlink_packet_core_grammar.specs.Frames.{frame_length}
 use Rattle.link_capture_grammar.specs.Captures.{Judged, fault_after, fault_after_under, first_frame, first_fault, next_fault, shifted}
 use Rattle.link_capture_grammar.specs.declared.fault.CaptureFault.{CaptureFault}
 use Rattle.link_capture_grammar.specs.declared.fault.FaultKind.{FaultKind}
 use Rattle.link_capture_grammar.specs.declared.fault.FaultKind.TheVariants.{Cut, ShortLength, OverLimit, Refused, EmptyPorts, Unfit, TextOverLimit, Memory, Read, Write, TooLong, Failed}
-use Rattle.link_lines.specs.Messages.{Message, Message.Faulty, Message.Last, Report, first_report, frame_of, frame_reason, messages_after, messages_at, next_messages, report_of}
+use Rattle.link_lines.specs.Messages.{Message, Report, first_report, frame_of, messages_after, messages_at, next_messages, report_of}
 use Rattle.link_lines.specs.MessageLaws.{FirstFaultsAreReported, reported}
 
 -- The report of a fault in bytes at an offset, by the fault's offset in them.

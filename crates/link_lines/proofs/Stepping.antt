@@ -1,6 +1,6 @@
 -- The first message of some bytes, whatever follows them.
-use Rattle.std.proofs.Common.{◌≡◌, ℕ, ◌+◌, ◌-◌, ◌≤◌, ◌<◌, Bool, true, false, List, [], ◌∷◌, ◌++◌, length, take, drop, Option, None, Some, Ok, Err, refl, sym, ap, subst, ◌∙◌, arith, length-append}
-use Rattle.std.proofs.lemmas.List.{take-append-le, take_rest}
+use Rattle.std.proofs.Common.{◌≡◌, ℕ, ◌+◌, ◌≤◌, ◌<◌, true, false, List, [], ◌∷◌, ◌++◌, length, take, drop, Option, Some, Err, refl, sym, ap, subst, ◌∙◌, arith, length-append}
+use Rattle.std.proofs.lemmas.List.{take-append-le}
 use Rattle.netlink_packet_core_grammar.proofs.Numbers.{u32_at-append}
 use Rattle.netlink_packet_core_grammar.specs.Attributes.{nla_align}
 use Rattle.netlink_packet_core_grammar.specs.Frames.{IsFrame, frame_length}
@@ -11,12 +11,15 @@ use Rattle.link_capture_grammar.specs.declared.fault.FaultKind.{FaultKind}
 use Rattle.link_capture_grammar.specs.declared.fault.FaultKind.TheVariants.{Cut}
 use Rattle.link_lines.specs.MessageLaws.{MessagesUnfold}
 use Rattle.link_lines.specs.MessageLines.{Selection, message_lines}
-use Rattle.link_lines.specs.Messages.{Message, Message.Accepted, Message.Faulty, Report, frame_of, is_of_body, messages_at, report_of}
-use Rattle.link_lines.specs.Walks.{IsFirst, IsJudged, Passes, Steps, StopsThere, or_else}
+use Rattle.link_lines.specs.Messages.{Message.Accepted, Message.Faulty, Report, frame_of, is_of_body, messages_at, report_of}
+use Rattle.link_lines.specs.Pieces.{IsShownAs}
+use Rattle.link_lines.specs.Walks.{IsJudged, Passes, Steps, or_else}
 use Rattle.link_lines.specs.declared.messages.Judgement.{Judgement}
 use Rattle.link_lines.specs.declared.messages.Judgement.TheVariants as J
+use Rattle.link_lines.specs.declared.messages.ShownMessage.{ShownMessage}
+use Rattle.link_lines.specs.declared.messages.ShownMessage.TheVariants as Outcome
 use Rattle.link_lines.specs.declared.messages.Step.{Step}
-use Rattle.link_lines.specs.declared.messages.Step.TheVariants.{Next, Stop}
+use Rattle.link_lines.specs.declared.messages.Step.TheVariants.{Next}
 use Rattle.link_lines.proofs.Passing.{or_none, passes_next}
 
 -- The judgement is this one.
@@ -67,6 +70,18 @@ is_faulty frames go o limit offset c text old new before now kind n e goes lines
       report,
       refl,
     )
+
+-- ---- the message that was shown
+
+-- The outcome is this one.
+pub shown_as : (o : Selection) (limit offset : ℕ) (c old new : List ℕ) (r q : ShownMessage) → r ≡ q → IsShownAs o limit offset c old new r → IsShownAs o limit offset c old new q
+shown_as o limit offset c old new r q e h = subst (IsShownAs o limit offset c old new) e h
+
+pub accepted_step : FramesAreIndependent link_body → MessagesUnfold → (o : Selection) (limit offset : ℕ) (c old new : List ℕ) (before : Option Report) (n : ℕ) → IsShownAs o limit offset c old new (Outcome.Accepted n) → Steps o limit offset c old new before before (Next n)
+accepted_step frames go o limit offset c old new before n shown = is_accepted frames go o limit offset c shown.0 old new before before n shown.1 shown.2 refl
+
+pub faulty_step : FramesAreIndependent link_body → MessagesUnfold → (o : Selection) (limit offset : ℕ) (c old new : List ℕ) (before now : Option Report) (kind : FaultKind) (n : ℕ) → IsShownAs o limit offset c old new (Outcome.Faulty kind n) → now ≡ or_else before (Some (report_of offset kind (frame_of c))) → Steps o limit offset c old new before now (Next n)
+faulty_step frames go o limit offset c old new before now kind n shown report = is_faulty frames go o limit offset c [] old new before now kind n (shown.1, shown.2, shown.3, shown.4) shown.0 shown.5 report
 
 -- One more message of some bytes is shown.
 pub step_passes : (o : Selection) (limit start : ℕ) (c part : List ℕ) (from len at : ℕ) (old mid new : List ℕ) (before between now : Option Report) (step : Step) (n : ℕ) → Passes o limit start c from len old mid before between → len < length c → part ≡ drop len c → at ≡ start + len → step ≡ Next n → Steps o limit at part mid new between now step →

@@ -1,12 +1,12 @@
 -- The messages of a capture, one after the other.
-use Rattle.std.proofs.Common.{◌≡◌, ℕ, zero, suc, ◌+◌, ◌-◌, ◌<◌, ◌≤◌, Bool, true, false, cond, List, [], ◌∷◌, ◌++◌, length, take, drop, Ok, Err, refl, sym, ap, subst, ◌∙◌, arith}
+use Rattle.std.proofs.Common.{◌≡◌, ℕ, zero, suc, ◌+◌, ◌-◌, ◌<◌, Bool, true, false, cond, List, [], ◌∷◌, drop, Ok, Err, refl, ap, ◌∙◌, arith}
 use Rattle.netlink_packet_core_grammar.specs.Attributes.{nla_align}
 use Rattle.netlink_packet_core_grammar.specs.Frames.{IsFrame, frame_length}
 use Rattle.link_message_grammar.specs.Body.{link_body}
 use Rattle.link_capture_grammar.specs.Captures.{Judged, first_frame}
 use Rattle.link_capture_grammar.specs.Laws.{FramesAreIndependent}
 use Rattle.link_capture_grammar.specs.declared.fault.FaultKind.{FaultKind}
-use Rattle.link_lines.specs.Messages.{Message, Message.Accepted, Message.Faulty, Message.Last, frame_of, is_of_body, messages_after, messages_at, next_messages}
+use Rattle.link_lines.specs.Messages.{Message.Accepted, Message.Faulty, Message.Last, frame_of, is_of_body, messages_after, messages_at, next_messages}
 use Rattle.link_lines.specs.MessageLaws.{MessagesUnfold}
 
 -- Bytes that are skipped count for offsets.

@@ -1,4 +1,5 @@
-pub mod Lines
+pub use Rattle.link_lines_json.specs.Lines
+pub use Rattle.link_lines_json.specs.Json
 pub mod Names
 pub mod Remaining
 pub mod About
@@ -10,6 +11,7 @@ pub mod Refused
 pub mod Outcomes
 pub mod MessageLaws
 pub mod Walks
+pub mod Pieces
 pub mod Meanings
 pub mod Words
 pub mod Types

@@ -44,7 +44,7 @@ NothingOmittedKeepsAll = (text : List ℕ) → remaining_lines nothing_omitted t
 -- The selection that shows all lines of a capture up to its first fault.
 abbrev pub plain : Choice → Selection
 plain choice =
-    record { choice = choice; link = None; omitted = nothing_omitted; offsets = false; keep_going = false }
+    record { choice = choice; link = None; omitted = nothing_omitted; offsets = false; keep_going = false; json = false }
 
 -- A capture of which all is shown up to its first fault has the lines of its texts.
 abbrev pub LinesOfMessagesAreOfTexts : Type 0
@@ -54,7 +54,7 @@ LinesOfMessagesAreOfTexts = (choice : Choice) (limit : ℕ) (c : List ℕ) → l
 -- The selection that shows all of each message, also of one with a fault of its body.
 abbrev pub all_messages : Selection
 all_messages =
-    record { choice = everything; link = None; omitted = nothing_omitted; offsets = false; keep_going = true }
+    record { choice = everything; link = None; omitted = nothing_omitted; offsets = false; keep_going = true; json = false }
 
 -- The content of a message: the normal text of an accepted one, or the bytes of one with a fault of its body.
 pub data Content : Type 0 where
@@ -79,7 +79,7 @@ LinesDetermineContents = (limit : ℕ) (c d : List ℕ) → limit < 2 ^ 32 → A
 -- The selection that also shows each message's offset.
 abbrev pub all_messages_with_offsets : Selection
 all_messages_with_offsets =
-    record { choice = everything; link = None; omitted = nothing_omitted; offsets = true; keep_going = true }
+    record { choice = everything; link = None; omitted = nothing_omitted; offsets = true; keep_going = true; json = false }
 
 -- The contents of messages in order, each with the message's offset. One at which showing stops has none.
 abbrev pub placed_contents : List Message → List (ℕ × Content)

@@ -11,19 +11,21 @@ use Rattle.link_capture_refusals.specs.RefusalTexts.{path_text}
 use Rattle.link_lines.specs.About.{is_about}
 use Rattle.link_lines.specs.Offsets.{with_offset}
 use Rattle.link_lines.specs.Remaining.{Omitted, nothing_omitted, remaining_lines}
+use Rattle.link_lines_json.specs.Json.{json}
 use Rattle.link_lines_texts.specs.Captures.{Choice, is_chosen, text_lines}
 use Rattle.link_lines_texts.specs.Frames.{bytes_line, frame_lines}
 use Rattle.link_lines.specs.Messages.{Message, Message.Accepted, Message.Faulty, Message.Last, messages}
 
 -- What is shown of a capture: which types, and whether numbers; the link that messages have to be about, if one is
--- given; what is left out of lines; whether each message's offset is shown; and whether messages with a fault of their
--- body are shown too, and those after them.
+-- given; what is left out of lines; whether each message's offset is shown; whether messages with a fault of their
+-- body are shown too, and those after them; and whether a message's lines become an object of JSON.
 pub record Selection : Type 0 where
   pub choice : Choice
   pub link : Option (List ℕ)
   pub omitted : Omitted
   pub offsets : Bool
   pub keep_going : Bool
+  pub json : Bool
 
 -- Whether a message's lines are about a link, if one is given.
 abbrev pub is_about_any : Option (List ℕ) → List ℕ → Bool
@@ -64,9 +66,14 @@ located false offset lines = lines
 located true offset [] = []
 located true offset (b ∷ lines) = with_offset offset (b ∷ lines)
 
+-- Lines, or the object of JSON that they become.
+abbrev pub formed : Bool → List ℕ → List ℕ
+formed false lines = lines
+formed true lines = json lines
+
 -- What is shown of the lines of a message at an offset.
 abbrev pub placed_lines : Selection → ℕ → List ℕ → List ℕ
-placed_lines o offset lines = located o.offsets offset (selected o lines)
+placed_lines o offset lines = formed o.json (located o.offsets offset (selected o lines))
 
 -- The lines of a message. One at which showing stops has none.
 abbrev pub message_lines : Selection → Message → List ℕ

@@ -1,11 +1,6 @@
 -- Names at the start of lines.
-use Rattle.std.specs.Prelude.{ℕ, Bool, List, bytes_eq, map}
-use Rattle.std.specs.List.{list_any}
+use Rattle.std.specs.Prelude.{ℕ, List, map}
 use Rattle.link_lines.specs.declared.names.TheConstants.{COUNTERS, HEADERS, INDEXES}
-
--- Whether a name is one of these.
-abbrev pub is_among : List (List ℕ) → List ℕ → Bool
-is_among names name = list_any (λ other. bytes_eq other name) names
 
 -- The attributes that count.
 unfoldable pub counter_names : List (List ℕ)

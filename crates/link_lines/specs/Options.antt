@@ -22,4 +22,5 @@ selection_of o = record {
   omitted = omitted_of o.omission;
   offsets = o.offsets;
   keep_going = o.keep_going;
+  json = o.json;
 }

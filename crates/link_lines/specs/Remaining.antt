@@ -2,8 +2,9 @@
 use Rattle.std.specs.Prelude.{ℕ, ◌&&◌, ◌||◌, nat_lt, Bool, false, cond, bytes_eq, codes, List, [], ◌∷◌, ◌++◌, map}
 use Rattle.std.specs.Prelude.{Option, Some, None}
 use Rattle.link_lines.specs.declared.remaining.Omission.{Omission}
-use Rattle.link_lines.specs.Lines.{first_word, level, lines_of, words_of}
-use Rattle.link_lines.specs.Names.{counter_names, header_names, index_names, is_among}
+use Rattle.link_lines_json.specs.Lines.{first_word, level, lines_of, words_of}
+use Rattle.link_lines_json.specs.Names.{is_among}
+use Rattle.link_lines.specs.Names.{counter_names, header_names, index_names}
 
 -- What is left out: attributes with these names, those that count, and indexes of links with numbers of namespaces.
 pub record Omitted : Type 0 where

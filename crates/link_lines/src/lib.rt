@@ -2,7 +2,6 @@
 #![tactic(auto)]
 
 mod about;
-mod cuts;
 mod engine;
 mod faulty;
 mod lines;
@@ -29,7 +28,9 @@ pub use link_capture_reader::{
     WriteSink, normalize_bytes, read_all, write_all,
 };
 pub use link_capture_refusals::{Reason, Refusal};
+pub use link_lines_json::push_json;
 pub use link_lines_texts::laws;
+pub use messages::{Buffers, ShownMessage, push_selected_message};
 pub use names::{COUNTERS, INDEXES};
 pub use offsets::push_with_offset;
 pub use options::{LineOptions, ShowOptions};

@@ -2,6 +2,7 @@
 
 ghost use Rattle.link_lines.specs.MessageLaws.{FirstFaultsAreReported, LinesDetermineContents, LinesDetermineOffsets};
 ghost use Rattle.link_lines.specs.MessageLaws.{LinesOfMessagesAreOfTexts, MessagesUnfold, NothingOmittedKeepsAll};
+ghost use Rattle.link_lines.specs.Pieces.{PiecesAreJoined};
 
 use link_capture_grammar::laws::{captures_unfold_by_frames, frames_are_independent};
 use link_lines_texts::laws::{
@@ -13,6 +14,15 @@ use link_lines_texts::laws::{
 pub fn messages_unfold()
     ensures { MessagesUnfold }
 {
+    frames_are_independent();
+}
+
+/// The messages of a capture in pieces, and their lines, are those of the whole.
+#[tactic(auto, using(crate::proofs::Pieces::pieces_are_joined))]
+pub fn pieces_are_joined()
+    ensures { PiecesAreJoined }
+{
+    messages_unfold();
     frames_are_independent();
 }
 

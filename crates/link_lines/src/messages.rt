@@ -6,6 +6,7 @@ ghost use Rattle.link_lines.specs.MessageLines.{located, message_lines, placed_l
 ghost use Rattle.link_lines.specs.Messages.{Message.Accepted, Message.Faulty, frame_of, report_of};
 ghost use Rattle.link_lines.specs.Options.{selection_of};
 ghost use Rattle.link_lines.specs.Outcomes.{IsAccepted, IsToBeShown};
+ghost use Rattle.link_lines.specs.Pieces.{IsShownAs};
 ghost use Rattle.link_lines.specs.Walks.{ComesTo, Ends, IsJudged, Passes, Steps, or_else, report_in};
 
 use crate::faulty::{fault_of, frame_of, is_of_body, push_faulty};
@@ -18,6 +19,7 @@ use crate::remaining::push_remaining;
 use link_capture_checks::{frame_len, push_frame as push_text};
 use link_capture_grammar::fault::FaultKind;
 use link_capture_grammar::laws::{frames_are_independent, frames_are_judged};
+use link_lines_json::push_json;
 use netlink_packet_core::{NetlinkBuffer, nla_align};
 use std::alloc::{AllocError, Global};
 
@@ -30,6 +32,17 @@ pub(crate) enum Judgement {
     Faulty(FaultKind, usize),
     /// Its header has a fault, or it is cut.
     Invalid(FaultKind),
+}
+
+/// The result for the first message of some bytes that are shown.
+#[derive(Clone, Copy, Drop)]
+pub enum ShownMessage {
+    /// It is accepted, has that length in bytes without its padding, and is shown.
+    Accepted(usize),
+    /// Its body has the fault, it has that length, and it is shown.
+    Faulty(FaultKind, usize),
+    /// Showing stops at it, because of the fault.
+    Stopped(FaultKind),
 }
 
 /// What follows the judgement of a message.
@@ -52,13 +65,15 @@ pub(crate) struct Walked {
 
 /// Buffers that are used message by message.
 #[derive(Drop)]
-pub(crate) struct Buffers {
+pub struct Buffers {
     /// The normal text of a message.
-    pub text: Vec<u8>,
+    pub(crate) text: Vec<u8>,
     /// The lines of a message.
-    pub lines: Vec<u8>,
+    pub(crate) lines: Vec<u8>,
     /// What is shown of the lines.
-    pub selected: Vec<u8>,
+    pub(crate) selected: Vec<u8>,
+    /// The same with the offset, before it becomes JSON.
+    pub(crate) located: Vec<u8>,
 }
 
 impl Buffers {
@@ -68,6 +83,7 @@ impl Buffers {
             text: Vec::new(alloc),
             lines: Vec::new(alloc),
             selected: Vec::new(alloc),
+            located: Vec::new(alloc),
         }
     }
 }
@@ -130,6 +146,7 @@ fn push_placed(
     offset: u64,
     lines: &[u8],
     selected: &mut Vec<u8>,
+    located: &mut Vec<u8>,
     out: &mut Vec<u8>,
 ) -> Result<(), AllocError>
     ensures ok { OnOk result (out.new.items ≡ out.old.items
@@ -139,7 +156,12 @@ fn push_placed(
     if options.is_about_link(lines) {
         push_remaining(lines, options.omission, selected)?;
     }
-    push_located(options.offsets, offset, selected.as_slice(), out)
+    if !options.json {
+        return push_located(options.offsets, offset, selected.as_slice(), out);
+    }
+    located.clear();
+    push_located(options.offsets, offset, selected.as_slice(), located)?;
+    push_json(located.as_slice(), out)
 }
 
 /// Appends the lines of an accepted message, whose normal text is in the buffers.
@@ -158,13 +180,14 @@ fn push_accepted(
         text,
         lines,
         selected,
+        located,
     } = buffers;
-    if options.selects_all() && !options.offsets {
+    if options.selects_all() && !options.offsets && !options.json {
         return push_lines(text.as_slice(), options.lines, out);
     }
     lines.clear();
     push_lines(text.as_slice(), options.lines, lines)?;
-    push_placed(options, offset, lines.as_slice(), selected, out)
+    push_placed(options, offset, lines.as_slice(), selected, located, out)
 }
 
 /// Appends the lines of a message with a fault of its body, if its type is shown.
@@ -183,6 +206,7 @@ fn push_refused(
     let Buffers {
         lines,
         selected,
+        located,
         ..
     } = buffers;
     lines.clear();
@@ -192,7 +216,7 @@ fn push_refused(
     {
         push_faulty(!options.lines.without_numbers, kind, frame, lines)?;
     }
-    push_placed(options, offset, lines.as_slice(), selected, out)
+    push_placed(options, offset, lines.as_slice(), selected, located, out)
 }
 
 /// Keeps the fault of the first message of `bytes`, if none was kept before.
@@ -203,6 +227,38 @@ fn keep_fault(found: &mut Option<ShowFault>, kind: FaultKind, offset: u64, bytes
 {
     if found.is_none() {
         *found = Some(fault_of(kind, offset, bytes));
+    }
+}
+
+/// Appends the lines that the options select of the first message of `bytes`, which is at an offset
+/// of a capture. Returns its length, or the fault at which showing stops.
+///
+/// # Errors
+///
+/// `AllocError` if an allocation for the message fails; `out` may have a part of its lines.
+pub fn push_selected_message(
+    bytes: &[u8],
+    offset: u64,
+    limit: u32,
+    options: ShowOptions<'_>,
+    buffers: &mut Buffers,
+    out: &mut Vec<u8>,
+) -> Result<ShownMessage, AllocError>
+    ensures ok { IfOk result (λ outcome. IsShownAs (selection_of options.entry) limit offset bytes.now
+        out.old.items out.new.items outcome) }
+    // An allocation fails only for a message that is shown.
+    ensures memory { OnErr result (IsToBeShown options.entry.keep_going limit bytes.now) }
+{
+    match judge(bytes, limit, &mut buffers.text)? {
+        Judgement::Accepted(len) => {
+            push_accepted(options, offset, buffers, out)?;
+            Ok(ShownMessage::Accepted(len))
+        }
+        Judgement::Faulty(kind, len) if options.keep_going => {
+            push_refused(options, offset, kind, frame_of(bytes), buffers, out)?;
+            Ok(ShownMessage::Faulty(kind, len))
+        }
+        Judgement::Faulty(kind, _) | Judgement::Invalid(kind) => Ok(ShownMessage::Stopped(kind)),
     }
 }
 
@@ -223,17 +279,13 @@ fn push_message(
 {
     messages_unfold();
     frames_are_independent();
-    match judge(bytes, limit, &mut buffers.text)? {
-        Judgement::Accepted(len) => {
-            push_accepted(options, offset, buffers, out)?;
-            Ok(Step::Next(len))
-        }
-        Judgement::Faulty(kind, len) if options.keep_going => {
+    match push_selected_message(bytes, offset, limit, options, buffers, out)? {
+        ShownMessage::Accepted(len) => Ok(Step::Next(len)),
+        ShownMessage::Faulty(kind, len) => {
             keep_fault(found, kind, offset, bytes);
-            push_refused(options, offset, kind, frame_of(bytes), buffers, out)?;
             Ok(Step::Next(len))
         }
-        Judgement::Faulty(kind, _) | Judgement::Invalid(kind) => Ok(Step::Stop(kind)),
+        ShownMessage::Stopped(kind) => Ok(Step::Stop(kind)),
     }
 }
 

@@ -1,7 +1,10 @@
 //! Names at the start of lines: of attributes that are left out together, and of headers.
 
-ghost use Rattle.std.specs.Prelude.{◌≡◌, map};
-ghost use Rattle.link_lines.specs.Names.{counter_names, header_names, index_names, is_among};
+ghost use Rattle.std.specs.Prelude.{◌≡◌};
+ghost use Rattle.link_lines_json.specs.Names.{is_among};
+ghost use Rattle.link_lines.specs.Names.{counter_names, header_names, index_names};
+
+use link_lines_json::is_among;
 
 /// The attributes that count: statistics, ages, timers, sequence numbers.
 pub const COUNTERS: &[&[u8]] = &[
@@ -136,18 +139,6 @@ const HEADERS: &[&[u8]] = &[
     b"timestamp",
     b"tunnel_msg",
 ];
-
-/// Returns whether a name is one of these.
-pub(crate) fn is_among(names: &[&[u8]], name: &[u8]) -> bool
-    ensures { result ≡ is_among (map (λ n. n.now) names.now) name.now }
-{
-    for other in names {
-        if *other == name {
-            return true;
-        }
-    }
-    false
-}
 
 /// Returns whether an attribute with this name counts.
 #[tactic(auto, unfolding(crate::specs::Names::counter_names))]

@@ -33,6 +33,8 @@ pub struct ShowOptions<'a> {
     pub offsets: bool,
     /// Whether messages with a fault of their body are shown too, and those after them.
     pub keep_going: bool,
+    /// Whether each message's lines become an object of JSON in a line of its own.
+    pub json: bool,
 }
 
 impl<'a> From<LineOptions<'a>> for ShowOptions<'a> {
@@ -49,6 +51,7 @@ impl<'a> From<LineOptions<'a>> for ShowOptions<'a> {
             },
             offsets: false,
             keep_going: false,
+            json: false,
         }
     }
 }

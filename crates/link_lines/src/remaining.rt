@@ -1,13 +1,13 @@
 //! The lines of a message without some attributes and indexes.
 
 ghost use Rattle.std.specs.Prelude.{◌≡◌, ◌++◌, ◌↔◌, false, IsTrue, OnOk};
-ghost use Rattle.link_lines.specs.Lines.{words_of};
+ghost use Rattle.link_lines_json.specs.Lines.{words_of};
 ghost use Rattle.link_lines.specs.Remaining.{is_header, is_index_field, is_omitted, is_omitted_name, line_text};
 ghost use Rattle.link_lines.specs.Remaining.{nothing_omitted, omitted_level, omitted_of, remaining_line};
 ghost use Rattle.link_lines.specs.Remaining.{remaining_lines, without_index_fields};
 
-use crate::cuts::{first_word, level, split_line, split_word};
-use crate::names::{is_among, is_counter, is_header_word, is_index};
+use crate::names::{is_counter, is_header_word, is_index};
+use link_lines_json::{first_word, is_among, level, split_line, split_word};
 use std::alloc::AllocError;
 
 /// What is left out of a message's lines.

@@ -62,27 +62,36 @@ pub(crate) fn raw_rows(table: RawTable) -> &'static [RawRow]
     }
 }
 
+// What attributes hold in tables in which each kind is an index.
+const IPV4_ADDRESS: &Raw = &RawBy::Value(ExactBy::Sized(4, ShownBy::Address));
+
+const IPV6_ADDRESS: &Raw = &RawBy::Value(ExactBy::Sized(16, ShownBy::Address));
+
+const ONE_ACTION: &Raw = &RawBy::List(ACTION);
+
 /// Returns what an attribute holds in a table in which each kind is an index.
-fn indexed_row(table: RawTable) -> Option<Raw>
-    ensures { option_map (raw_of (λ b. b.now) (λ t. t.now) (λ r. r.now)) result ≡ indexed_row table }
+fn indexed_row(table: RawTable) -> Option<&'static Raw>
+    ensures { option_map (λ raw. raw_of (λ b. b.now) (λ t. t.now) (λ r. r.now) raw.now) result
+        ≡ indexed_row table }
 {
     const IPV4: u8 = INDEXED_IPV4.0;
     const IPV6: u8 = INDEXED_IPV6.0;
     const ACTIONS: u8 = INDEXED_ACTION.0;
     match table.0 {
-        IPV4 => Some(RawBy::Value(ExactBy::Sized(4, ShownBy::Address))),
-        IPV6 => Some(RawBy::Value(ExactBy::Sized(16, ShownBy::Address))),
-        ACTIONS => Some(RawBy::List(ACTION)),
+        IPV4 => Some(IPV4_ADDRESS),
+        IPV6 => Some(IPV6_ADDRESS),
+        ACTIONS => Some(ONE_ACTION),
         _ => None,
     }
 }
 
 /// The row of a kind: its name, or none if the kind is an index; and what the payload holds.
-type FoundRow = (Option<&'static [u8]>, Raw);
+type FoundRow = (Option<&'static [u8]>, &'static Raw);
 
 /// Returns the name of a kind without flag bits in a table, and what its payload holds.
-fn listed_row(table: RawTable, kind: u16) -> Option<RawName>
-    ensures { option_map (named_of (λ b. b.now) (raw_of (λ b. b.now) (λ t. t.now) (λ r. r.now))) result
+fn listed_row(table: RawTable, kind: u16) -> Option<&'static RawName>
+    ensures { option_map
+        (λ row. named_of (λ b. b.now) (raw_of (λ b. b.now) (λ t. t.now) (λ r. r.now)) row.now) result
         ≡ find kind (raw_rows_of table.0) }
 {
     look_up(raw_rows(table), kind)
@@ -91,11 +100,12 @@ fn listed_row(table: RawTable, kind: u16) -> Option<RawName>
 /// Returns the row of a kind without flag bits.
 #[tactic(auto, unfolding(crate::specs::Attributes::proper_row))]
 fn proper_row(table: RawTable, kind: u16) -> Option<FoundRow>
-    ensures { option_map (found_row (λ b. b.now) (raw_of (λ b. b.now) (λ t. t.now) (λ r. r.now)) kind) result
+    ensures { option_map (found_row (λ b. b.now)
+        (λ raw. raw_of (λ b. b.now) (λ t. t.now) (λ r. r.now) raw.now) kind) result
         ≡ proper_row table kind }
 {
     if let Some((name, raw)) = listed_row(table, kind) {
-        return Some((Some(name), raw));
+        return Some((Some(*name), raw));
     }
     match indexed_row(table) {
         Some(raw) => Some((None, raw)),
@@ -106,7 +116,8 @@ fn proper_row(table: RawTable, kind: u16) -> Option<FoundRow>
 /// Returns the row of a kind; none if it has the bit NLA_F_NET_BYTEORDER.
 #[tactic(auto, unfolding(crate::specs::Attributes::raw_row))]
 fn raw_row(table: RawTable, kind: u16) -> Option<FoundRow>
-    ensures { option_map (found_row (λ b. b.now) (raw_of (λ b. b.now) (λ t. t.now) (λ r. r.now)) (kind % 0x4000)) result
+    ensures { option_map (found_row (λ b. b.now)
+        (λ raw. raw_of (λ b. b.now) (λ t. t.now) (λ r. r.now) raw.now) (kind % 0x4000)) result
         ≡ raw_row table kind }
 {
     if has_byte_order_bit(kind) {
@@ -116,14 +127,14 @@ fn raw_row(table: RawTable, kind: u16) -> Option<FoundRow>
 }
 
 /// Returns whether a payload of a list, next hops or records is exactly that.
-fn holds_lines(raw: Raw, list: &[u8], payload: &[u8]) -> bool
+fn holds_lines(raw: &Raw, list: &[u8], payload: &[u8]) -> bool
     ensures { result
-        ≡ holds_lines (raw_of (λ b. b.now) (λ t. t.now) (λ r. r.now) raw.entry) list.now payload.now }
+        ≡ holds_lines (raw_of (λ b. b.now) (λ t. t.now) (λ r. r.now) raw.now) list.now payload.now }
 {
     match raw {
         RawBy::Value(_) => false,
         RawBy::List(_) => is_whole(payload),
-        RawBy::Encapsulation(kind) => encapsulation(kind, list).is_some() && is_whole(payload),
+        RawBy::Encapsulation(kind) => encapsulation(*kind, list).is_some() && is_whole(payload),
         RawBy::Head(line, _) => starts_with_record(line, payload),
         RawBy::Hops(_) => are_next_hops(payload),
         RawBy::Records(line) => are_records(line.1, payload),
@@ -131,9 +142,9 @@ fn holds_lines(raw: Raw, list: &[u8], payload: &[u8]) -> bool
 }
 
 /// Returns whether bytes are a record, followed by a whole list.
-fn starts_with_record(line: RecordLine, bytes: &[u8]) -> bool
+fn starts_with_record(line: &RecordLine, bytes: &[u8]) -> bool
     ensures { result
-        ≡ is_headed (record_line_of (λ b. b.now) (λ t. t.now) (λ r. r.now) line.entry) bytes.now }
+        ≡ is_headed (record_line_of (λ b. b.now) (λ t. t.now) (λ r. r.now) line.now) bytes.now }
 {
     let size = record_size(line.1);
     size <= bytes.len() && is_record(line.1, &bytes[..size]) && is_whole(&bytes[size..])
@@ -171,31 +182,31 @@ pub(crate) fn push_record_line(
 /// payload lists below its attribute's line.
 fn open_lines<'a>(
     level: usize,
-    raw: Raw,
+    raw: &Raw,
     list: &[u8],
     payload: &'a [u8],
     out: &mut Vec<u8>,
 ) -> Result<Option<(Listed<'a>, &'a [u8])>, AllocError>
-    requires { holds_lines (raw_of (λ b. b.now) (λ t. t.now) (λ r. r.now) raw) list.now payload.now ≡ true }
+    requires { holds_lines (raw_of (λ b. b.now) (λ t. t.now) (λ r. r.now) raw.now) list.now payload.now ≡ true }
     ensures ok { OnOk result (out.new.items ≡ out.old.items
-        ++ head_text level (head_of (raw_of (λ b. b.now) (λ t. t.now) (λ r. r.now) raw.entry) payload.now)) }
+        ++ head_text level (head_of (raw_of (λ b. b.now) (λ t. t.now) (λ r. r.now) raw.now) payload.now)) }
     ensures list { IfOk result (λ found. option_map (listing (λ b. b.now) (λ t. t.now) (λ r. r.now)) found
-        ≡ listed_in (raw_of (λ b. b.now) (λ t. t.now) (λ r. r.now) raw.entry) list.now payload.now) }
+        ≡ listed_in (raw_of (λ b. b.now) (λ t. t.now) (λ r. r.now) raw.now) list.now payload.now) }
 {
     match raw {
         RawBy::Value(_) => Ok(None),
-        RawBy::List(table) => Ok(Some((ListedBy::Attributes(table, payload), payload))),
-        RawBy::Encapsulation(kind) => match encapsulation(kind, list) {
+        RawBy::List(table) => Ok(Some((ListedBy::Attributes(*table, payload), payload))),
+        RawBy::Encapsulation(kind) => match encapsulation(*kind, list) {
             Some(table) => Ok(Some((ListedBy::Attributes(table, payload), payload))),
             None => Ok(None),
         },
         RawBy::Head(line, table) => {
             let (head, rest) = payload.split_at(record_size(line.1));
-            push_record_line(level, line, head, out)?;
-            Ok(Some((ListedBy::Attributes(table, rest), rest)))
+            push_record_line(level, *line, head, out)?;
+            Ok(Some((ListedBy::Attributes(*table, rest), rest)))
         }
-        RawBy::Hops(table) => Ok(Some((ListedBy::NextHops(table), payload))),
-        RawBy::Records(line) => Ok(Some((ListedBy::Records(line), payload))),
+        RawBy::Hops(table) => Ok(Some((ListedBy::NextHops(*table), payload))),
+        RawBy::Records(line) => Ok(Some((ListedBy::Records(*line), payload))),
     }
 }
 
@@ -213,19 +224,19 @@ fn push_plain_bytes(bytes: &[u8], out: &mut Vec<u8>) -> Result<(), AllocError>
 #[tactic(auto, unfolding(crate::specs::Attributes::after_name))]
 pub(crate) fn push_after_name<'a>(
     level: usize,
-    raw: Raw,
+    raw: &Raw,
     list: &[u8],
     payload: &'a [u8],
     out: &mut Vec<u8>,
 ) -> Result<Option<(Listed<'a>, &'a [u8])>, AllocError>
     ensures ok { OnOk result (out.new.items ≡ out.old.items
-        ++ (after_name (raw_of (λ b. b.now) (λ t. t.now) (λ r. r.now) raw.entry) list.now payload.now
-        ++ 10 ∷ head_text level (shown_head (raw_of (λ b. b.now) (λ t. t.now) (λ r. r.now) raw.entry) list.now payload.now))) }
+        ++ (after_name (raw_of (λ b. b.now) (λ t. t.now) (λ r. r.now) raw.now) list.now payload.now
+        ++ 10 ∷ head_text level (shown_head (raw_of (λ b. b.now) (λ t. t.now) (λ r. r.now) raw.now) list.now payload.now))) }
     ensures list { IfOk result (λ found. option_map (listing (λ b. b.now) (λ t. t.now) (λ r. r.now)) found
-        ≡ shown_list (raw_of (λ b. b.now) (λ t. t.now) (λ r. r.now) raw.entry) list.now payload.now) }
+        ≡ shown_list (raw_of (λ b. b.now) (λ t. t.now) (λ r. r.now) raw.now) list.now payload.now) }
 {
     if let RawBy::Value(shown) = raw {
-        push_raw_value(shown, payload, out)?;
+        push_raw_value(*shown, payload, out)?;
         out.extend_from_slice(b"\n")?;
         return Ok(None);
     }
@@ -386,14 +397,14 @@ pub fn push_raw(
 /// `AllocError` if `out` can't grow; it may then have a part of the lines.
 pub fn push_held(
     level: usize,
-    raw: Raw,
+    raw: &Raw,
     payload: &[u8],
     out: &mut Vec<u8>,
 ) -> Result<(), AllocError>
     requires { level + length payload.now < 2 ^ 63 }
     ensures ok { OnOk result (out.new.items ≡ out.old.items
-        ++ (after_name (raw_of (λ b. b.now) (λ t. t.now) (λ r. r.now) raw.entry) [] payload.now
-        ++ 10 ∷ lines_text (held_lines level (raw_of (λ b. b.now) (λ t. t.now) (λ r. r.now) raw.entry) payload.now))) }
+        ++ (after_name (raw_of (λ b. b.now) (λ t. t.now) (λ r. r.now) raw.now) [] payload.now
+        ++ 10 ∷ lines_text (held_lines level (raw_of (λ b. b.now) (λ t. t.now) (λ r. r.now) raw.now) payload.now))) }
 {
     match push_after_name(level, raw, &[], payload, out)? {
         Some((listed, list)) => push_listed(level, listed, list, out),

@@ -17,6 +17,7 @@ fn defaults() -> Options<'static> {
         without: None,
         offsets: false,
         keep_going: false,
+        json: false,
         file: None,
     }
 }
@@ -89,6 +90,7 @@ fn options_are_read(rt: HostRuntime) -> Result<(), Fail> {
         "--without",
         "NUMBERS",
         "--keep-going",
+        "--json",
         "a",
     ];
     let arguments = strings(rt.alloc(), &words)?;
@@ -100,6 +102,7 @@ fn options_are_read(rt: HostRuntime) -> Result<(), Fail> {
         }),
         offsets: true,
         keep_going: true,
+        json: true,
         file: Some("a"),
         ..defaults()
     };

@@ -29,11 +29,24 @@ RTM_NEWLINK flags 0x0 seq 5 port 0 offset 16
 NLMSG_NOOP flags 0x0 seq 2 port 0 offset 56
 ";
 
+/// The same as JSON.
+const REFUSED_JSON: &[u8] =
+    b"{\"type\": \"NLMSG_NOOP\", \"flags\": {\"value\": 0, \"flags\": []}, \"seq\": 1, \"port\": 0, \"offset\": 0, \"attributes\": []}
+{\"type\": \"RTM_NEWLINK\", \"flags\": {\"value\": 0, \"flags\": []}, \"seq\": 5, \"port\": 0, \"offset\": 16, \"refused\": \"IFLA_MTU: a payload of 3 bytes\", \"body\": \"000001000200000000000000000000000700040061626300\", \"attributes\": []}
+{\"type\": \"NLMSG_NOOP\", \"flags\": {\"value\": 0, \"flags\": []}, \"seq\": 2, \"port\": 0, \"offset\": 56, \"attributes\": []}
+";
+
 /// The lines of the first message of `LINK`.
 const LINK_LINES: &[u8] = b"RTM_NEWLINK flags 0x0 seq 6 port 0
   ifinfomsg family 0 (AF_UNSPEC) type 1 (ether) index 2 flags 0x0 change 0x0
   IFLA_IFNAME \"lo\"
   IFLA_MTU 1500
+";
+
+/// `LINK` as JSON.
+const LINK_JSON: &[u8] =
+    b"{\"type\": \"RTM_NEWLINK\", \"flags\": {\"value\": 0, \"flags\": []}, \"seq\": 6, \"port\": 0, \"header\": {\"struct\": \"ifinfomsg\", \"family\": {\"value\": 0, \"text\": \"AF_UNSPEC\"}, \"type\": {\"value\": 1, \"text\": \"ether\"}, \"index\": 2, \"flags\": {\"value\": 0, \"flags\": []}, \"change\": {\"value\": 0, \"flags\": []}}, \"attributes\": [{\"name\": \"IFLA_IFNAME\", \"value\": \"lo\", \"quoted\": true}, {\"name\": \"IFLA_MTU\", \"value\": 1500}]}
+{\"type\": \"NLMSG_NOOP\", \"flags\": {\"value\": 0, \"flags\": []}, \"seq\": 3, \"port\": 0, \"attributes\": []}
 ";
 
 /// IFLA_MTU and indexes are left out.
@@ -69,6 +82,31 @@ fn messages_after_a_refused_body_are_shown(rt: HostRuntime) -> Result<(), Fail> 
     };
     assert!(rt; shown.is_err_and(|found| found.fault == first && found.refusal.is_some()));
     assert!(rt; lines.bytes() == REFUSED_LINES);
+    Ok(())
+}
+
+#[test]
+fn messages_become_json(rt: HostRuntime) -> Result<(), Fail> {
+    let cases: [(&[u8], bool, &[u8]); 2] = [
+        (&REFUSED, true, REFUSED_JSON),
+        (&LINK, false, LINK_JSON),
+    ];
+    for (capture, all, expected) in cases {
+        let mut options = ShowOptions::from(LineOptions::default());
+        options.json = true;
+        options.keep_going = all;
+        options.offsets = all;
+        let mut objects = VecSink::new(rt.alloc());
+        let shown = show(
+            rt.alloc(),
+            &mut SliceSource::new(capture),
+            &mut objects,
+            DEFAULT_LIMIT,
+            options,
+        );
+        assert!(rt; shown.is_err() == all);
+        assert!(rt; objects.bytes() == expected);
+    }
     Ok(())
 }
 

@@ -30,5 +30,5 @@ abbrev pub name : Bor (List ℕ) × Format → Name
 name n = viewed (λ x. x.now) (λ t. t.now) (λ r. r.now) n
 
 -- A look-up in code, in terms of the entries that it represents.
-pub at_kind : (k : ℕ) (r : Option (Bor (List ℕ) × Format)) (ts : List Row) (us : List AttributeRow) → r ≡ find k ts → attribute_rows_of (λ x. x.now) (λ t. t.now) (λ r. r.now) ts ≡ us → option_map name r ≡ find k us
+pub at_kind : (k : ℕ) (r : Option (Bor (Bor (List ℕ) × Format))) (ts : List Row) (us : List AttributeRow) → option_map (λ n. n.now) r ≡ find k ts → attribute_rows_of (λ x. x.now) (λ t. t.now) (λ r. r.now) ts ≡ us → option_map (λ n. name n.now) r ≡ find k us
 at_kind = rows.at_kind (λ x. x.now) (inside_of (λ x. x.now) (λ t. t.now) (λ r. r.now))

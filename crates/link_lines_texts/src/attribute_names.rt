@@ -185,9 +185,10 @@ pub(crate) fn info_attribute_names() -> &'static [AttributeRow]
 
 /// Returns the name of a kind of a link's attribute: that of the family's row, else that of the row
 /// for all families.
-fn link_attribute_name(family: u8, kind: u16) -> Option<Name>
+fn link_attribute_name(family: u8, kind: u16) -> Option<&'static Name>
     requires { family < 4 }
-    ensures { option_map (viewed (λ b. b.now) (λ t. t.now) (λ r. r.now)) result ≡ find kind (get_or link_names family []) }
+    ensures { option_map (λ name. viewed (λ b. b.now) (λ t. t.now) (λ r. r.now) name.now) result
+        ≡ find kind (get_or link_names family []) }
 {
     match look_up(family_names_table(family), kind) {
         Some(name) => Some(name),
@@ -213,8 +214,9 @@ fn attribute_names_of(table: Table) -> &'static [AttributeRow]
 
 /// Returns the name of a kind without flag bits in a table, and how its payload is shown; None if
 /// the table has no row for it.
-pub fn attribute_name_of(table: Table, kind: u16) -> Option<Name>
-    ensures { option_map (viewed (λ b. b.now) (λ t. t.now) (λ r. r.now)) result ≡ attribute_name_of table.0 kind }
+pub fn attribute_name_of(table: Table, kind: u16) -> Option<&'static Name>
+    ensures { option_map (λ name. viewed (λ b. b.now) (λ t. t.now) (λ r. r.now) name.now) result
+        ≡ attribute_name_of table.0 kind }
 {
     if LINK_UNSPEC.0 <= table.0 && table.0 < LINK_INFO.0 {
         link_attribute_name(table.0 - LINK_UNSPEC.0, kind)

@@ -13,7 +13,7 @@ ghost use Rattle.link_lines_texts.specs.Lists.{list_lines, next_in, attribute_li
 ghost use Rattle.link_tables.specs.InForce.{in_force};
 
 use crate::attribute_names::attribute_name_of;
-use crate::format::{CAN_STATISTICS, Format, FormatBy, Scope, known_format};
+use crate::format::{CAN_STATISTICS, Format, FormatBy, Scope, known_format, or_format};
 use crate::laws::lists_unfold_by_attributes;
 use crate::links::push_link_header;
 use crate::raw_tables::raw_table;
@@ -69,20 +69,20 @@ fn push_peer(level: usize, payload: &[u8], out: &mut Vec<u8>) -> Result<(), Allo
 #[tactic(auto, unfolding(crate::specs::Format::can_statistics))]
 fn push_payload(
     level: usize,
-    format: Format,
+    format: &Format,
     payload: &[u8],
     out: &mut Vec<u8>,
 ) -> Result<(), AllocError>
     requires { level + length payload.now < 2 ^ 63 }
     ensures ok { OnOk result (out.new.items ≡ out.old.items
-        ++ (inside_text (inside_of (λ b. b.now) (λ t. t.now) (λ r. r.now) format.entry) payload.now
-        ++ 10 ∷ header_inside level (inside_of (λ b. b.now) (λ t. t.now) (λ r. r.now) format.entry) payload.now)) }
+        ++ (inside_text (inside_of (λ b. b.now) (λ t. t.now) (λ r. r.now) format.now) payload.now
+        ++ 10 ∷ header_inside level (inside_of (λ b. b.now) (λ t. t.now) (λ r. r.now) format.now) payload.now)) }
 {
     match format {
-        FormatBy::Raw(table) => return push_held(level, RawBy::List(table), payload, out),
-        FormatBy::CanStatistics => return push_held(level, CAN_STATISTICS, payload, out),
+        FormatBy::Raw(table) => return push_held(level, &RawBy::List(*table), payload, out),
+        FormatBy::CanStatistics => return push_held(level, &CAN_STATISTICS, payload, out),
         FormatBy::Peer => return push_peer(level, payload, out),
-        FormatBy::Value(shown) => push_value(shown, payload, out)?,
+        FormatBy::Value(shown) => push_value(*shown, payload, out)?,
         FormatBy::Plain => push_plain_bytes(payload, out)?,
         _ => {}
     }
@@ -107,21 +107,50 @@ fn peer_list<'a>(scope: Scope, payload: &'a [u8]) -> Option<(ListTable, &'a [u8]
 }
 
 /// Returns the list with a table that is shown below a name, if there is one.
-fn list_of<'a>(scope: Scope, format: Format, payload: &'a [u8]) -> Option<(ListTable, &'a [u8])>
+fn list_of<'a>(scope: Scope, format: &Format, payload: &'a [u8]) -> Option<(ListTable, &'a [u8])>
     ensures { option_map (λ f. (f.0, f.1.now)) result
-        ≡ inside_list scope (inside_of (λ b. b.now) (λ t. t.now) (λ r. r.now) format.entry) payload.now }
+        ≡ inside_list scope (inside_of (λ b. b.now) (λ t. t.now) (λ r. r.now) format.now) payload.now }
 {
     let table = match format {
         FormatBy::Peer => return peer_list(scope, payload),
-        FormatBy::List(_, table) => table,
+        FormatBy::List(_, table) => *table,
         FormatBy::LinkInfo => LINK_INFO,
         _ => return None,
     };
     Some((ListTable { table, scope }, payload))
 }
 
+/// Appends what follows an attribute's name, in the format that is known under the kinds in force, as
+/// `push_payload` does. Returns the list with a table below the name, if there is one. It is out of
+/// line, since inlined it would have `push_list` clear what it holds for each value too.
+#[inline(never)]
+fn push_known<'a>(
+    level: usize,
+    scope: Scope,
+    force: InForce<'_>,
+    format: &Format,
+    payload: &'a [u8],
+    out: &mut Vec<u8>,
+) -> Result<Option<(ListTable, &'a [u8])>, AllocError>
+    requires { level + length payload.now < 2 ^ 63 }
+    ensures ok { OnOk result (out.new.items ≡ out.old.items
+        ++ (inside_text (known_inside scope (in_force force.entry)
+        (inside_of (λ b. b.now) (λ t. t.now) (λ r. r.now) format.now) payload.now) payload.now
+        ++ 10 ∷ header_inside level (known_inside scope (in_force force.entry)
+        (inside_of (λ b. b.now) (λ t. t.now) (λ r. r.now) format.now) payload.now) payload.now)) }
+    ensures list { IfOk result (λ found. option_map (λ f. (f.0, f.1.now)) found
+        ≡ inside_list scope (known_inside scope (in_force force.entry)
+        (inside_of (λ b. b.now) (λ t. t.now) (λ r. r.now) format.now) payload.now) payload.now) }
+{
+    let known = known_format(scope, force, format, payload, out)?;
+    let format = or_format(&known, format);
+    push_payload(level, format, payload, out)?;
+    Ok(list_of(scope, format, payload))
+}
+
 /// Appends the line of an attribute, and the lines below it, but not those of a list with a table.
-/// Returns that list, if the attribute holds one.
+/// Returns that list, if the attribute holds one. Most attributes are values, which depend on no
+/// kind in force.
 #[tactic(auto, unfolding(crate::specs::Lists::attribute_lines, crate::specs::Lists::list_inside))]
 fn push_attribute<'a>(
     level: usize,
@@ -142,10 +171,20 @@ fn push_attribute<'a>(
         push_raw(level + 1, raw_table(list_table.table), attribute, out)?;
         return Ok(None);
     };
-    let format = known_format(list_table.scope, force, format, attribute.payload, out)?;
     out.extend_from_slice(name)?;
-    push_payload(level + 1, format, attribute.payload, out)?;
-    Ok(list_of(list_table.scope, format, attribute.payload))
+    if let FormatBy::Value(shown) = format {
+        push_value(*shown, attribute.payload, out)?;
+        out.extend_from_slice(b"\n")?;
+        return Ok(None);
+    }
+    push_known(
+        level + 1,
+        list_table.scope,
+        force,
+        format,
+        attribute.payload,
+        out,
+    )
 }
 
 /// Appends the lines of a list of attributes of a table, indented for this level.

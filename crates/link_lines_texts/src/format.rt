@@ -1,6 +1,6 @@
 //! How the payloads of attributes with names are shown.
 
-ghost use Rattle.std.specs.Prelude.{◌≡◌, true, IfOk};
+ghost use Rattle.std.specs.Prelude.{◌≡◌, true, unwrap_or, IfOk};
 ghost use Rattle.link_lines_texts.specs.Format.{inside_of, inside_held, known_inside, of_held, peer_inside, statistics_inside};
 ghost use Rattle.link_tables.specs.InForce.{held_in_force, in_force};
 
@@ -101,8 +101,9 @@ fn inner_peer_format(payload: &[u8], scratch: &mut Vec<u8>) -> Result<Format, Al
     }
 }
 
-/// Returns how a payload is shown under the kinds in force. To look whether a peer inside a peer is
-/// canonical, its text may be written at the end of `scratch`, and is removed again.
+/// Returns how a payload is shown under the kinds in force; `None` if as its row says, so that no
+/// row's format is copied. To look whether a peer inside a peer is canonical, its text may be
+/// written at the end of `scratch`, and is removed again.
 ///
 /// # Errors
 ///
@@ -110,22 +111,33 @@ fn inner_peer_format(payload: &[u8], scratch: &mut Vec<u8>) -> Result<Format, Al
 pub(crate) fn known_format(
     scope: Scope,
     force: InForce<'_>,
-    format: Format,
+    format: &Format,
     payload: &[u8],
     scratch: &mut Vec<u8>,
-) -> Result<Format, AllocError>
-    ensures ok { IfOk result (λ known. inside_of (λ b. b.now) (λ t. t.now) (λ r. r.now) known
+) -> Result<Option<Format>, AllocError>
+    ensures ok { IfOk result (λ known.
+        inside_of (λ b. b.now) (λ t. t.now) (λ r. r.now) (unwrap_or known format.now)
         ≡ known_inside scope (in_force force.entry)
-        (inside_of (λ b. b.now) (λ t. t.now) (λ r. r.now) format.entry) payload.now) }
+        (inside_of (λ b. b.now) (λ t. t.now) (λ r. r.now) format.now) payload.now) }
     ensures scratch { scratch.new.items ≡ scratch.old.items }
 {
     Ok(match format {
-        FormatBy::Data => info_format(force, IFLA_INFO_DATA),
-        FormatBy::Statistics => statistics_format(force),
-        FormatBy::PortData => info_format(force, IFLA_INFO_SLAVE_DATA),
-        FormatBy::Settings(shown) if !scope.is_request => FormatBy::Value(shown),
-        FormatBy::Settings(_) => FormatBy::Plain,
-        FormatBy::Peer if scope.is_in_peer => inner_peer_format(payload, scratch)?,
-        _ => format,
+        FormatBy::Data => Some(info_format(force, IFLA_INFO_DATA)),
+        FormatBy::Statistics => Some(statistics_format(force)),
+        FormatBy::PortData => Some(info_format(force, IFLA_INFO_SLAVE_DATA)),
+        FormatBy::Settings(shown) if !scope.is_request => Some(FormatBy::Value(*shown)),
+        FormatBy::Settings(_) => Some(FormatBy::Plain),
+        FormatBy::Peer if scope.is_in_peer => Some(inner_peer_format(payload, scratch)?),
+        _ => None,
     })
+}
+
+/// Returns the known format if there is one, or else that of the row.
+pub(crate) fn or_format<'a>(known: &'a Option<Format>, format: &'a Format) -> &'a Format
+    ensures { result.now ≡ unwrap_or known.now format.now }
+{
+    match known {
+        Some(known) => known,
+        None => format,
+    }
 }

@@ -9,6 +9,8 @@ use netlink_packet_core_numbers::without_nul;
 use std::alloc::AllocError;
 
 /// Appends bytes in hex, without separators.
+// Out of line, as few fields need it: inlined, it would slow `push_field_value`.
+#[inline(never)]
 pub(crate) fn push_hex_text(bytes: &[u8], out: &mut Vec<u8>) -> Result<(), AllocError>
     ensures ok { OnOk result (out.new.items ≡ out.old.items ++ hex_text bytes.now) }
 {
@@ -93,6 +95,8 @@ fn count_without_zeros(bytes: &[u8]) -> usize
 
 /// Appends an address in a longer field: with colons, without the zeros at the end from the 7th
 /// byte on.
+// Out of line, as few fields need it: inlined, it would slow `push_field_value`.
+#[inline(never)]
 pub(crate) fn push_padded_address(bytes: &[u8], out: &mut Vec<u8>) -> Result<(), AllocError>
     ensures ok { OnOk result (out.new.items ≡ out.old.items ++ padded_address bytes.now) }
 {
@@ -134,6 +138,8 @@ pub(crate) fn push_text(bytes: &[u8], out: &mut Vec<u8>) -> Result<(), AllocErro
 }
 
 /// Appends a text in quotes, without the NULs at its end.
+// Out of line, as few fields need it: inlined, it would slow `push_field_value`.
+#[inline(never)]
 pub(crate) fn push_padded_text(bytes: &[u8], out: &mut Vec<u8>) -> Result<(), AllocError>
     ensures ok { OnOk result (out.new.items ≡ out.old.items ++ padded_text bytes.now) }
 {

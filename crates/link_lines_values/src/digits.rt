@@ -9,17 +9,22 @@ ghost use Rattle.link_lines_values.specs.Digits.{signed_by, signed_text};
 use itoa::Buffer;
 use std::alloc::AllocError;
 
-/// Returns the little-endian number of 1, 2, 3, 4 or 8 bytes; None for any other size.
+/// Returns the little-endian number of 1, 2, 3, 4 or 8 bytes; None for any other size. Most numbers
+/// have 4 or 8 bytes; a match would compare the sizes from the lowest on.
 #[tactic(auto, using(crate::proofs::Readings::low_first))]
 pub(crate) fn little_endian(bytes: &[u8]) -> Option<u64>
     ensures { result ≡ cond (is_number bytes.now) (Some (number bytes.now)) None }
 {
+    if let [a, b, c, d] = bytes {
+        return Some(u64::from(u32::from_le_bytes([*a, *b, *c, *d])));
+    }
+    if let [a, b, c, d, e, f, g, h] = bytes {
+        return Some(u64::from_le_bytes([*a, *b, *c, *d, *e, *f, *g, *h]));
+    }
     match bytes {
         [a] => Some(u64::from(*a)),
         [a, b] => Some(u64::from(u16::from_le_bytes([*a, *b]))),
         [a, b, c] => Some(u64::from(u32::from_le_bytes([*a, *b, *c, 0]))),
-        [a, b, c, d] => Some(u64::from(u32::from_le_bytes([*a, *b, *c, *d]))),
-        [a, b, c, d, e, f, g, h] => Some(u64::from_le_bytes([*a, *b, *c, *d, *e, *f, *g, *h])),
         _ => None,
     }
 }
@@ -39,6 +44,15 @@ pub(crate) fn big_endian(bytes: &[u8]) -> Option<u64>
     }
 }
 
+// Appends a number in decimal. It is out of line, so that `push_decimal` can be inlined.
+#[inline(never)]
+fn push_formatted(number: u64, out: &mut Vec<u8>) -> Result<(), AllocError>
+    ensures ok { OnOk result (out.new.items ≡ out.old.items ++ decimal number) }
+{
+    let mut buffer = Buffer::new();
+    out.extend_from_slice(buffer.format(number).as_bytes())
+}
+
 /// Appends a number in decimal. A number of one digit, as most are, is written without formatting.
 ///
 /// # Errors
@@ -51,8 +65,7 @@ pub fn push_decimal(number: u64, out: &mut Vec<u8>) -> Result<(), AllocError>
     if number < 10 {
         return out.extend_from_slice(&[b'0' + number as u8]);
     }
-    let mut buffer = Buffer::new();
-    out.extend_from_slice(buffer.format(number).as_bytes())
+    push_formatted(number, out)
 }
 
 /// Appends a number with its sign: from `half` on it is the number minus twice that.
@@ -87,7 +100,7 @@ fn glyph(digit: u8) -> u8
 }
 
 /// Returns a byte as two hex digits.
-pub(crate) fn hex_byte(byte: u8) -> [u8; 2]
+pub fn hex_byte(byte: u8) -> [u8; 2]
     ensures { result ≡ hex_byte byte }
 {
     [glyph(byte / 16), glyph(byte % 16)]

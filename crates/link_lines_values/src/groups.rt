@@ -92,6 +92,8 @@ fn push_address_and_protocol(
 }
 
 /// Appends an address and its protocol with its name, or bytes if they are not 18.
+// Out of line, as few fields need it: inlined, it would slow `push_field_value`.
+#[inline(never)]
 pub(crate) fn push_group(
     texts: &[NumberText],
     part: &[u8],

@@ -18,7 +18,7 @@ mod values;
 
 pub use bytes::{is_zero, push_bytes};
 pub use dense_rows::look_up;
-pub use digits::{push_decimal, push_four_digits};
+pub use digits::{hex_byte, push_decimal, push_four_digits};
 pub use exact::{Exact, ExactBy, push_raw_value};
 pub use fields::{
     CACHEINFO, ETHER_TYPE, Field, FieldOf, FieldShown, FieldShownBy, Fields, ICMP6_STATS,

@@ -1,6 +1,7 @@
 //! Records, field by field.
 
-ghost use Rattle.std.specs.Prelude.{◌≡◌, [], ◌==◌, ◌<◌, ◌≤◌, ◌+◌, ◌/◌, ◌∷◌, ◌++◌, true, ◌||◌, ◌&&◌, cond, drop, false, length, min, IfNone, IfSome, OnOk};
+ghost use Rattle.std.specs.Prelude.{◌≡◌, [], ◌==◌, ◌<◌, ◌≤◌, ◌+◌, ◌/◌, ◌∷◌, ◌++◌, true};
+ghost use Rattle.std.specs.Prelude.{◌||◌, ◌&&◌, cond, drop, false, length, min, IfNone, IfSome, OnOk};
 ghost use Rattle.link_lines_values.specs.Bytes.{is_zero};
 ghost use Rattle.link_lines_values.specs.Names.{texts_of};
 ghost use Rattle.link_lines_values.specs.Records.{field_of, field_text, field_value, fields_of, fields_text};
@@ -87,6 +88,8 @@ fn push_field_signed(part: &[u8], out: &mut Vec<u8>) -> Result<(), AllocError>
 }
 
 // Appends the flags of a field, or its bytes if no number has their size.
+// Out of line, as few fields need it: inlined, it would slow `push_field_value`.
+#[inline(never)]
 fn push_field_flags(names: &[FlagName], part: &[u8], out: &mut Vec<u8>) -> Result<(), AllocError>
     ensures ok { OnOk result (out.new.items
         ≡ out.old.items ++ field_value (FieldShownBy.Flags (texts_of (λ b. b.now) names.now)) part.now) }
@@ -98,6 +101,8 @@ fn push_field_flags(names: &[FlagName], part: &[u8], out: &mut Vec<u8>) -> Resul
 }
 
 // Appends a handle of 4 bytes with its name, or bytes of another size.
+// Out of line, as few fields need it: inlined, it would slow `push_field_value`.
+#[inline(never)]
 fn push_field_handle(
     texts: &[NumberText],
     handle: Option<u64>,
@@ -119,9 +124,9 @@ fn push_field_handle(
 }
 
 // Appends the value of a field.
-fn push_field_value(shown: FieldShown, part: &[u8], out: &mut Vec<u8>) -> Result<(), AllocError>
+fn push_field_value(shown: &FieldShown, part: &[u8], out: &mut Vec<u8>) -> Result<(), AllocError>
     ensures ok { OnOk result (out.new.items
-        ≡ out.old.items ++ field_value (shown_of (λ b. b.now) (λ t. t.now) shown.entry) part.now) }
+        ≡ out.old.items ++ field_value (shown_of (λ b. b.now) (λ t. t.now) shown.now) part.now) }
 {
     match shown {
         FieldShownBy::Number(texts) => push_field_number(texts, little_endian(part), part, out),
@@ -150,12 +155,12 @@ fn push_field(
     out.extend_from_slice(b" ")?;
     out.extend_from_slice(field.0)?;
     out.extend_from_slice(&[separator])?;
-    push_field_value(field.2, part, out)
+    push_field_value(&field.2, part, out)
 }
 
 // Returns whether a field is padding.
-fn is_padding(shown: FieldShown) -> bool
-    ensures { result ≡ is_padding (shown_of (λ b. b.now) (λ t. t.now) shown.entry) }
+fn is_padding(shown: &FieldShown) -> bool
+    ensures { result ≡ is_padding (shown_of (λ b. b.now) (λ t. t.now) shown.now) }
 {
     matches!(shown, FieldShownBy::Padding)
 }
@@ -172,8 +177,8 @@ fn is_zero_field(part: &[u8]) -> bool
 }
 
 // Returns whether a field isn't shown: padding, and in a sparse record any field that is zero.
-fn is_hidden(is_sparse: bool, shown: FieldShown, part: &[u8]) -> bool
-    ensures { result ≡ is_hidden is_sparse (shown_of (λ b. b.now) (λ t. t.now) shown.entry) part.now }
+fn is_hidden(is_sparse: bool, shown: &FieldShown, part: &[u8]) -> bool
+    ensures { result ≡ is_hidden is_sparse (shown_of (λ b. b.now) (λ t. t.now) shown.now) part.now }
 {
     is_padding(shown) || is_sparse && is_zero_field(part)
 }
@@ -193,7 +198,7 @@ fn push_fields(
     let mut rest = bytes;
     for row in rows {
         let (part, after) = rest.split_at(usize::from(row.1));
-        if !is_hidden(is_sparse, row.2, part) {
+        if !is_hidden(is_sparse, &row.2, part) {
             push_field(separator, row, part, out)?;
         }
         rest = after;
@@ -235,7 +240,7 @@ fn has_zero_padding(rows: &[Field], bytes: &[u8]) -> bool
     let mut rest = bytes;
     for row in rows {
         let (part, after) = rest.split_at(usize::from(row.1));
-        if is_padding(row.2) && !is_zero(part) {
+        if is_padding(&row.2) && !is_zero(part) {
             return false;
         }
         rest = after;
@@ -326,14 +331,14 @@ fn push_counter_name(rows: &[Field], index: usize, out: &mut Vec<u8>) -> Result<
 fn push_counter(
     rows: &[Field],
     index: usize,
-    shown: FieldShown,
+    shown: &FieldShown,
     part: &[u8],
     out: &mut Vec<u8>,
 ) -> Result<(), AllocError>
     ensures ok { OnOk result (out.new.items
         ≡ out.old.items ++ cond (is_zero part.now) []
         (32 ∷ (counter_name (fields_of (λ b. b.now) (λ t. t.now) rows.now) index
-        ++ 61 ∷ field_value (shown_of (λ b. b.now) (λ t. t.now) shown.entry) part.now))) }
+        ++ 61 ∷ field_value (shown_of (λ b. b.now) (λ t. t.now) shown.now) part.now))) }
 {
     if is_zero_field(part) {
         return Ok(());
@@ -347,14 +352,14 @@ fn push_counter(
 // Appends the counters of a size that aren't zero.
 fn push_slots(
     size: usize,
-    shown: FieldShown,
+    shown: &FieldShown,
     rows: &[Field],
     bytes: &[u8],
     out: &mut Vec<u8>,
 ) -> Result<(), AllocError>
     requires { 0 < size }
     ensures ok { OnOk result (out.new.items
-        ≡ out.old.items ++ slots_text size (shown_of (λ b. b.now) (λ t. t.now) shown.entry)
+        ≡ out.old.items ++ slots_text size (shown_of (λ b. b.now) (λ t. t.now) shown.now)
         (fields_of (λ b. b.now) (λ t. t.now) rows.now) 0 (length bytes.now / size) bytes.now) }
 {
     let mut index = 0;
@@ -384,7 +389,7 @@ pub fn push_counters(rows: &[Field], bytes: &[u8], out: &mut Vec<u8>) -> Result<
             let size = usize::from(first.1);
             out.extend_from_slice(b" fields ")?;
             push_decimal((bytes.len() / size) as u64, out)?;
-            push_slots(size, first.2, rows, bytes, out)
+            push_slots(size, &first.2, rows, bytes, out)
         }
         [] => Ok(()),
     }
@@ -405,7 +410,7 @@ pub fn push_nonzero_counters(
         ≡ out.old.items ++ nonzero_text (fields_of (λ b. b.now) (λ t. t.now) rows.now) bytes.now) }
 {
     match rows {
-        [first, ..] => push_slots(usize::from(first.1), first.2, rows, bytes, out),
+        [first, ..] => push_slots(usize::from(first.1), &first.2, rows, bytes, out),
         [] => Ok(()),
     }
 }

@@ -1,4 +1,5 @@
 mod Passing
+mod Showing
 mod Following
 mod Apart
 mod Bodies

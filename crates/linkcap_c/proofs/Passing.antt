@@ -60,7 +60,7 @@ reaches : (size used read whole : ℕ) → read ≡ min whole (size - used) → 
 reaches size used read whole e l = elim (le_or_le whole (size - used)) [ inl h ↦ inl (omega arith) | inr h ↦ inr (omega arith) ]
 
 -- A text that is written after others in a buffer.
-written_behind : (at n : ℕ) (front text init out new : List ℕ) → length front ≡ at → out ≡ front ++ drop at init → new ≡ text ++ drop n (drop at out) → put_mid at (length out - at) out new ≡ (front ++ text) ++ drop (at + n) init
+pub written_behind : (at n : ℕ) (front text init out new : List ℕ) → length front ≡ at → out ≡ front ++ drop at init → new ≡ text ++ drop n (drop at out) → put_mid at (length out - at) out new ≡ (front ++ text) ++ drop (at + n) init
 written_behind at n front text init out new e b w =
     let f : take at out ≡ front = rw b (take_at front (drop at init) at e) in
     let d : drop at out ≡ drop at init = rw b (drop_at front (drop at init) at e) in
@@ -136,14 +136,14 @@ ended limit false c used h = inl (ap (first_frame limit) (drop_all used c h) ∙
 pub stops_there : (form : Form) (limit : ℕ) (last : Bool) (rest left : List ℕ) (room free : ℕ) (stop : Stop) → rest ≡ left → room ≡ free → Stops form limit last rest room stop → Stops form limit last left free stop
 stops_there form limit last rest left room free stop r e h = subst (λ n. Stops form limit last left n stop) e (subst (λ x. Stops form limit last x room stop) r h)
 
+-- the frame that has a fault, whatever follows
+pub there : FramesAreIndependent link_body → (limit : ℕ) (last : Bool) (rest more : List ℕ) (kind : FaultKind) → (last ≡ true → more ≡ []) → IsFaulty limit last rest kind → first_frame limit (rest ++ more) ≡ Err kind
+there frames limit true rest more kind m bad = ap (first_frame limit) (ap (λ x. rest ++ x) (m refl) ∙ append-nil rest) ∙ bad.is
+there frames limit false rest more kind m bad =
+    frames.unchanged_by_more limit rest more (λ e. bad.for_good refl (let z : Err kind ≡ Err Cut = sym bad.is ∙ e in cc)) ∙ bad.is
+
 -- after a whole capture
 module _ (faults : JoinedFaults link_body) (joins : JoinedTexts link_body) where
-  -- the frame that has a fault, whatever follows
-  there : FramesAreIndependent link_body → (limit : ℕ) (last : Bool) (rest more : List ℕ) (kind : FaultKind) → (last ≡ true → more ≡ []) → IsFaulty limit last rest kind → first_frame limit (rest ++ more) ≡ Err kind
-  there frames limit true rest more kind m bad = ap (first_frame limit) (ap (λ x. rest ++ x) (m refl) ∙ append-nil rest) ∙ bad.is
-  there frames limit false rest more kind m bad =
-      frames.unchanged_by_more limit rest more (λ e. bad.for_good refl (let z : Err kind ≡ Err Cut = sym bad.is ∙ e in cc)) ∙ bad.is
-
   pub fails : CapturesUnfoldByFrames link_body → FramesAreIndependent link_body → (form : Form) (limit : ℕ) → IsForm limit form → (last : Bool) (c : List ℕ) (used written : ℕ) (before more : List ℕ) (kind : FaultKind) → IsUsed form limit last c used written → IsWhole limit before → (last ≡ true → more ≡ []) → IsFaulty limit last (drop used c) kind → Fails form limit kind used c before more
   fails go frames form limit shaped last c used written before more kind u b m bad =
       let l : used < length c = omega (arith, bad.more, length-drop used c) in

@@ -7,3 +7,4 @@ pub mod Selecting
 pub mod Messages
 pub mod Quirks
 pub mod Apart
+pub mod SelectedPieces

@@ -71,11 +71,12 @@ selected_by flags types link x = record {
   omitted = record { names = x.names; counters = x.counters; indexes = x.indexes };
   offsets = has_flag 2 flags;
   keep_going = has_flag 4 flags;
+  json = has_flag 8 flags;
 }
 
 -- The arguments of a call select this.
 pub record Selects (flags : ℕ) (only link without : List ℕ) (o : Selection) : Type 0 where
-  pub flags_are_known : flags < 8
+  pub flags_are_known : flags < 16
   pub types : List ℕ
   pub reads_types : ReadsTypes only (Ok types)
   pub excluded : Exclusion
@@ -84,7 +85,7 @@ pub record Selects (flags : ℕ) (only link without : List ℕ) (o : Selection) 
 
 -- The arguments of a call are invalid: a flag isn't known, or a list of words isn't read.
 abbrev pub AreInvalid : ℕ → List ℕ → List ℕ → Type 0
-AreInvalid flags only without = (8 ≤ flags) ⊎ ((e : ListError) × IsErrorOf only without e)
+AreInvalid flags only without = (16 ≤ flags) ⊎ ((e : ListError) × IsErrorOf only without e)
 
 -- ---- results
 

@@ -11,6 +11,8 @@ mod numbers;
 mod pieces;
 mod quirks;
 mod refusing;
+mod selected_pieces;
+mod selected_streaming;
 mod selecting;
 mod statuses;
 mod streaming;

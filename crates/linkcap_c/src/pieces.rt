@@ -42,7 +42,7 @@ pub(crate) struct Progress {
 }
 
 /// Copies bytes to the start of `out`. Returns their number, or as an Err the capacity that they need.
-fn put(text: &[u8], out: &mut [u8]) -> Result<usize, Stop>
+pub(crate) fn put(text: &[u8], out: &mut [u8]) -> Result<usize, Stop>
     ensures ok { IfOk result (λ size. (size ≡ length text.now) × (size ≤ length out.old)
         × (out.new ≡ text.now ++ drop size out.old)) }
     ensures room { IfErr result (λ stop. (stop ≡ Stop.Room (length text.now)) × (length out.old < length text.now)) }

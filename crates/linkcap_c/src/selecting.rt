@@ -35,8 +35,11 @@ const OFFSETS: u32 = 2;
 /// Messages with a fault of their body are shown too, and those after them.
 const KEEP_GOING: u32 = 4;
 
+/// Each message is an object of JSON, in a line of its own.
+const JSON: u32 = 8;
+
 /// All flags.
-const FLAGS: u32 = WITHOUT_NUMBERS | OFFSETS | KEEP_GOING;
+pub(crate) const FLAGS: u32 = WITHOUT_NUMBERS | OFFSETS | KEEP_GOING | JSON;
 
 /// Whether a flag is among flags.
 fn has_flag(flag: u32, flags: u32) -> bool
@@ -47,15 +50,15 @@ fn has_flag(flag: u32, flags: u32) -> bool
 
 /// The lists of words of a call, as they are read.
 #[derive(Drop)]
-struct Lists {
+pub(crate) struct Lists {
     /// The types of messages that are shown; none shows all.
-    only: Types,
+    pub only: Types,
     /// What is left out.
-    without: Without,
+    pub without: Without,
 }
 
 /// Reads the lists of words of a call.
-fn read_lists<'a>(only: &'a [u8], without: &'a [u8]) -> Result<Lists, ListError<'a>>
+pub(crate) fn read_lists<'a>(only: &'a [u8], without: &'a [u8]) -> Result<Lists, ListError<'a>>
     ensures only { IfOk result (λ lists. ReadsTypes only.now (Ok lists.only.items)) }
     ensures without { IfOk result (λ lists. ReadsNames without.now (Ok (exclusion_of lists.without))) }
     ensures err { IfErr result (λ e. IsErrorOf only.now without.now e) }
@@ -66,7 +69,7 @@ fn read_lists<'a>(only: &'a [u8], without: &'a [u8]) -> Result<Lists, ListError<
 }
 
 /// The options of a call.
-fn show_options<'a>(flags: u32, lists: &'a Lists, link: &'a [u8]) -> ShowOptions<'a>
+pub(crate) fn show_options<'a>(flags: u32, lists: &'a Lists, link: &'a [u8]) -> ShowOptions<'a>
     ensures { selection_of result
         ≡ selected_by flags lists.now.only.items link.now (exclusion_of lists.now.without) }
 {
@@ -81,6 +84,7 @@ fn show_options<'a>(flags: u32, lists: &'a Lists, link: &'a [u8]) -> ShowOptions
         },
         offsets: has_flag(OFFSETS, flags),
         keep_going: has_flag(KEEP_GOING, flags),
+        json: has_flag(JSON, flags),
     }
 }
 

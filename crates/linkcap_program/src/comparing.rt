@@ -9,7 +9,7 @@ ghost use Rattle.linkcap_program.specs.Runs.{SameRun, SameReported, same_line};
 use super::files::FileSystem;
 use super::lines::line;
 use link_capture_checks::{SideFault, same};
-use link_capture_commands::status_same;
+use link_capture_commands::{NOT_PRINTED, status_same};
 use link_capture_grammar::fault::{CaptureFault, FaultKind};
 use link_capture_reader::{Sink, read_all, report_text};
 use std::alloc::Global;
@@ -18,12 +18,6 @@ use std::process::ExitCode;
 /// The fault of a file that can't be opened.
 const NOT_OPENED: CaptureFault = CaptureFault {
     kind: FaultKind::Read,
-    offset: 0,
-};
-
-/// The fault that is reported if the result can't be printed.
-const NOT_PRINTED: CaptureFault = CaptureFault {
-    kind: FaultKind::Write,
     offset: 0,
 };
 

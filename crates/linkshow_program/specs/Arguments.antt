@@ -13,7 +13,7 @@ use Rattle.linkshow_program.specs.declared.arguments.Asked.{Asked}
 use Rattle.linkshow_program.specs.declared.arguments.Asked.TheVariants.{Help, Version, Show}
 use Rattle.linkshow_program.specs.declared.arguments.FlagOption.{FlagOption}
 use Rattle.linkshow_program.specs.declared.arguments.FlagOption.TheVariants.{Kernels, WithoutNumbers, Offsets}
-use Rattle.linkshow_program.specs.declared.arguments.FlagOption.TheVariants.{KeepGoing}
+use Rattle.linkshow_program.specs.declared.arguments.FlagOption.TheVariants.{Json, KeepGoing}
 use Rattle.linkshow_program.specs.declared.arguments.Options.{Options}
 use Rattle.linkshow_program.specs.declared.arguments.UsageError.{UsageError}
 use Rattle.linkshow_program.specs.declared.arguments.UsageError.TheVariants as Errors
@@ -34,11 +34,12 @@ argument_of w =
     (cond (bytes_eq w (codes "--without-numbers")) (Flag WithoutNumbers)
     (cond (bytes_eq w (codes "--offsets")) (Flag Offsets)
     (cond (bytes_eq w (codes "--keep-going")) (Flag KeepGoing)
+    (cond (bytes_eq w (codes "--json")) (Flag Json)
     (cond (bytes_eq w (codes "--only")) (Valued Only)
     (cond (bytes_eq w (codes "--link")) (Valued Link)
     (cond (bytes_eq w (codes "--without")) (Valued Without)
     (cond (bytes_eq w (codes "--limit")) (Valued Limit)
-    (cond (bytes_eq w (codes "-")) Input (name_of w)))))))))
+    (cond (bytes_eq w (codes "-")) Input (name_of w))))))))))
 
 -- ---- options
 
@@ -52,6 +53,7 @@ pub record Settings : Type 0 where
   pub without : Option Exclusion
   pub offsets : Bool
   pub keep_going : Bool
+  pub json : Bool
   pub file : Option (List ℕ)
 
 -- What options in code say.
@@ -66,6 +68,7 @@ settings_of o =
       without = option_map exclusion_of o.without;
       offsets = o.offsets;
       keep_going = o.keep_going;
+      json = o.json;
       file = option_map (λ name. name.now) o.file;
     }
 
@@ -81,6 +84,7 @@ defaults =
       without = None;
       offsets = false;
       keep_going = false;
+      json = false;
       file = None;
     }
 
@@ -96,6 +100,7 @@ with_flag Kernels o =
       without = o.without;
       offsets = o.offsets;
       keep_going = o.keep_going;
+      json = o.json;
       file = o.file;
     }
 with_flag WithoutNumbers o =
@@ -108,6 +113,7 @@ with_flag WithoutNumbers o =
       without = o.without;
       offsets = o.offsets;
       keep_going = o.keep_going;
+      json = o.json;
       file = o.file;
     }
 with_flag Offsets o =
@@ -120,6 +126,7 @@ with_flag Offsets o =
       without = o.without;
       offsets = true;
       keep_going = o.keep_going;
+      json = o.json;
       file = o.file;
     }
 with_flag KeepGoing o =
@@ -132,6 +139,20 @@ with_flag KeepGoing o =
       without = o.without;
       offsets = o.offsets;
       keep_going = true;
+      json = o.json;
+      file = o.file;
+    }
+with_flag Json o =
+    record {
+      limit = o.limit;
+      kernels = o.kernels;
+      without_numbers = o.without_numbers;
+      only = o.only;
+      link = o.link;
+      without = o.without;
+      offsets = o.offsets;
+      keep_going = o.keep_going;
+      json = true;
       file = o.file;
     }
 
@@ -147,6 +168,7 @@ with_limit n o =
       without = o.without;
       offsets = o.offsets;
       keep_going = o.keep_going;
+      json = o.json;
       file = o.file;
     }
 
@@ -162,6 +184,7 @@ with_only types o =
       without = o.without;
       offsets = o.offsets;
       keep_going = o.keep_going;
+      json = o.json;
       file = o.file;
     }
 
@@ -177,6 +200,7 @@ with_link word o =
       without = o.without;
       offsets = o.offsets;
       keep_going = o.keep_going;
+      json = o.json;
       file = o.file;
     }
 
@@ -192,6 +216,7 @@ with_exclusion excluded o =
       without = Some excluded;
       offsets = o.offsets;
       keep_going = o.keep_going;
+      json = o.json;
       file = o.file;
     }
 
@@ -207,6 +232,7 @@ of_file name o =
       without = o.without;
       offsets = o.offsets;
       keep_going = o.keep_going;
+      json = o.json;
       file = Some name;
     }
 

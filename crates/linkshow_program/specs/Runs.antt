@@ -89,6 +89,7 @@ chosen o = record {
   omitted = omitted_by o.without;
   offsets = o.offsets;
   keep_going = o.keep_going;
+  json = o.json;
 }
 
 -- A capture was shown, this was reported of it and of the first bytes that were read, and this is the status.

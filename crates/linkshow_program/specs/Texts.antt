@@ -46,7 +46,7 @@ advice first =
 abbrev pub usage_line : List ℕ
 usage_line =
     codes "usage: linkshow [--only TYPE,..] [--link WORD] [--without NAME,..] [--without-numbers] " ++
-    (codes "[--offsets] [--keep-going] [--kernels] [--limit N] [FILE]; linkshow --help says more" ++ 10 ∷ [])
+    (codes "[--offsets] [--keep-going] [--json] [--kernels] [--limit N] [FILE]; linkshow --help says more" ++ 10 ∷ [])
 
 -- The report of a usage error.
 abbrev pub usage_text : UsageFault → List ℕ

@@ -28,6 +28,8 @@ pub struct Options<'a> {
     pub offsets: bool,
     /// Whether messages with a fault in their body are shown, and those after them.
     pub keep_going: bool,
+    /// Whether each message is an object of JSON in a line of its own.
+    pub json: bool,
     /// The name of the file; None is standard input.
     pub file: Option<&'a str>,
 }
@@ -65,6 +67,8 @@ pub(crate) enum FlagOption {
     Offsets,
     /// `--keep-going`
     KeepGoing,
+    /// `--json`
+    Json,
 }
 
 /// An option that a value follows.
@@ -108,6 +112,8 @@ fn argument_of(word: &str) -> Argument
         Argument::Flag(FlagOption::Offsets)
     } else if word == "--keep-going" {
         Argument::Flag(FlagOption::KeepGoing)
+    } else if word == "--json" {
+        Argument::Flag(FlagOption::Json)
     } else if word == "--only" {
         Argument::Valued(ValueOption::Only)
     } else if word == "--link" {
@@ -144,6 +150,10 @@ fn with_flag<'a>(flag: FlagOption, options: Options<'a>) -> Options<'a>
         },
         FlagOption::KeepGoing => Options {
             keep_going: true,
+            ..options
+        },
+        FlagOption::Json => Options {
+            json: true,
             ..options
         },
     }
@@ -245,6 +255,7 @@ fn read_options(arguments: &[String]) -> Result<Options<'_>, UsageError<'_>>
         without: None,
         offsets: false,
         keep_going: false,
+        json: false,
         file: None,
     };
     let mut left = arguments;

@@ -6,15 +6,9 @@ ghost use Rattle.link_capture_reader.specs.States.{sink_state};
 ghost use Rattle.linkshow_program.specs.Runs.{PrintRun};
 
 use super::lines::report_texts;
-use link_capture_grammar::fault::{CaptureFault, FaultKind};
+use link_capture_commands::NOT_PRINTED;
 use link_capture_reader::{Sink, report_text};
 use std::process::ExitCode;
-
-/// The fault that is reported if a text can't be printed.
-const NOT_PRINTED: CaptureFault = CaptureFault {
-    kind: FaultKind::Write,
-    offset: 0,
-};
 
 /// Prints a text, or reports that it can't be printed. Returns the program's status.
 pub(crate) fn print<K: Sink, E: Sink>(sink: &mut K, errors: &mut E, text: &str) -> ExitCode

@@ -152,6 +152,7 @@ pub(crate) fn show_options<'a>(options: &'a Options<'_>) -> ShowOptions<'a>
         omission,
         offsets: options.offsets,
         keep_going: options.keep_going,
+        json: options.json,
     }
 }
 

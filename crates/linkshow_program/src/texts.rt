@@ -8,15 +8,15 @@ use std::io::ErrorKind;
 /// The usage line.
 pub const USAGE: &str =
     "usage: linkshow [--only TYPE,..] [--link WORD] [--without NAME,..] [--without-numbers] \
-     [--offsets] [--keep-going] [--kernels] [--limit N] [FILE]; linkshow --help says more\n";
+     [--offsets] [--keep-going] [--json] [--kernels] [--limit N] [FILE]; linkshow --help says more\n";
 
 /// The version of the program, and the format version of its lines.
 pub const VERSION: &str = "linkshow 0.1.0, lines 3\n";
 
 /// The help.
 pub const HELP: &str = "usage: linkshow [--only TYPE,..] [--link WORD] [--without NAME,..]
-                [--without-numbers] [--offsets] [--keep-going] [--kernels]
-                [--limit N] [FILE]
+                [--without-numbers] [--offsets] [--keep-going] [--json]
+                [--kernels] [--limit N] [FILE]
        linkshow --help
        linkshow --version
 
@@ -36,6 +36,7 @@ of its normal text: captures that mean the same have the same lines.
   --offsets          show each message's offset in bytes
   --keep-going       show messages with a fault in their body too, with the
                      reason, and the messages after them
+  --json             write an object of JSON for each message, a line each
   --limit N          the greatest length of a message in bytes, from 16 to
                      4294967295; without it, 1048576
   --kernels          first note on standard error each encoding that kernels
@@ -52,6 +53,7 @@ Example, the links of this network namespace:
 
   linkrec dump > links.bin
   linkshow links.bin
+  linkshow --json links.bin | jq .attributes
 ";
 
 /// Returns the reason why a file can't be opened.

@@ -1,6 +1,7 @@
 use Rattle.std.proofs.Common.{◌≡◌, ◌+◌, length, Some, sym, ap, ◌∙◌, arith}
 use Rattle.netlink_packet_core_grammar.specs.Attributes.{Attribute, attribute_length, nla_align}
-use Rattle.link_capture_refusals.specs.RefusalTables.{Listing, listing}
+use Rattle.link_capture_checks.specs.Listings.{listing}
+use Rattle.link_capture_refusals.specs.RefusalTables.{Listing}
 use Rattle.link_capture_refusals.specs.RowRules.{following}
 use Rattle.link_capture_refusals.specs.Refusals.{found_at, list_rest, list_refusal}
 use Rattle.link_interpreter.proofs.Loop.{some_bytes}
@@ -26,7 +27,7 @@ list_refusal-returns-then-is_some-clause-found t c =
 
 pub list_refusal-loop-list-smaller : goal.list_refusal-loop-list-smaller
 list_refusal-loop-list-smaller t c =
-    omega (arith, c.in-Some.ensures.within, c.in-Some.ensures.following, shorter_rest c.next_list-list.result.form c.in-Some.after.now, ap length c.list_rest-rest.ensures)
+    omega (arith, c.in-Some.ensures.within, c.in-Some.ensures.following, shorter_rest c.next_list-list.result.table.form c.in-Some.after.now, ap length c.list_rest-rest.ensures)
 
 pub list_refusal-loop-list-preserved : goal.list_refusal-loop-list-preserved
 list_refusal-loop-list-preserved t c =
@@ -35,13 +36,13 @@ list_refusal-loop-list-preserved t c =
     let e : Attribute = attribute_of c.in-Some.attribute in
     let w = c.in-Some.ensures.within in
     let d = c.in-Some.ensures.following in
-    let g = shorter_rest c.next_list-list.result.form c.in-Some.after.now in
+    let g = shorter_rest c.next_list-list.result.table.form c.in-Some.after.now in
     let n = ap length c.list_rest-rest.ensures in
     let size : c.nla_align.result ≡ nla_align (attribute_length e) = c.nla_align.ensures in
     let some = some_bytes rest _ c.loop-list-test.true c.is_empty.ensures in
     let near = l.invariant.near some in
     let next : listing c.next_list-list.result ≡ following (listing l.list) e = c.next_list-list.ensures in
-    let form = ap (λ (x : Listing). x.form) next in
+    let form = ap (λ (x : Listing). x.table.form) next in
     record {
       table = ap (λ (x : Listing). x.table) next ∙ l.invariant.table;
       judged = ap (λ (x : Listing). x.judged) next ∙ l.invariant.judged;

@@ -1,5 +1,5 @@
 -- The bytes that were read and written at each exit.
-use Rattle.std.proofs.Common.{◌≡◌, ◌∙◌, ◌+◌, ◌++◌, ◌-◌, ◌^◌, ◌<◌, List, ℕ, [], None, Some, min, length, take, drop, refl, sym, ap, subst, arith, rules}
+use Rattle.std.proofs.Common.{◌≡◌, ◌∙◌, ◌+◌, ◌++◌, ◌-◌, ◌^◌, [], Some, min, length, take, drop, refl, sym, ap, subst, arith, rules}
 use Rattle.std.proofs.lemmas.List.{append-nil, length-append, length-take, take_rest}
 use Rattle.std.proofs.lemmas.Result.{err_from_is_err_and}
 use Rattle.std.proofs.KnownBytes.{Appends-trans, Consumes-kept, Consumes-trans}
@@ -11,7 +11,7 @@ use Rattle.link_lines.specs.MessageLines.{messages_lines, shown}
 use Rattle.link_lines.specs.Messages.{frame_of, report_of}
 use Rattle.link_lines.specs.Options.{selection_of}
 use Rattle.link_lines.specs.Walks.{Ends, FinishedWith, or_else, report_in}
-use Rattle.link_lines.proofs.Progress.{Came, are_cut, before_end, before_piece, continues, device_shown, failed_write, finished, nothing_came_for, prefix_shown, stopped_shown, unended, write_only}
+use Rattle.link_lines.proofs.Progress.{are_cut, before_end, before_piece, continues, device_shown, failed_write, finished, nothing_came_for, prefix_shown, stopped_shown, unended, write_only}
 use Rattle.link_lines.proofs.engine.show_keeping_first.Goals as goal
 
 pub pieces-init : goal.pieces-init

@@ -1,26 +1,15 @@
 -- The message is shown, or showing stops there.
-use Rattle.std.proofs.Common.{◌++◌, sym, subst, ◌∙◌, ap, refl}
-use Rattle.netlink_packet_core_grammar.specs.Frames.{IsFrame}
-use Rattle.link_lines.specs.MessageLines.{message_lines}
-use Rattle.link_lines.specs.Messages.{Message.Faulty}
 use Rattle.link_lines.specs.Options.{selection_of}
-use Rattle.link_lines.specs.declared.messages.Judgement.TheVariants as J
-use Rattle.link_lines.proofs.Header.{frame_is_frame}
-use Rattle.link_lines.proofs.Stepping.{is_accepted, is_faulty, judged_as}
+use Rattle.link_lines.specs.declared.messages.ShownMessage.TheVariants as Outcome
+use Rattle.link_lines.proofs.Stepping.{accepted_step, faulty_step, shown_as}
 use Rattle.link_lines.proofs.messages.push_message.Goals as goal
 
-pub push_refused-requires : goal.push_refused-requires
-push_refused-requires c =
-    let judged = judged_as _ _ _ _ (J.Faulty c.in-Faulty.kind c.in-Faulty.len) c.in-Faulty.is c.in_ok-len.ensures.ok in
-    subst IsFrame (sym c.frame_of.ensures) (frame_is_frame c.args.bytes.now judged.2)
+pub returns-in-Accepted-clause-ok : goal.returns-in-Accepted-clause-ok
+returns-in-Accepted-clause-ok c =
+    let shown = shown_as (selection_of c.args.options) c.args.limit c.args.offset c.args.bytes.now c.args.out.now.items c.push_selected_message.new.out.items _ (Outcome.Accepted c.in-Accepted.len) c.in-Accepted.is c.in_ok-len.ensures.ok in
+    accepted_step c.frames_are_independent.ensures c.messages_unfold.ensures (selection_of c.args.options) c.args.limit c.args.offset c.args.bytes.now c.args.out.now.items c.push_selected_message.new.out.items _ c.in-Accepted.len shown
 
-pub returns-in_ok-push_accepted-in-Accepted-clause-ok : goal.returns-in_ok-push_accepted-in-Accepted-clause-ok
-returns-in_ok-push_accepted-in-Accepted-clause-ok c =
-    let judged = judged_as _ _ _ _ (J.Accepted c.in-Accepted.len) c.in-Accepted.is c.in_ok-len.ensures.ok in
-    is_accepted c.frames_are_independent.ensures c.messages_unfold.ensures _ _ _ _ _ _ _ _ _ _ judged c.in_ok-push_accepted-in-Accepted.ensures.ok refl
-
-pub returns-in_ok-push_refused-in-Faulty-clause-ok : goal.returns-in_ok-push_refused-in-Faulty-clause-ok
-returns-in_ok-push_refused-in-Faulty-clause-ok c =
-    let judged = judged_as _ _ _ _ (J.Faulty c.in-Faulty.kind c.in-Faulty.len) c.in-Faulty.is c.in_ok-len.ensures.ok in
-    is_faulty c.frames_are_independent.ensures c.messages_unfold.ensures _ _ _ c.args.bytes.now c.judge.new.text.items _ _ _ _ _ _ judged c.if-options.true
-    (c.in_ok-push_refused-in-Faulty.ensures.ok ∙ ap (λ f. c.args.out.now.items ++ message_lines (selection_of c.args.options) (Faulty c.args.offset c.in-Faulty.kind f)) c.frame_of.ensures) c.keep_fault.ensures
+pub returns-in-Faulty-clause-ok : goal.returns-in-Faulty-clause-ok
+returns-in-Faulty-clause-ok c =
+    let shown = shown_as (selection_of c.args.options) c.args.limit c.args.offset c.args.bytes.now c.args.out.now.items c.push_selected_message.new.out.items _ (Outcome.Faulty c.in-Faulty.kind c.in-Faulty.len) c.in-Faulty.is c.in_ok-len.ensures.ok in
+    faulty_step c.frames_are_independent.ensures c.messages_unfold.ensures (selection_of c.args.options) c.args.limit c.args.offset c.args.bytes.now c.args.out.now.items c.push_selected_message.new.out.items _ _ c.in-Faulty.kind c.in-Faulty.len shown c.keep_fault.ensures

@@ -1,5 +1,5 @@
 -- The messages before an offset are shown.
-use Rattle.std.proofs.Common.{◌≡◌, ◌+◌, ◌-◌, ◌≤◌, length}
+use Rattle.std.proofs.Common.{◌+◌, ◌-◌, ◌≤◌, length}
 use Rattle.link_lines.specs.Options.{selection_of}
 use Rattle.link_lines.specs.Walks.{Passes, report_in}
 use Rattle.link_lines.proofs.messages.push_messages.Given as goal

@@ -1,5 +1,5 @@
 use Rattle.std.proofs.Common.{◌≡◌, ◌++◌, length}
-use Rattle.link_lines.specs.Lines.{lines_of}
+use Rattle.link_lines_json.specs.Lines.{lines_of}
 use Rattle.link_lines.specs.Remaining.{omitted_of, remaining_after, remaining_lines}
 use Rattle.link_lines.proofs.remaining.push_remaining.Given as goal
 

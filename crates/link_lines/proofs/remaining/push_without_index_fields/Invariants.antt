@@ -1,5 +1,5 @@
 use Rattle.std.proofs.Common.{◌≡◌, ◌++◌, false, length}
-use Rattle.link_lines.specs.Lines.{words_of}
+use Rattle.link_lines_json.specs.Lines.{words_of}
 use Rattle.link_lines.specs.Remaining.{without_index_fields}
 use Rattle.link_lines.proofs.remaining.push_without_index_fields.Given as goal
 

@@ -11,7 +11,7 @@ use Rattle.link_lines_raw.proofs.raw.push_held.Goals as goal
 
 pub returns-in-Some : goal.returns-in-Some
 returns-in-Some c =
-    let raw = raw_of (λ b. b.now) (λ t. t.now) (λ r. r.now) c.args.raw in
+    let raw = raw_of (λ b. b.now) (λ t. t.now) (λ r. r.now) c.args.raw.now in
     let p = c.args.payload.now in
     let after = c.push_after_name.new.out.items in
     let tells = sym c.in_ok-listed.ensures.list ∙ ap (option_map (listing (λ b. b.now) (λ t. t.now) (λ r. r.now))) c.in-Some.is in
@@ -23,7 +23,7 @@ returns-in-Some c =
 
 pub returns-in-None : goal.returns-in-None
 returns-in-None c =
-    let raw = raw_of (λ b. b.now) (λ t. t.now) (λ r. r.now) c.args.raw in
+    let raw = raw_of (λ b. b.now) (λ t. t.now) (λ r. r.now) c.args.raw.now in
     let p = c.args.payload.now in
     let after = c.push_after_name.new.out.items in
     let tells = sym c.in_ok-listed.ensures.list ∙ ap (option_map (listing (λ b. b.now) (λ t. t.now) (λ r. r.now))) c.in-None.is in

@@ -1,0 +1,3 @@
+pub mod FirstParts
+pub mod FirstTokens
+pub mod Steps

@@ -1,0 +1,16 @@
+-- Steps of loops that a search doesn't take by itself.
+use Rattle.std.proofs.Common.{◌≡◌, ◌-◌, ◌<◌, ◌++◌, ◌∷◌, ℕ, zero, suc, Bool, true, List, ap, ◌∙◌, arith}
+use Rattle.std.specs.Prelude.{codes}
+use Rattle.link_lines_json.specs.Json.{closing}
+use Rattle.link_lines_json.specs.Tokens.{TermText}
+use Rattle.link_lines_json.specs.Values.{field_json, fields_json, separator}
+
+-- One end is written before the others.
+pub closing_step : (n : ℕ) → 0 < n → closing n ≡ codes "]}" ++ closing (n - 1)
+closing_step zero l = absurd (omega (arith, l))
+closing_step (suc n) l = ap (λ m. codes "]}" ++ closing m) {x = n} {y = suc n - 1} (omega arith)
+
+-- One field is written before the others.
+pub fields_step : (after : Bool) (name value : TermText) (ts us vs : List TermText) → ts ≡ name ∷ us → us ≡ value ∷ vs
+    → fields_json after ts ≡ (separator after ++ field_json name value) ++ fields_json true vs
+fields_step after name value ts us vs e d = ap (fields_json after) (e ∙ ap (λ ws. name ∷ ws) d)

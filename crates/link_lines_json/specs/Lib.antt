@@ -1,0 +1,7 @@
+pub mod Lines
+pub mod Tokens
+pub mod Names
+pub mod Strings
+pub mod Values
+pub mod Attributes
+pub mod Json

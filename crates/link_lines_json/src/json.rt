@@ -1,0 +1,250 @@
+//! A message's lines as an object of JSON.
+
+ghost use Rattle.std.specs.Prelude.{◌≡◌, ◌∷◌, ◌++◌, IfOk, OnOk};
+ghost use Rattle.link_lines_json.specs.Json.{closing, ending, entry_depth, header_json, is_member, json};
+ghost use Rattle.link_lines_json.specs.Json.{line_json, lines_json, line_terms, member_json, next_entry, numbered_json};
+ghost use Rattle.link_lines_json.specs.Json.{open_after, opening, request_json, sized_json, struct_object};
+ghost use Rattle.link_lines_json.specs.Json.{typed_json, without_newline};
+ghost use Rattle.link_lines_json.specs.Lines.{after_first_word, lines_of};
+ghost use Rattle.link_lines_json.specs.Tokens.{terms};
+
+use crate::attributes::{first_of, is_lower, push_entry, push_terms_string};
+use crate::cuts::{first_word, level, line_len, line_words, split_line};
+use crate::strings::push_string;
+use crate::tokens::split_term;
+use crate::values::{push_fields, push_key, push_next_key, push_word};
+use std::alloc::AllocError;
+
+/// Returns what follows the first word of a line, without the newline.
+#[tactic(auto, using(crate::proofs::FirstParts::prefix_within))]
+fn after_first_word(line: &[u8]) -> &[u8]
+    ensures { result.now ≡ without_newline (after_first_word line.now) }
+{
+    let rest = line_words(line);
+    let (text, _) = rest.split_at(line_len(rest));
+    text
+}
+
+/// Appends the number of a message type without a name, and the fields after it.
+#[tactic(auto, unfolding(crate::specs::Json::numbered_json))]
+fn push_numbered(text: &[u8], out: &mut Vec<u8>) -> Result<(), AllocError>
+    ensures ok { OnOk result (out.new.items ≡ out.old.items ++ numbered_json (terms text.now)) }
+{
+    let Some((number, rest)) = split_term(text) else {
+        push_key(b"type", out)?;
+        return out.extend_from_slice(b"null");
+    };
+    push_key(b"type", out)?;
+    push_word(false, number.word, out)?;
+    push_fields(true, rest, out)
+}
+
+/// Appends the type of a message, by its name or number, and the fields after it.
+#[tactic(auto, unfolding(crate::specs::Json::typed_json))]
+fn push_typed(word: &[u8], text: &[u8], out: &mut Vec<u8>) -> Result<(), AllocError>
+    ensures ok { OnOk result (out.new.items ≡ out.old.items ++ typed_json word.now (terms text.now)) }
+{
+    if word == b"type".as_slice() {
+        return push_numbered(text, out);
+    }
+    push_key(b"type", out)?;
+    push_string(word, out)?;
+    push_fields(true, text, out)
+}
+
+/// Appends a request's header of a size, and what a message's line has.
+#[tactic(auto, unfolding(crate::specs::Json::sized_json))]
+fn push_sized(size: &[u8], word: &[u8], text: &[u8], out: &mut Vec<u8>) -> Result<(), AllocError>
+    ensures ok { OnOk result (out.new.items ≡ out.old.items ++ sized_json size.now word.now (terms text.now)) }
+{
+    out.extend_from_slice(b"{")?;
+    push_key(b"length", out)?;
+    push_word(false, size, out)?;
+    out.extend_from_slice(b", ")?;
+    push_typed(word, text, out)?;
+    out.extend_from_slice(b"}")
+}
+
+/// Appends the header of a request that an error repeats.
+#[tactic(auto, unfolding(crate::specs::Json::request_json))]
+fn push_request(text: &[u8], out: &mut Vec<u8>) -> Result<(), AllocError>
+    ensures ok { OnOk result (out.new.items ≡ out.old.items ++ request_json (terms text.now)) }
+{
+    let Some((_, sized)) = split_term(text) else {
+        return out.extend_from_slice(b"{}");
+    };
+    let Some((size, typed)) = split_term(sized) else {
+        return out.extend_from_slice(b"{}");
+    };
+    let Some((word, fields)) = split_term(typed) else {
+        return out.extend_from_slice(b"{}");
+    };
+    push_sized(size.word, word.word, fields, out)
+}
+
+/// Appends a struct with its fields.
+#[tactic(auto, unfolding(crate::specs::Json::struct_object))]
+fn push_struct_object(word: &[u8], text: &[u8], out: &mut Vec<u8>) -> Result<(), AllocError>
+    ensures ok { OnOk result (out.new.items ≡ out.old.items ++ struct_object word.now (terms text.now)) }
+{
+    out.extend_from_slice(b"{")?;
+    push_key(b"struct", out)?;
+    push_string(word, out)?;
+    push_fields(true, text, out)?;
+    out.extend_from_slice(b"}")
+}
+
+/// Appends the header of a message's body.
+#[tactic(auto, unfolding(crate::specs::Json::header_json))]
+fn push_header(word: &[u8], text: &[u8], out: &mut Vec<u8>) -> Result<(), AllocError>
+    ensures ok { OnOk result (out.new.items ≡ out.old.items ++ header_json word.now (terms text.now)) }
+{
+    push_key(b"header", out)?;
+    push_struct_object(word, text, out)
+}
+
+/// Appends the member that a line is.
+#[tactic(auto, unfolding(crate::specs::Json::member_json))]
+fn push_member(word: &[u8], text: &[u8], out: &mut Vec<u8>) -> Result<(), AllocError>
+    ensures ok { OnOk result (out.new.items ≡ out.old.items ++ member_json word.now (terms text.now)) }
+{
+    if word == b"body".as_slice() || word == b"rest".as_slice() {
+        push_key(word, out)?;
+        return push_string(first_of(text), out);
+    }
+    if word == b"code".as_slice() {
+        push_key(b"code", out)?;
+        return push_word(false, first_of(text), out);
+    }
+    if word == b"refused:".as_slice() {
+        push_key(b"refused", out)?;
+        return push_terms_string(text, out);
+    }
+    if word == b"request".as_slice() {
+        push_key(b"request", out)?;
+        return push_request(text, out);
+    }
+    push_header(word, text, out)
+}
+
+/// Appends the ends of lists in entries, and of these entries.
+fn push_closing(count: usize, out: &mut Vec<u8>) -> Result<(), AllocError>
+    ensures ok { OnOk result (out.new.items ≡ out.old.items ++ closing count) }
+{
+    let mut left = count;
+    'lists: while left > 0 {
+        out.extend_from_slice(b"]}")?;
+        left -= 1;
+    }
+    Ok(())
+}
+
+/// Appends the end of what is open and the start of an entry at a depth, given how many lists are
+/// open: at least one.
+fn push_next_entry(lists: usize, depth: usize, out: &mut Vec<u8>) -> Result<(), AllocError>
+    ensures ok { OnOk result (out.new.items ≡ out.old.items ++ next_entry lists depth) }
+{
+    if lists < depth {
+        push_next_key(b"nested", out)?;
+        return out.extend_from_slice(b"[{");
+    }
+    out.extend_from_slice(b"}")?;
+    push_closing(lists - depth, out)?;
+    out.extend_from_slice(b", {")
+}
+
+/// Appends the start of an entry at a depth, given how many lists are open.
+fn push_opening(lists: usize, depth: usize, out: &mut Vec<u8>) -> Result<(), AllocError>
+    ensures ok { OnOk result (out.new.items ≡ out.old.items ++ opening lists depth) }
+{
+    if lists > 0 {
+        return push_next_entry(lists, depth, out);
+    }
+    push_next_key(b"attributes", out)?;
+    out.extend_from_slice(b"[{")
+}
+
+/// Appends the end of a message, given how many lists are open.
+fn push_ending(lists: usize, out: &mut Vec<u8>) -> Result<(), AllocError>
+    ensures ok { OnOk result (out.new.items ≡ out.old.items ++ ending lists) }
+{
+    if lists == 0 {
+        push_next_key(b"attributes", out)?;
+        return out.extend_from_slice(b"[]}\n");
+    }
+    out.extend_from_slice(b"}")?;
+    push_closing(lists - 1, out)?;
+    out.extend_from_slice(b"]}\n")
+}
+
+/// Returns the depth of an entry in lists, whose line has a level: at most one more than there are.
+fn entry_depth(lists: usize, level: usize) -> usize
+    ensures { result ≡ entry_depth lists level }
+{
+    if lists < level {
+        lists + 1
+    } else {
+        level.max(1)
+    }
+}
+
+/// Returns whether a line is a member of the message, and not an entry of its list of attributes.
+#[tactic(auto, unfolding(crate::specs::Json::is_member))]
+fn is_member(lists: usize, line: &[u8]) -> bool
+    ensures { result ≡ is_member lists line.now }
+{
+    let word = first_word(line);
+    lists == 0 && is_lower(word) && word != b"kind".as_slice()
+}
+
+/// Appends a line, given how many lists the lines before it left open. Returns how many are open
+/// after it.
+#[tactic(auto, unfolding(crate::specs::Json::line_json))]
+fn push_line(lists: usize, line: &[u8], out: &mut Vec<u8>) -> Result<usize, AllocError>
+    ensures ok { OnOk result (out.new.items ≡ out.old.items ++ line_json lists line.now) }
+    ensures open { IfOk result (λ after. after ≡ open_after lists line.now) }
+{
+    let word = first_word(line);
+    let text = after_first_word(line);
+    if is_member(lists, line) {
+        out.extend_from_slice(b", ")?;
+        push_member(word, text, out)?;
+        return Ok(0);
+    }
+    let depth = entry_depth(lists, level(line));
+    push_opening(lists, depth, out)?;
+    push_entry(word, text, out)?;
+    Ok(depth)
+}
+
+/// Appends the lines after the first one of a message, and its end.
+fn push_lines(lines: &[u8], out: &mut Vec<u8>) -> Result<(), AllocError>
+    ensures ok { OnOk result (out.new.items ≡ out.old.items ++ lines_json 0 (lines_of lines.now)) }
+{
+    let mut lists = 0;
+    let mut left = lines;
+    while let Some((line, rest)) = split_line(left) {
+        lists = push_line(lists, line, out)?;
+        left = rest;
+    }
+    push_ending(lists, out)
+}
+
+/// Appends the lines of a message as an object of JSON (RFC 8259) in a line of its own; nothing if
+/// there are no lines. Its members are those that the lines show; in a text in quotes each byte
+/// becomes the character of the same number.
+///
+/// # Errors
+///
+/// `AllocError` if `out` can't grow; it may then have a part of the object.
+#[tactic(auto, unfolding(crate::specs::Json::json))]
+pub fn push_json(lines: &[u8], out: &mut Vec<u8>) -> Result<(), AllocError>
+    ensures ok { OnOk result (out.new.items ≡ out.old.items ++ json lines.now) }
+{
+    let Some((first, rest)) = split_line(lines) else {
+        return Ok(());
+    };
+    out.extend_from_slice(b"{")?;
+    push_typed(first_word(first), after_first_word(first), out)?;
+    push_lines(rest, out)
+}

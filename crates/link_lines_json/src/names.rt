@@ -1,0 +1,115 @@
+//! Names of attributes whose values have a form of their own.
+
+ghost use Rattle.std.specs.Prelude.{◌≡◌, map};
+ghost use Rattle.link_lines_json.specs.Names.{bytes_names, is_among, number_list_names};
+
+/// The attributes whose values are bytes in hex, which may look like numbers.
+pub const BYTES: &[&[u8]] = &[
+    b"BOND_3AD_STAT_PAD",
+    b"BRIDGE_QUERIER_PAD",
+    b"BRIDGE_VLANDB_GOPTS_PAD",
+    b"BRIDGE_VLANDB_STATS_PAD",
+    b"BRIDGE_XSTATS_PAD",
+    b"FRA_PAD",
+    b"FRA_UNUSED2",
+    b"FRA_UNUSED3",
+    b"FRA_UNUSED4",
+    b"FRA_UNUSED5",
+    b"IFLA_ADDRESS",
+    b"IFLA_AF_SPEC",
+    b"IFLA_BOND_AD_ACTOR_SYSTEM",
+    b"IFLA_BOND_AD_INFO_PARTNER_MAC",
+    b"IFLA_BOND_SLAVE_PERM_HWADDR",
+    b"IFLA_BRIDGE_CFM_CC_CCM_TX_DMAC",
+    b"IFLA_BRIDGE_CFM_CC_CONFIG_EXP_MAID",
+    b"IFLA_BRIDGE_CFM_MEP_CONFIG_UNICAST_MAC",
+    b"IFLA_BROADCAST",
+    b"IFLA_BRPORT_BRIDGE_ID",
+    b"IFLA_BRPORT_PAD",
+    b"IFLA_BRPORT_ROOT_ID",
+    b"IFLA_BR_BRIDGE_ID",
+    b"IFLA_BR_GROUP_ADDR",
+    b"IFLA_BR_PAD",
+    b"IFLA_BR_ROOT_ID",
+    b"IFLA_COST",
+    b"IFLA_HSR_SUPERVISION_ADDR",
+    b"IFLA_INET6_MCAST",
+    b"IFLA_INFO_DATA",
+    b"IFLA_INFO_SLAVE_DATA",
+    b"IFLA_INFO_XSTATS",
+    b"IFLA_MACVLAN_MACADDR",
+    b"IFLA_NETKIT_PEER_INFO",
+    b"IFLA_PERM_ADDRESS",
+    b"IFLA_PHYS_PORT_ID",
+    b"IFLA_PHYS_SWITCH_ID",
+    b"IFLA_PORT_HOST_UUID",
+    b"IFLA_PORT_INSTANCE_UUID",
+    b"IFLA_PRIORITY",
+    b"IFLA_PROTINFO",
+    b"IFLA_WIRELESS",
+    b"IOAM6_IPTUNNEL_TRACE",
+    b"LWTUNNEL_IP6_PAD",
+    b"LWTUNNEL_IP_OPT_GENEVE_DATA",
+    b"LWTUNNEL_IP_PAD",
+    b"NDA_LLADDR",
+    b"NDTA_PAD",
+    b"NDTPA_PAD",
+    b"NHA_RES_BUCKET_PAD",
+    b"NHA_RES_GROUP_PAD",
+    b"RPL_IPTUNNEL_SRH",
+    b"RTA_MP_ALGO",
+    b"RTA_PAD",
+    b"RTA_PROTOINFO",
+    b"RTA_SESSION",
+    b"SEG6_IPTUNNEL_SRH",
+    b"SEG6_LOCAL_CNT_PAD",
+    b"SEG6_LOCAL_SRH",
+    b"TCA_ACT_COOKIE",
+    b"TCA_ACT_OPTIONS",
+    b"TCA_ACT_PAD",
+    b"TCA_OPTIONS",
+    b"TCA_PAD",
+    b"TCA_STATS_APP",
+    b"TCA_STATS_PAD",
+    b"TCA_XSTATS",
+    b"VETH_INFO_PEER",
+    b"VNIFILTER_ENTRY_STATS_PAD",
+    b"VXCAN_INFO_PEER",
+];
+
+/// The attributes whose values are any number of numbers.
+pub const NUMBER_LISTS: &[&[u8]] = &[
+    b"IFLA_CAN_BITRATE_CONST",
+    b"IFLA_CAN_DATA_BITRATE_CONST",
+    b"IFLA_CAN_TERMINATION_CONST",
+    b"IFLA_CAN_XL_DATA_BITRATE_CONST",
+    b"TCA_STAB_DATA",
+];
+
+/// Returns whether a name is one of these.
+pub fn is_among(names: &[&[u8]], name: &[u8]) -> bool
+    ensures { result ≡ is_among (map (λ n. n.now) names.now) name.now }
+{
+    for other in names {
+        if *other == name {
+            return true;
+        }
+    }
+    false
+}
+
+/// Returns whether the values of attributes with this name are bytes in hex.
+#[tactic(auto, unfolding(crate::specs::Names::bytes_names))]
+pub(crate) fn is_bytes(name: &[u8]) -> bool
+    ensures { result ≡ is_among bytes_names name.now }
+{
+    is_among(BYTES, name)
+}
+
+/// Returns whether the values of attributes with this name are lists of numbers.
+#[tactic(auto, unfolding(crate::specs::Names::number_list_names))]
+pub(crate) fn is_number_list(name: &[u8]) -> bool
+    ensures { result ≡ is_among number_list_names name.now }
+{
+    is_among(NUMBER_LISTS, name)
+}

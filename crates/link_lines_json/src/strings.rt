@@ -1,0 +1,68 @@
+//! Strings of JSON (RFC 8259).
+
+ghost use Rattle.std.specs.Prelude.{◌≡◌, ◌++◌, ◌∷◌, [], codes, flat_map, OnOk};
+ghost use Rattle.link_lines_json.specs.Strings.{after_backslash, escaped, requoted, string};
+
+use link_lines_values::hex_byte;
+use std::alloc::AllocError;
+
+/// Appends a byte of a string, escaped where it must be.
+fn push_escaped(byte: u8, out: &mut Vec<u8>) -> Result<(), AllocError>
+    ensures ok { OnOk result (out.new.items ≡ out.old.items ++ escaped byte) }
+{
+    if byte == b'"' || byte == b'\\' {
+        return out.extend_from_slice(&[b'\\', byte]);
+    }
+    if byte >= 32 && byte < 127 {
+        return out.extend_from_slice(&[byte]);
+    }
+    out.extend_from_slice(b"\\u00")?;
+    out.extend_from_slice(&hex_byte(byte))
+}
+
+/// Appends the bytes of a string, without its quotes.
+pub(crate) fn push_escaped_text(text: &[u8], out: &mut Vec<u8>) -> Result<(), AllocError>
+    ensures ok { OnOk result (out.new.items ≡ out.old.items ++ flat_map escaped text.now) }
+{
+    for byte in text {
+        push_escaped(*byte, out)?;
+    }
+    Ok(())
+}
+
+/// Appends the string of a text.
+pub(crate) fn push_string(text: &[u8], out: &mut Vec<u8>) -> Result<(), AllocError>
+    ensures ok { OnOk result (out.new.items ≡ out.old.items ++ string text.now) }
+{
+    out.extend_from_slice(b"\"")?;
+    push_escaped_text(text, out)?;
+    out.extend_from_slice(b"\"")
+}
+
+/// Appends a byte after a backslash: of `\xnn` the `u00` of `\u00nn`.
+fn push_after_backslash(byte: u8, out: &mut Vec<u8>) -> Result<(), AllocError>
+    ensures ok { OnOk result (out.new.items ≡ out.old.items ++ after_backslash byte) }
+{
+    if byte == b'x' {
+        out.extend_from_slice(b"u00")
+    } else {
+        out.extend_from_slice(&[byte])
+    }
+}
+
+/// Appends the string of a text in quotes, as lines have it.
+pub(crate) fn push_requoted(text: &[u8], out: &mut Vec<u8>) -> Result<(), AllocError>
+    ensures ok { OnOk result (out.new.items ≡ out.old.items ++ requoted text.now) }
+{
+    let mut escapes = false;
+    for byte in text {
+        if escapes {
+            push_after_backslash(*byte, out)?;
+            escapes = false;
+        } else {
+            out.extend_from_slice(&[*byte])?;
+            escapes = *byte == b'\\';
+        }
+    }
+    Ok(())
+}

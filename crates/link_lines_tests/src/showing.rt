@@ -32,7 +32,9 @@ NLMSG_NOOP flags 0x0 seq 2 port 0 offset 56
 /// The same as JSON.
 const REFUSED_JSON: &[u8] =
     b"{\"type\": \"NLMSG_NOOP\", \"flags\": {\"value\": 0, \"flags\": []}, \"seq\": 1, \"port\": 0, \"offset\": 0, \"attributes\": []}
-{\"type\": \"RTM_NEWLINK\", \"flags\": {\"value\": 0, \"flags\": []}, \"seq\": 5, \"port\": 0, \"offset\": 16, \"refused\": \"IFLA_MTU: a payload of 3 bytes\", \"body\": \"000001000200000000000000000000000700040061626300\", \"attributes\": []}
+{\"type\": \"RTM_NEWLINK\", \"flags\": {\"value\": 0, \"flags\": []}, \"seq\": 5, \"port\": 0, \
+\"offset\": 16, \"refused\": \"IFLA_MTU: a payload of 3 bytes\", \
+\"body\": \"000001000200000000000000000000000700040061626300\", \"attributes\": []}
 {\"type\": \"NLMSG_NOOP\", \"flags\": {\"value\": 0, \"flags\": []}, \"seq\": 2, \"port\": 0, \"offset\": 56, \"attributes\": []}
 ";
 
@@ -45,7 +47,12 @@ const LINK_LINES: &[u8] = b"RTM_NEWLINK flags 0x0 seq 6 port 0
 
 /// `LINK` as JSON.
 const LINK_JSON: &[u8] =
-    b"{\"type\": \"RTM_NEWLINK\", \"flags\": {\"value\": 0, \"flags\": []}, \"seq\": 6, \"port\": 0, \"header\": {\"struct\": \"ifinfomsg\", \"family\": {\"value\": 0, \"text\": \"AF_UNSPEC\"}, \"type\": {\"value\": 1, \"text\": \"ether\"}, \"index\": 2, \"flags\": {\"value\": 0, \"flags\": []}, \"change\": {\"value\": 0, \"flags\": []}}, \"attributes\": [{\"name\": \"IFLA_IFNAME\", \"value\": \"lo\", \"quoted\": true}, {\"name\": \"IFLA_MTU\", \"value\": 1500}]}
+    b"{\"type\": \"RTM_NEWLINK\", \"flags\": {\"value\": 0, \"flags\": []}, \"seq\": 6, \
+\"port\": 0, \"header\": {\"struct\": \"ifinfomsg\", \"family\": {\"value\": 0, \
+\"text\": \"AF_UNSPEC\"}, \"type\": {\"value\": 1, \"text\": \"ether\"}, \"index\": 2, \
+\"flags\": {\"value\": 0, \"flags\": []}, \"change\": {\"value\": 0, \"flags\": []}}, \
+\"attributes\": [{\"name\": \"IFLA_IFNAME\", \"value\": \"lo\", \"quoted\": true}, \
+{\"name\": \"IFLA_MTU\", \"value\": 1500}]}
 {\"type\": \"NLMSG_NOOP\", \"flags\": {\"value\": 0, \"flags\": []}, \"seq\": 3, \"port\": 0, \"attributes\": []}
 ";
 

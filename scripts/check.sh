@@ -290,7 +290,7 @@ succeeds "samples: bytes, texts and lines" "$top/tools/oracle/samples.py" "$LINK
 # ---- linkrec: files
 
 # A pcap file of one packet: a header of the nlmon device, then a's message and four bytes after it.
-packet() { printf '\0\4\3\x38\0\0\0\0\0\0\0\0\0\0\0\0'; cat "$work/a"; printf '\0\0\0\0'; }
+packet() { printf '\0\4\3\x38\0\0\0\0\0\0\0\0\0\0\0\0'; cat "$work/a"; printf '\0\0\0\1'; }
 packet > "$work/packet"
 { printf '\xd4\xc3\xb2\xa1\2\0\4\0\0\0\0\0\0\0\0\0\0\0\4\0\xfd\0\0\0'; printf '\0\0\0\0\0\0\0\0\x44\0\0\0\x44\0\0\0'; cat "$work/packet"; } > "$work/pcap"
 {
@@ -301,6 +301,8 @@ packet > "$work/packet"
 rest="linkrec: left out 4 bytes that followed the messages of a packet"
 expect "a pcap file" 0 "$rest" "$linkrec" pcap pcap < "$work/a"
 expect "a pcapng file" 0 "$rest" "$linkrec" pcap pcapng < "$work/a"
+head -c -1 "$work/pcap" > "$work/zeros" && printf '\0' >> "$work/zeros"
+expect "a packet that ends with zeros" 0 "" "$linkrec" pcap zeros < "$work/a"
 head -c 60 "$work/pcap" > "$work/broken"
 expect "a pcap file that ends early" 1 "linkrec: the file ends inside a packet" "$linkrec" pcap broken < /dev/null
 expect "a pcapng file that ends early" 1 "linkrec: the file ends inside a block" "$linkrec" pcap <(head -c 100 "$work/pcapng") < /dev/null

@@ -1,5 +1,5 @@
 #!/usr/bin/env python3
-"""Runs the tests of the crate memory_tests, and refuses each request for memory in turn.
+"""Runs the tests of the module `memory` of the crate linkcap_tests, and refuses each request for memory in turn.
 
     tools/refused/run.py
 
@@ -16,8 +16,8 @@ from collections import Counter
 from pathlib import Path
 
 HERE = Path(__file__).resolve().parent
-TESTS = HERE.parent.parent / "crates/memory_tests/out/memory_tests_tests"
-NAME = re.compile(r"^(\S+): test$", re.M)
+TESTS = HERE.parent.parent / "crates/linkcap_tests/out/linkcap_tests_tests"
+NAME = re.compile(r"^(memory::\S+): test$", re.M)
 LAST = re.compile(r"^last request: (granted|refused)$", re.M)
 MOST_REQUESTS = 1000
 
@@ -42,7 +42,7 @@ def outputs(test, library):
 
 def main():
     if not TESTS.is_file():
-        sys.exit("refused: no %s: run rt ci, or rt test in crates/memory_tests" % TESTS)
+        sys.exit("refused: no %s: run rt ci, or rt test in crates/linkcap_tests" % TESTS)
     names = NAME.findall(run("--list").stdout)
     counts = Counter()
     with tempfile.TemporaryDirectory() as folder:
@@ -52,7 +52,7 @@ def main():
         for test in names:
             counts.update(outputs(test, library))
     if not names:
-        sys.exit("refused: no tests in %s" % TESTS)
+        sys.exit("refused: no tests of memory in %s" % TESTS)
     print("refused: %d requests of %d tests, each by itself" % (sum(counts.values()), len(names)))
     for output, count in sorted(counts.items()):
         print("%6d %s" % (count, output))

@@ -11,6 +11,8 @@ use Rattle.link_lines_values.specs.DenseRows.{find}
 use Rattle.link_lines_values.specs.Exact.{raw_value}
 use Rattle.link_lines_values.specs.Records.{Field, fields_text, is_record, total_size}
 use Rattle.link_lines_values.specs.declared.values.ShownBy.TheVariants as V
+pub use Rattle.link_lines_lists.specs.KindNames.{has_byte_order_bit, has_nested_bit, index_name, nested_word}
+pub use Rattle.link_lines_lists.specs.Whole.{is_padded, is_whole, is_whole_after, is_whole_attribute, padded_length}
 use Rattle.link_lines_raw.specs.declared.raw_tables.RawTable.{RawTable}
 use Rattle.link_lines_raw.specs.declared.raw_tables.TheConstants.{ACTION, ENCAP_BPF, ENCAP_ILA, ENCAP_IOAM6, ENCAP_IP}
 use Rattle.link_lines_raw.specs.declared.raw_tables.TheConstants.{ENCAP_IP6, ENCAP_MPLS, ENCAP_RPL, ENCAP_SEG6}
@@ -24,24 +26,12 @@ use Rattle.link_lines_raw.specs.Tables.{raw_rows_of}
 
 -- ---- rows
 
--- Whether a kind has the flag bit 0x4000 (netlink.h, NLA_F_NET_BYTEORDER).
-abbrev pub has_byte_order_bit : ℕ → Bool
-has_byte_order_bit kind = kind / 0x4000 % 2 == 1
-
--- Whether a kind has the flag bit 0x8000 (netlink.h, NLA_F_NESTED).
-abbrev pub has_nested_bit : ℕ → Bool
-has_nested_bit kind = kind / 0x8000 % 2 == 1
-
 -- What an attribute holds in a table in which each kind is an index.
 abbrev pub indexed_row : RawTable → Option Raw
 indexed_row table =
     cond (table.0 == INDEXED_IPV4.0) (Some (R.Value (X.Sized 4 V.Address)))
     (cond (table.0 == INDEXED_IPV6.0) (Some (R.Value (X.Sized 16 V.Address)))
     (cond (table.0 == INDEXED_ACTION.0) (Some (R.List ACTION)) None))
-
--- The name of an index, as in `[3]`.
-abbrev pub index_name : ℕ → List ℕ
-index_name kind = codes "[" ++ (decimal kind ++ codes "]")
 
 -- The row that is given, or else the index's.
 abbrev pub row_or_index : ℕ → Option (Named Raw) → Option Raw → Option (Named Raw)
@@ -55,34 +45,6 @@ proper_row table kind = row_or_index kind (find kind (raw_rows_of table.0)) (ind
 -- The row of a kind; none if it has the bit 0x4000.
 unfoldable pub raw_row : RawTable → ℕ → Option (Named Raw)
 raw_row table kind = cond (has_byte_order_bit kind) None (proper_row table (kind % 0x4000))
-
--- ---- whole lists
-
--- Whether the attribute of this length at the start of the bytes is followed by its whole padding, all zeros.
-abbrev pub is_padded : ℕ → List ℕ → Bool
-is_padded n bytes = nat_le (nla_align n) (length bytes) && is_zero (drop n (take (nla_align n) bytes))
-
--- Whether there is an attribute, and it is padded at the start of the bytes.
-abbrev pub is_whole_attribute : Option (Attribute × List ℕ) → List ℕ → Bool
-is_whole_attribute None bytes = false
-is_whole_attribute (Some x) bytes = is_padded (attribute_length x.0) bytes
-
--- The length of an attribute with its padding.
-abbrev pub padded_length : Option (Attribute × List ℕ) → ℕ
-padded_length None = 0
-padded_length (Some x) = nla_align (attribute_length x.0)
-
--- Whether the bytes after the first `skip` are attributes up to the end, each with its padding of zeros.
-unfoldable pub is_whole_after : ℕ → List ℕ → Bool
-is_whole_after skip [] = true
-is_whole_after (suc skip) (b ∷ bytes) = is_whole_after skip bytes
-is_whole_after zero (b ∷ bytes) =
-    is_whole_attribute (first_attribute (b ∷ bytes)) (b ∷ bytes) &&
-    is_whole_after (padded_length (first_attribute (b ∷ bytes)) - 1) bytes
-
--- Whether the bytes are attributes up to the end, each with its padding of zeros.
-abbrev pub is_whole : List ℕ → Bool
-is_whole bytes = is_whole_after 0 bytes
 
 -- ---- encapsulations
 
@@ -191,10 +153,6 @@ plain_bytes bytes = codes " bytes" ++ bytes_text bytes
 unfoldable pub after_name : Raw → List ℕ → List ℕ → List ℕ
 after_name (R.Value shown) list bytes = raw_value shown bytes
 after_name raw list bytes = cond (holds_lines raw list bytes) [] (plain_bytes bytes)
-
--- The word ` nested` for a kind with the nested bit.
-abbrev pub nested_word : ℕ → List ℕ
-nested_word kind = cond (has_nested_bit kind) (codes " nested") []
 
 -- A kind as a number, and the bytes of a payload.
 abbrev pub unnamed_text : ℕ → List ℕ → List ℕ

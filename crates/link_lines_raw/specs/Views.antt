@@ -2,10 +2,10 @@
 use Rattle.std.specs.Prelude.{ℕ, List, Option, Some, None}
 use Rattle.std.specs.Borrow.{Bor}
 use Rattle.link_lines_values.specs.declared.fields.FieldOf.{FieldOf}
+use Rattle.link_lines_lists.specs.KindNames.{name_or_index}
 use Rattle.link_lines_raw.specs.declared.lists.ListedBy.{ListedBy}
 use Rattle.link_lines_raw.specs.declared.lists.ListedBy.TheVariants as L
 use Rattle.link_lines_raw.specs.declared.rows.RecordLineOf.{RecordLineOf}
-use Rattle.link_lines_raw.specs.Attributes.{index_name}
 use Rattle.link_lines_raw.specs.Lists.{Listed}
 use Rattle.link_lines_raw.specs.Names.{Named}
 use Rattle.link_lines_raw.specs.Rows.{Raw, record_line_of}
@@ -21,11 +21,6 @@ listed_of f g h (L.Records line) = L.Records (record_line_of f g h line)
 abbrev pub listing : {N T R : Type 0} → (N → List ℕ) → (T → List (ℕ × N)) → (R → List (FieldOf N T)) →
     ListedBy (Bor (List ℕ)) (RecordLineOf N R) × Bor (List ℕ) → Listed × List ℕ
 listing f g h x = (listed_of f g h x.0, x.1.now)
-
--- A name, or that of an index.
-abbrev pub name_or_index : {N : Type 0} → (N → List ℕ) → ℕ → Option N → List ℕ
-name_or_index f kind None = index_name kind
-name_or_index f kind (Some name) = f name
 
 -- The row of a kind that a value in code represents.
 abbrev pub found_row : {N A : Type 0} → (N → List ℕ) → (A → Raw) → ℕ → Option N × A → Named Raw

@@ -8,7 +8,7 @@ ghost use Rattle.link_lines_raw.specs.Bodies.{text_or_none};
 ghost use Rattle.link_lines_raw.specs.Lines.{lines_text};
 ghost use Rattle.link_lines_raw.specs.Rows.{record_line_of};
 
-use crate::lists::{ListedBy, is_whole};
+use crate::lists::ListedBy;
 use crate::raw::{push_listed, push_record_line};
 use crate::raw_tables::{
     ACTIONS, ADDRESS, ADDRESS_LABEL, MPLS_ROUTE, MROUTE, MULTICAST, MULTICAST_GET, MULTICAST_SET,
@@ -22,6 +22,7 @@ use crate::records::{
     TUNNEL_MSG_LINE,
 };
 use crate::rows::RecordLine;
+use link_lines_lists::is_whole;
 use link_lines_values::{is_record, record_size};
 use std::alloc::AllocError;
 

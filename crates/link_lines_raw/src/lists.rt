@@ -5,8 +5,7 @@ ghost use Rattle.netlink_packet_core_grammar.specs.Attributes.{first_attribute};
 ghost use Rattle.link_interpreter.specs.Sameness.{attribute_of};
 ghost use Rattle.link_lines_values.specs.Records.{fields_of};
 ghost use Rattle.link_lines_raw.specs.Attributes.{are_next_hops_after, are_records_after, encapsulation};
-ghost use Rattle.link_lines_raw.specs.Attributes.{encapsulation_table, has_byte_order_bit, has_nested_bit};
-ghost use Rattle.link_lines_raw.specs.Attributes.{is_first_record, is_hop_of, is_next_hop, is_padded, is_type, is_whole, type_after};
+ghost use Rattle.link_lines_raw.specs.Attributes.{encapsulation_table, is_first_record, is_hop_of, is_next_hop, is_type, type_after};
 ghost use Rattle.link_lines_raw.specs.Lists.{first_part};
 ghost use Rattle.link_lines_raw.specs.Views.{listed_of};
 
@@ -17,17 +16,12 @@ use crate::raw_tables::{
 use crate::records::RTNEXTHOP;
 use crate::rows::RecordLine;
 use link_interpreter::{Attribute, KIND_BOUND, first_attribute};
-use link_lines_values::{Field, is_record, is_zero, record_size};
+use link_lines_lists::{has_byte_order_bit, is_whole};
+use link_lines_values::{Field, is_record, record_size};
 use netlink_packet_core_attributes::view::read_u16;
 
 /// The size in bytes of the struct at the start of a next hop (rtnetlink.h: struct rtnexthop).
 pub(crate) const NEXT_HOP_LEN: usize = 8;
-
-/// The flag bit of a kind that holds attributes (netlink.h: NLA_F_NESTED).
-const NESTED_BIT: u16 = 0x8000;
-
-/// The flag bit of a kind that holds a big-endian number (netlink.h: NLA_F_NET_BYTEORDER).
-const BYTE_ORDER_BIT: u16 = 0x4000;
 
 /// What is listed, with bytes of type `B` and records of type `L`.
 #[derive(Clone, Copy)]
@@ -42,48 +36,6 @@ pub enum ListedBy<B, L> {
 
 /// What is listed.
 pub type Listed<'a> = ListedBy<&'a [u8], RecordLine>;
-
-/// Returns whether a kind has the flag bit NLA_F_NESTED.
-pub(crate) fn has_nested_bit(kind: u16) -> bool
-    ensures { result ≡ has_nested_bit kind }
-{
-    kind / NESTED_BIT % 2 == 1
-}
-
-/// Returns whether a kind has the flag bit NLA_F_NET_BYTEORDER.
-pub(crate) fn has_byte_order_bit(kind: u16) -> bool
-    ensures { result ≡ has_byte_order_bit kind }
-{
-    kind / BYTE_ORDER_BIT % 2 == 1
-}
-
-/// Returns whether the attribute of this length at the start of the bytes is followed by its whole
-/// padding, all zeros.
-#[tactic(auto, using(crate::proofs::Whole::cut_part))]
-fn is_padded(size: usize, bytes: &[u8]) -> bool
-    requires { size ≤ length bytes.now }
-    ensures { result ≡ is_padded size bytes.now }
-{
-    let end = (size + 3) / 4 * 4;
-    end <= bytes.len() && is_zero(&bytes[size..end])
-}
-
-/// Returns whether the bytes are attributes up to the end, each with its padding of zeros.
-pub(crate) fn is_whole(bytes: &[u8]) -> bool
-    ensures { result ≡ is_whole bytes.now }
-{
-    let mut rest = bytes;
-    while !rest.is_empty() {
-        let Some((attribute, after)) = first_attribute(rest) else {
-            return false;
-        };
-        if !is_padded(4 + attribute.payload.len(), rest) {
-            return false;
-        }
-        rest = after;
-    }
-    true
-}
 
 /// Returns whether an attribute is the type of an encapsulation, in an attribute of this kind.
 fn is_type(kind: u16, attribute: Attribute<'_>) -> bool

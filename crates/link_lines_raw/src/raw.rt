@@ -5,7 +5,7 @@ ghost use Rattle.link_interpreter.specs.Sameness.{attribute_of};
 ghost use Rattle.link_lines_values.specs.DenseRows.{are_dense, find};
 ghost use Rattle.link_lines_values.specs.Indents.{indent};
 ghost use Rattle.link_lines_values.specs.Records.{fields_of, total_size};
-ghost use Rattle.link_lines_raw.specs.Attributes.{after_name, holds_lines, index_name, indexed_row, is_headed, nested_word, plain_bytes};
+ghost use Rattle.link_lines_raw.specs.Attributes.{after_name, holds_lines, indexed_row, is_headed, plain_bytes};
 ghost use Rattle.link_lines_raw.specs.Attributes.{proper_row, raw_row, raw_text, record_words, unnamed_text};
 ghost use Rattle.link_lines_raw.specs.Lines.{line_text, lines_text};
 ghost use Rattle.link_lines_raw.specs.Lists.{head_of, head_text, held_lines, is_part, listed_in, listed_lines, named_head, named_list};
@@ -13,11 +13,10 @@ ghost use Rattle.link_lines_raw.specs.Lists.{part_list, part_with_head, raw_belo
 ghost use Rattle.link_lines_raw.specs.Names.{named_of};
 ghost use Rattle.link_lines_raw.specs.Rows.{raw_of, raw_rows_in_code, record_line_of};
 ghost use Rattle.link_lines_raw.specs.Tables.{raw_rows_of};
-ghost use Rattle.link_lines_raw.specs.Views.{found_row, listed_of, listing, name_or_index};
+ghost use Rattle.link_lines_raw.specs.Views.{found_row, listed_of, listing};
 
 use crate::lists::{
     Listed, ListedBy, NEXT_HOP_LEN, are_next_hops, are_records, encapsulation, first_part,
-    has_byte_order_bit, has_nested_bit, is_whole,
 };
 use crate::raw_tables::{
     ACTION, ADDRESS, BRIDGE, CFM, INDEXED_ACTION, INDEXED_IPV4, INDEXED_IPV6, MULTICAST, NEIGHBOUR,
@@ -30,9 +29,10 @@ use crate::{
     traffic_rows,
 };
 use link_interpreter::{Attribute, KIND_BOUND};
+use link_lines_lists::{has_byte_order_bit, is_whole, push_kind_name};
 use link_lines_values::{
-    ExactBy, ShownBy, is_record, look_up, push_bytes, push_decimal, push_four_digits,
-    push_header_fields, push_indent, push_raw_value, record_size,
+    ExactBy, ShownBy, is_record, look_up, push_bytes, push_four_digits, push_header_fields,
+    push_indent, push_raw_value, record_size,
 };
 use std::alloc::AllocError;
 
@@ -246,31 +246,6 @@ pub(crate) fn push_after_name<'a>(
     }
     out.extend_from_slice(b"\n")?;
     open_lines(level, raw, list, payload, out)
-}
-
-/// Appends the name of a kind, or its index in brackets, and the word ` nested` if the kind has the
-/// nested bit.
-fn push_kind_name(name: Option<&[u8]>, kind: u16, out: &mut Vec<u8>) -> Result<(), AllocError>
-    ensures ok { OnOk result (out.new.items ≡ out.old.items
-        ++ (name_or_index (λ b. b.now) (kind % 0x4000) name.entry ++ nested_word kind)) }
-{
-    match name {
-        Some(name) => out.extend_from_slice(name)?,
-        None => push_index_name(kind % KIND_BOUND, out)?,
-    }
-    if has_nested_bit(kind) {
-        out.extend_from_slice(b" nested")?;
-    }
-    Ok(())
-}
-
-/// Appends an index in brackets.
-fn push_index_name(index: u16, out: &mut Vec<u8>) -> Result<(), AllocError>
-    ensures ok { OnOk result (out.new.items ≡ out.old.items ++ index_name index) }
-{
-    out.extend_from_slice(b"[")?;
-    push_decimal(u64::from(index), out)?;
-    out.extend_from_slice(b"]")
 }
 
 /// Appends a raw attribute without a name, and ends the line: its kind as a number, and its bytes.

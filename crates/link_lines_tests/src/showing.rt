@@ -2,8 +2,8 @@
 //! implementation, `tools/oracle`.
 
 use link_lines::{
-    CaptureFault, DEFAULT_LIMIT, FaultKind, LineOptions, Omission, ShowOptions, SliceSource,
-    VecSink, show,
+    Buffers, CaptureFault, DEFAULT_LIMIT, FaultKind, LineOptions, Omission, ShowOptions,
+    ShownMessage, SliceSource, VecSink, push_selected_message, show, show_selected_bytes,
 };
 use std::test::Fail;
 
@@ -151,5 +151,44 @@ fn lines_without_an_attribute_and_indexes_are_shown(rt: HostRuntime) -> Result<(
     );
     assert!(rt; shown == Ok(true));
     assert!(rt; lines.bytes() == REMAINING_LINES);
+    Ok(())
+}
+
+#[test]
+fn selected_lines_of_bytes_are_appended(rt: HostRuntime) -> Result<(), Fail> {
+    let mut options = ShowOptions::from(LineOptions::default());
+    options.keep_going = true;
+    options.offsets = true;
+    let mut lines = Vec::new(rt.alloc());
+    let shown = show_selected_bytes(rt.alloc(), &REFUSED, DEFAULT_LIMIT, options, &mut lines);
+    assert!(rt; shown.is_err_and(|found| found.fault.offset == 16 && found.refusal.is_some()));
+    assert!(rt; lines.as_slice() == REFUSED_LINES);
+    Ok(())
+}
+
+#[test]
+fn selected_messages_are_appended_one_by_one(rt: HostRuntime) -> Result<(), Fail> {
+    let messages: [(&[u8], u64, bool); 3] = [
+        (&REFUSED[..16], 0, false),
+        (&REFUSED[16..56], 16, true),
+        (&REFUSED[56..], 56, false),
+    ];
+    let mut options = ShowOptions::from(LineOptions::default());
+    options.keep_going = true;
+    options.offsets = true;
+    let mut buffers = Buffers::new(rt.alloc());
+    let mut lines = Vec::new(rt.alloc());
+    for (message, offset, is_refused) in messages {
+        let shown = push_selected_message(
+            message,
+            offset,
+            DEFAULT_LIMIT,
+            options,
+            &mut buffers,
+            &mut lines,
+        )?;
+        assert!(rt; matches!(shown, ShownMessage::Faulty(FaultKind::Refused, 40)) == is_refused);
+    }
+    assert!(rt; lines.as_slice() == REFUSED_LINES);
     Ok(())
 }

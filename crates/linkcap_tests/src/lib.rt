@@ -11,6 +11,8 @@ mod devices;
 #[cfg(test)]
 mod fault_texts;
 #[cfg(test)]
+mod memory;
+#[cfg(test)]
 mod messages;
 #[cfg(test)]
 mod program;

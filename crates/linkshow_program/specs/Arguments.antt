@@ -90,151 +90,31 @@ defaults =
 
 -- Options with one more that has no value.
 abbrev pub with_flag : FlagOption → Settings → Settings
-with_flag Kernels o =
-    record {
-      limit = o.limit;
-      kernels = true;
-      without_numbers = o.without_numbers;
-      only = o.only;
-      link = o.link;
-      without = o.without;
-      offsets = o.offsets;
-      keep_going = o.keep_going;
-      json = o.json;
-      file = o.file;
-    }
-with_flag WithoutNumbers o =
-    record {
-      limit = o.limit;
-      kernels = o.kernels;
-      without_numbers = true;
-      only = o.only;
-      link = o.link;
-      without = o.without;
-      offsets = o.offsets;
-      keep_going = o.keep_going;
-      json = o.json;
-      file = o.file;
-    }
-with_flag Offsets o =
-    record {
-      limit = o.limit;
-      kernels = o.kernels;
-      without_numbers = o.without_numbers;
-      only = o.only;
-      link = o.link;
-      without = o.without;
-      offsets = true;
-      keep_going = o.keep_going;
-      json = o.json;
-      file = o.file;
-    }
-with_flag KeepGoing o =
-    record {
-      limit = o.limit;
-      kernels = o.kernels;
-      without_numbers = o.without_numbers;
-      only = o.only;
-      link = o.link;
-      without = o.without;
-      offsets = o.offsets;
-      keep_going = true;
-      json = o.json;
-      file = o.file;
-    }
-with_flag Json o =
-    record {
-      limit = o.limit;
-      kernels = o.kernels;
-      without_numbers = o.without_numbers;
-      only = o.only;
-      link = o.link;
-      without = o.without;
-      offsets = o.offsets;
-      keep_going = o.keep_going;
-      json = true;
-      file = o.file;
-    }
+with_flag Kernels o = record o { kernels = true }
+with_flag WithoutNumbers o = record o { without_numbers = true }
+with_flag Offsets o = record o { offsets = true }
+with_flag KeepGoing o = record o { keep_going = true }
+with_flag Json o = record o { json = true }
 
 -- Options with this limit.
 abbrev pub with_limit : ℕ → Settings → Settings
-with_limit n o =
-    record {
-      limit = n;
-      kernels = o.kernels;
-      without_numbers = o.without_numbers;
-      only = o.only;
-      link = o.link;
-      without = o.without;
-      offsets = o.offsets;
-      keep_going = o.keep_going;
-      json = o.json;
-      file = o.file;
-    }
+with_limit n o = record o { limit = n }
 
 -- Options that show only these types.
 abbrev pub with_only : List ℕ → Settings → Settings
-with_only types o =
-    record {
-      limit = o.limit;
-      kernels = o.kernels;
-      without_numbers = o.without_numbers;
-      only = Some types;
-      link = o.link;
-      without = o.without;
-      offsets = o.offsets;
-      keep_going = o.keep_going;
-      json = o.json;
-      file = o.file;
-    }
+with_only types o = record o { only = Some types }
 
 -- Options that show only messages about this link.
 abbrev pub with_link : List ℕ → Settings → Settings
-with_link word o =
-    record {
-      limit = o.limit;
-      kernels = o.kernels;
-      without_numbers = o.without_numbers;
-      only = o.only;
-      link = Some word;
-      without = o.without;
-      offsets = o.offsets;
-      keep_going = o.keep_going;
-      json = o.json;
-      file = o.file;
-    }
+with_link word o = record o { link = Some word }
 
 -- Options that leave this out.
 abbrev pub with_exclusion : Exclusion → Settings → Settings
-with_exclusion excluded o =
-    record {
-      limit = o.limit;
-      kernels = o.kernels;
-      without_numbers = o.without_numbers;
-      only = o.only;
-      link = o.link;
-      without = Some excluded;
-      offsets = o.offsets;
-      keep_going = o.keep_going;
-      json = o.json;
-      file = o.file;
-    }
+with_exclusion excluded o = record o { without = Some excluded }
 
 -- Options for the file of this name.
 abbrev pub of_file : List ℕ → Settings → Settings
-of_file name o =
-    record {
-      limit = o.limit;
-      kernels = o.kernels;
-      without_numbers = o.without_numbers;
-      only = o.only;
-      link = o.link;
-      without = o.without;
-      offsets = o.offsets;
-      keep_going = o.keep_going;
-      json = o.json;
-      file = Some name;
-    }
+of_file name o = record o { file = Some name }
 
 -- ---- faults
 

@@ -2,9 +2,9 @@ use Rattle.std.proofs.Common.{◌≡◌, None, sym, ap, ◌∙◌, arith, rules}
 use Rattle.std.proofs.lemmas.Bool.Decides.{nat_tests}
 use Rattle.std.specs.Prelude.{◌&&◌}
 use Rattle.netlink_packet_core_grammar.specs.Attributes.{Attribute, first_attribute}
-use Rattle.link_lines_raw.specs.Attributes.{is_whole}
-use Rattle.link_lines_raw.proofs.Whole.{whole_empty, whole_next, whole_none}
-use Rattle.link_lines_raw.proofs.lists.is_whole.Goals as goal
+use Rattle.link_lines_lists.specs.Whole.{is_whole}
+use Rattle.link_lines_lists.proofs.WholeLists.{whole_empty, whole_next, whole_none}
+use Rattle.link_lines_lists.proofs.whole.is_whole.Goals as goal
 
 pub returns-in_default : goal.returns-in_default
 returns-in_default c =

@@ -1,0 +1,2 @@
+pub mod KindNames
+pub mod Whole

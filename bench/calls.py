@@ -4,10 +4,12 @@
     bench/calls.py [MEGABYTES]
 
 MEGABYTES is 50 by default. The captures are those of the samples, and RTM_NEWLINK messages of 82, 1000 and 16,000 bytes.
-crates/capture_speed times the calls over bytes in memory; the programs read one file and write another. `same` compares the
-samples with themselves, with their normal text, and with a copy that has another sequence number in its last message. The
-programs take turns in five rounds, and the best of each counts: MB/s of one capture, 1 MB is 1,000,000 bytes. It builds
-nothing, and no gate runs it: no speed is promised.
+bench/calls.c times the calls over bytes in memory; the programs read one file and write another. `same` compares the samples
+with themselves, with their normal text, and with a copy that has another sequence number in its last message. The programs
+take turns in five rounds, and the best of each counts: MB/s of one capture, 1 MB is 1,000,000 bytes.
+
+It needs a C compiler `cc`, and crates/linkcap/out/linkcap. It takes the library of the folder LINKCAP_LIB_DIR, or builds it
+with bindings/c/build.sh. It builds nothing in the repository, and no gate runs it: no speed is promised.
 """
 import os
 import subprocess
@@ -17,7 +19,6 @@ import time
 
 TOP = os.path.join(os.path.dirname(os.path.abspath(__file__)), "..")
 NORM = os.path.join(TOP, "crates/linkcap/out/linkcap")
-SPEED = os.path.join(TOP, "crates/capture_speed/out/capture_speed")
 SAMPLES = ["get-veth", "notify-vrf", "get-veth", "notify-vrf", "req-veth"]
 LIMIT = "4294967295"
 ROUNDS = 5
@@ -48,19 +49,31 @@ def seconds(command, source, sink):
         return time.perf_counter() - begin
 
 
-def call_seconds(source, other=None):
-    """The seconds of one call of `check` and one of `same`, each the best of the rounds that capture_speed makes."""
+def build(work):
+    """The program of bench/calls.c."""
+    lib, calls = os.environ.get("LINKCAP_LIB_DIR"), os.path.join(work, "calls")
+    if not lib:
+        lib = os.path.join(work, "lib")
+        subprocess.run([os.path.join(TOP, "bindings/c/build.sh"), lib], check=True)
+    subprocess.run(["cc", "-O2", "-I", lib, "-o", calls, os.path.join(TOP, "bench/calls.c"), os.path.join(lib, "liblinkcap.a")],
+                   check=True)
+    return calls
+
+
+def call_seconds(calls, source, other=None):
+    """The seconds of one call of `check` and one of `same`, each the best of the rounds that bench/calls.c makes."""
     with open(source, "rb") as stdin:
-        process = subprocess.run([SPEED, *([other] if other else [])], stdin=stdin, stdout=subprocess.DEVNULL, stderr=subprocess.PIPE, check=True, text=True)
-    return {line.split()[0]: int(line.split()[1]) / 1e9 for line in process.stderr.splitlines()}
+        process = subprocess.run([calls, *([other] if other else [])], stdin=stdin, stdout=subprocess.PIPE, check=True, text=True)
+    return {call: int(nanoseconds) / 1e9 for call, nanoseconds in map(str.split, process.stdout.splitlines())}
 
 
 def main():
     megabytes = int(sys.argv[1]) if len(sys.argv) > 1 else 50
     os.sched_setaffinity(0, {max(os.sched_getaffinity(0))})
-    print("%-24s %8s %8s %8s %8s %8s %14s" % ("MB/s", "cat", "cmp", "norm", "check", "same", "check : norm"))
     with tempfile.TemporaryDirectory() as work:
         at = lambda name: os.path.join(work, name)
+        calls = build(work)
+        print("%-24s %8s %8s %8s %8s %8s %14s" % ("MB/s", "cat", "cmp", "norm", "check", "same", "check : norm"))
         for name, group in [("samples", samples())] + [("messages of %d" % n, messages(n)) for n in (82, 1000, 16000)]:
             capture = group * max(1, megabytes * 1000000 // len(group))
             for file in ("one", "copy"):
@@ -71,7 +84,7 @@ def main():
                     "cat": seconds(["cat"], at("one"), at("out")),
                     "cmp": seconds(["cmp", at("one"), at("copy")], os.devnull, os.devnull),
                     "norm": seconds([NORM, "norm", LIMIT], at("one"), at("text")),
-                    **call_seconds(at("one")),
+                    **call_seconds(calls, at("one")),
                 }
                 times = {program: min(time_, times.get(program, time_)) for program, time_ in round_times.items()}
             speed = {program: len(capture) / time_ / 1e6 for program, time_ in times.items()}
@@ -80,7 +93,7 @@ def main():
             if name == "samples":
                 open(at("last"), "wb").write(capture[:-len(group)] + change_last_frame(group))
                 for label, other in (("their normal text", "text"), ("another last message", "last")):
-                    best = min(call_seconds(at("one"), at(other))["same"] for _ in range(ROUNDS))
+                    best = min(call_seconds(calls, at("one"), at(other))["same"] for _ in range(ROUNDS))
                     print("%-24s %8s %8s %8s %8s %8.0f" % ("  same, " + label, "", "", "", "", len(capture) / best / 1e6))
 
 

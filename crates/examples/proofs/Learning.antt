@@ -7,7 +7,7 @@ use Rattle.std.specs.Map.{lookup}
 use Rattle.std.specs.Ordering.{nat_cmp}
 use Rattle.netlink_packet_core.specs.Attributes.{nla_align}
 use Rattle.netlink_packet_core.specs.NetlinkMessage.{NetlinkMessage}
-use Rattle.link_capture.specs.RouteLink.{RouteLink}
+use Rattle.link_capture.specs.declared.route.RouteLink.{RouteLink}
 use Rattle.link_capture.specs.Texts.{IsFirstMessage}
 use Rattle.examples.specs.declared.interfaces.Interface.{Interface}
 use Rattle.examples.specs.Interfaces.{AreMessages, Interfaces, Learns, LearnsAll}

@@ -2,3 +2,4 @@ pub mod Learning
 pub mod LegalRequests
 pub mod RequestFrames
 pub mod TextKeys
+pub mod MessageTexts

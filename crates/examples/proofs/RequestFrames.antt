@@ -31,7 +31,7 @@ use Rattle.link_capture.specs.Bodies.{body_text, body_text_under, ruled_text}
 use Rattle.link_capture.specs.Captures.{first_fault, shifted, texts}
 use Rattle.link_capture.specs.Laws.{CapturesAreCounted, FramesAreJudged}
 use Rattle.link_capture.specs.Routes.{route_entry}
-use Rattle.link_capture.specs.RouteLink.{RouteLink}
+use Rattle.link_capture.specs.declared.route.RouteLink.{RouteLink}
 use Rattle.examples.specs.declared.requests.RequestFault.{RequestFault}
 use Rattle.examples.specs.Requests.{request_text, new_link_text, IsNormal, NewLinksAreNormal, vxlan_attributes, vxlan_body, vxlan_info_text}
 

@@ -9,7 +9,7 @@ use Rattle.netlink_packet_core.specs.NetlinkPayload.{NetlinkPayload}
 use Rattle.netlink_packet_core.specs.NetlinkPayload.TheVariants.{InnerMessage}
 use Rattle.link_message.specs.LinkFlags.{LinkFlags}
 use Rattle.link_message.specs.LinkAttribute.{LinkAttribute}
-use Rattle.link_capture.specs.RouteLink.{RouteLink}
+use Rattle.link_capture.specs.declared.route.RouteLink.{RouteLink}
 use Rattle.link_capture.specs.Texts.{IsFirstMessage}
 use Rattle.link_capture.specs.Views.{readable_message}
 use Rattle.examples.specs.declared.interfaces.Interface.{Interface}

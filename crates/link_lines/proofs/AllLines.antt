@@ -1,7 +1,7 @@
 -- All lines of a message are shown.
 use Rattle.std.proofs.Common.{◌≡◌, ℕ, false, cond, List, [], ap, ◌∙◌}
 use Rattle.link_lines.specs.MessageLaws.{NothingOmittedKeepsAll}
-use Rattle.link_lines.specs.Remaining.{remaining_lines}
+use Rattle.link_lines_parts.specs.Remaining.{remaining_lines}
 use Rattle.link_lines.specs.MessageLines.{IsWhole, Selection, is_about_any, placed_lines, selected}
 
 pub all_selected : NothingOmittedKeepsAll → (o : Selection) → IsWhole o → (lines : List ℕ) → selected o lines ≡ lines

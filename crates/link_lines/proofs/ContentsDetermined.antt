@@ -9,7 +9,8 @@ use Rattle.link_capture_grammar.specs.declared.fault.FaultKind.{FaultKind}
 use Rattle.link_lines.specs.MessageLaws.{NothingOmittedKeepsAll}
 use Rattle.link_lines_texts.specs.Captures.{everything, text_lines}
 use Rattle.link_lines_texts.specs.Determination.{AcceptedFramesAreCanonical, FramesAreDetermined, StartsFrame}
-use Rattle.link_lines_texts.specs.Frames.{bytes_line, frame_lines}
+use Rattle.link_lines_texts.specs.Frames.{frame_lines}
+use Rattle.link_lines_parts.specs.BytesLines.{bytes_line}
 use Rattle.link_lines_texts.specs.Laws.{LinesDetermineTexts}
 use Rattle.link_lines_texts.proofs.CapturesDetermined.{frame_has_lines}
 use Rattle.link_lines.specs.MessageLaws.{Content, Content.Text, Content.Frame, LinesDetermineContents, MessagesUnfold, all_messages, contents}

@@ -15,7 +15,8 @@ use Rattle.link_capture_grammar.specs.declared.fault.FaultKind.TheVariants.{Cut,
 use Rattle.link_capture_grammar.proofs.Frames.{checked_header_by, frame_type-more}
 use Rattle.link_lines_texts.specs.declared.format.Scope.{Scope}
 use Rattle.link_lines_texts.specs.Determination.{IsCanonicalFrame, StartsFrame}
-use Rattle.link_lines_texts.specs.Frames.{body_lines, bytes_line, code_lines, frame_lines, has_request_flag, header_line, in_message, link_lines, other_lines}
+use Rattle.link_lines_texts.specs.Frames.{body_lines, code_lines, frame_lines, has_request_flag, header_line, in_message, link_lines, other_lines}
+use Rattle.link_lines_parts.specs.BytesLines.{bytes_line}
 use Rattle.link_lines_texts.specs.Links.{link_header_line, link_numbers}
 use Rattle.link_lines_texts.specs.Lists.{list_lines, of_link}
 use Rattle.link_lines_texts.proofs.FramesDetermined.{bytes_line_determined}

@@ -6,7 +6,7 @@ use Rattle.std.proofs.lemmas.Bool.{eqb-true, true≢false}
 use Rattle.std.proofs.lemmas.List.{append_cancel_right}
 use Rattle.link_lines_values.proofs.NumbersDetermined.{Digits, high}
 use Rattle.link_lines_texts.specs.Determination.{StartsFrame}
-use Rattle.link_lines_json.specs.Lines.{is_in_line}
+use Rattle.link_lines_parts.specs.Lines.{is_in_line}
 use Rattle.link_lines.specs.MessageLines.{located}
 use Rattle.link_lines.specs.Offsets.{with_offset}
 

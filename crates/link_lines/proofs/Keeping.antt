@@ -1,8 +1,8 @@
 -- All lines remain if nothing is left out.
 use Rattle.std.proofs.Common.{◌≡◌, ◌&&◌, ℕ, Bool, true, false, cond, refl, ap, ◌∙◌, List, [], ◌∷◌, ◌++◌, nat_lt, Option, Some, None}
 use Rattle.link_lines.specs.MessageLaws.{NothingOmittedKeepsAll}
-use Rattle.link_lines_json.specs.Lines.{level, is_in_line, lines_of, with_byte}
-use Rattle.link_lines.specs.Remaining.{line_text, nothing_omitted, remaining_after}
+use Rattle.link_lines_parts.specs.Lines.{level, is_in_line, lines_of, with_byte}
+use Rattle.link_lines_parts.specs.Remaining.{line_text, nothing_omitted, remaining_after}
 
 -- The text of some lines.
 abbrev joined : List (List ℕ) → List ℕ

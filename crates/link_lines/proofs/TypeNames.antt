@@ -3,7 +3,8 @@ use Rattle.std.proofs.Common.{◌≡◌, ℕ, ◌<◌, ◌^◌, Bool, true, fals
 use Rattle.std.specs.Prelude.{◌&&◌, nat_lt}
 use Rattle.std.specs.List.{list_all}
 use Rattle.std.proofs.lemmas.Bool.{ltb-true}
-use Rattle.link_lines_values.specs.Names.{Text, texts_of}
+use Rattle.link_lines_values.specs.Names.{Text}
+use Rattle.link_lines_values.specs.NumberTexts.{number_texts}
 use Rattle.link_lines_values.specs.declared.number_texts.TheConstants.{MESSAGE_TYPE}
 use Rattle.link_lines.specs.Types.{is_word_of, named_in, named_type}
 
@@ -12,8 +13,8 @@ use Rattle.link_lines.specs.Types.{is_word_of, named_in, named_type}
 are_small : List Text → Bool
 are_small rows = list_all (λ r. nat_lt r.0 65536) rows
 
-types_are_small : are_small (texts_of (λ name. name.now) MESSAGE_TYPE.now) ≡ true
-unfolding are_small
+types_are_small : are_small (number_texts MESSAGE_TYPE) ≡ true
+unfolding are_small number_texts
 types_are_small = refl
 
 both : (a b : Bool) → (a && b) ≡ true → (a ≡ true) × (b ≡ true)
@@ -34,4 +35,4 @@ small_in (r ∷ rows) w n s e =
 -- The type with a name is a number of two bytes.
 pub type_is_small : (w : List ℕ) (n : ℕ) → named_type w ≡ Some n → n < 2 ^ 16
 unfolding named_type
-type_is_small w n e = small_in (texts_of (λ name. name.now) MESSAGE_TYPE.now) w n types_are_small e
+type_is_small w n e = small_in (number_texts MESSAGE_TYPE) w n types_are_small e

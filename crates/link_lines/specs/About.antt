@@ -2,8 +2,8 @@
 use Rattle.std.specs.Prelude.{ℕ, ◌==◌, ◌&&◌, ◌||◌, Bool, false, codes, bytes_eq, List, [], ◌∷◌, ◌++◌, flat_map}
 use Rattle.std.specs.List.{list_any}
 use Rattle.link_lines_values.specs.Bytes.{escaped}
-use Rattle.link_lines_json.specs.Lines.{level, lines_of, words_of}
-use Rattle.link_lines.specs.Remaining.{is_header, is_index_field}
+use Rattle.link_lines_parts.specs.Lines.{level, lines_of, words_of}
+use Rattle.link_lines_parts.specs.Remaining.{is_header, is_index_field}
 
 -- A word as it is shown in quotes, and the end of its line.
 abbrev pub quoted_end : List ℕ → List ℕ

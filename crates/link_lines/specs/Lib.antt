@@ -1,7 +1,5 @@
-pub use Rattle.link_lines_json.specs.Lines
+pub use Rattle.link_lines_parts.specs.Lines
 pub use Rattle.link_lines_json.specs.Json
-pub mod Names
-pub mod Remaining
 pub mod About
 pub mod Offsets
 pub mod Messages

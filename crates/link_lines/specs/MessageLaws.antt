@@ -8,7 +8,7 @@ use Rattle.link_capture_grammar.specs.Captures.{first_frame, first_fault}
 use Rattle.link_capture_grammar.specs.declared.fault.CaptureFault.{CaptureFault}
 use Rattle.link_capture_grammar.specs.declared.fault.FaultKind.{FaultKind}
 use Rattle.link_lines_texts.specs.Captures.{Choice, everything, lines}
-use Rattle.link_lines.specs.Remaining.{nothing_omitted, remaining_lines}
+use Rattle.link_lines_parts.specs.Remaining.{nothing_omitted, remaining_lines}
 use Rattle.link_lines.specs.MessageLines.{Selection, shown}
 use Rattle.link_lines.specs.Messages.{Message, Message.Accepted, Message.Faulty, Message.Last, Report, first_report}
 use Rattle.link_lines.specs.Messages.{frame_of, frame_reason, is_of_body, messages, messages_at}

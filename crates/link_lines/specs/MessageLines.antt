@@ -10,10 +10,11 @@ use Rattle.link_capture_refusals.specs.Refusals.{Found, frame_refusal}
 use Rattle.link_capture_refusals.specs.RefusalTexts.{path_text}
 use Rattle.link_lines.specs.About.{is_about}
 use Rattle.link_lines.specs.Offsets.{with_offset}
-use Rattle.link_lines.specs.Remaining.{Omitted, nothing_omitted, remaining_lines}
+use Rattle.link_lines_parts.specs.Remaining.{Omitted, nothing_omitted, remaining_lines}
 use Rattle.link_lines_json.specs.Json.{json}
 use Rattle.link_lines_texts.specs.Captures.{Choice, is_chosen, text_lines}
-use Rattle.link_lines_texts.specs.Frames.{bytes_line, frame_lines}
+use Rattle.link_lines_texts.specs.Frames.{frame_lines}
+use Rattle.link_lines_parts.specs.BytesLines.{bytes_line}
 use Rattle.link_lines.specs.Messages.{Message, Message.Accepted, Message.Faulty, Message.Last, messages}
 
 -- What is shown of a capture: which types, and whether numbers; the link that messages have to be about, if one is

@@ -2,7 +2,7 @@
 use Rattle.std.specs.Prelude.{ℕ, List, ◌++◌, codes, take, drop}
 use Rattle.std.specs.Fmt.{decimal}
 use Rattle.std.specs.List.{prefix_len}
-use Rattle.link_lines_json.specs.Lines.{is_in_line}
+use Rattle.link_lines_parts.specs.Lines.{is_in_line}
 
 -- The lines of a message, with ` offset N` at the end of the first line.
 abbrev pub with_offset : ℕ → List ℕ → List ℕ

@@ -1,6 +1,6 @@
 -- The choice that options make.
 use Rattle.std.specs.Prelude.{ℕ, List, Option, not, option_map}
-use Rattle.link_lines.specs.Remaining.{omitted_of}
+use Rattle.link_lines_parts.specs.Remaining.{omitted_of}
 use Rattle.link_lines_texts.specs.Captures.{Choice}
 use Rattle.link_lines.specs.declared.options.LineOptions.{LineOptions}
 use Rattle.link_lines.specs.declared.options.ShowOptions.{ShowOptions}

@@ -4,7 +4,8 @@ use Rattle.std.specs.Prelude.{None, Some, Ok, Err, ◌++◌}
 use Rattle.std.specs.List.{after_first}
 use Rattle.std.specs.Str.{str_eq_ignore_ascii_case}
 use Rattle.std.specs.Str.Parse.{IsNumeral, digits_value}
-use Rattle.link_lines_values.specs.Names.{Text, texts_of}
+use Rattle.link_lines_values.specs.Names.{Text}
+use Rattle.link_lines_values.specs.NumberTexts.{number_texts}
 use Rattle.link_lines_values.specs.declared.number_texts.TheConstants.{MESSAGE_TYPE}
 use Rattle.link_lines.specs.Words.{Step, WordFault}
 
@@ -24,7 +25,7 @@ named_in (r ∷ rows) w = cond (is_word_of r.1 w) (Some r.0) (named_in rows w)
 
 -- The type with this name.
 unfoldable pub named_type : List ℕ → Option ℕ
-named_type w = named_in (texts_of (λ name. name.now) MESSAGE_TYPE.now) w
+named_type w = named_in (number_texts MESSAGE_TYPE) w
 
 -- One to five decimal digits of the number of a type.
 pub record IsTypeNumber (w : List ℕ) : Type 0 where

@@ -5,10 +5,9 @@ ghost use Rattle.std.specs.Fmt.{digit_glyph};
 ghost use Rattle.std.specs.List.{list_any};
 ghost use Rattle.link_lines_values.specs.Bytes.{escaped};
 ghost use Rattle.link_lines.specs.About.{has_index, is_about, is_index_line, is_name_line, quoted_end, second};
-ghost use Rattle.link_lines_json.specs.Lines.{lines_of, words_of};
+ghost use Rattle.link_lines_parts.specs.Lines.{lines_of, words_of};
 
-use crate::remaining::{is_header, is_index_field};
-use link_lines_json::{level, split_line, split_word};
+use link_lines_parts::{is_header, is_index_field, level, split_line, split_word};
 
 /// The digits of numbers in hex.
 const HEX_DIGITS: [u8; 16] = *b"0123456789abcdef";

@@ -11,7 +11,8 @@ ghost use Rattle.link_lines.specs.Messages.{frame_of, frame_reason, is_of_body};
 use crate::refused::ShowFault;
 use link_capture_grammar::fault::{CaptureFault, FaultKind};
 use link_capture_refusals::{Refusal, separator_after_name, why_frame};
-use link_lines_texts::{push_bytes_line, push_frame};
+use link_lines_parts::push_refused_body;
+use link_lines_texts::push_frame;
 use netlink_packet_core::{NETLINK_HEADER_LEN, NetlinkBuffer};
 use std::alloc::AllocError;
 
@@ -81,7 +82,7 @@ pub(crate) fn push_faulty(
 {
     push_frame(&frame[..NETLINK_HEADER_LEN], numbers, out)?;
     push_refusal_line(kind, frame, out)?;
-    push_bytes_line(b"body", &frame[NETLINK_HEADER_LEN..], out)
+    push_refused_body(frame, out)
 }
 
 /// Returns the first message, by the length in its header, without its padding.

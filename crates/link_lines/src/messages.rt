@@ -15,11 +15,11 @@ use crate::message_laws::{messages_unfold, nothing_omitted_keeps_all};
 use crate::offsets::push_with_offset;
 use crate::options::ShowOptions;
 use crate::refused::ShowFault;
-use crate::remaining::push_remaining;
 use link_capture_checks::{frame_len, push_frame as push_text};
 use link_capture_grammar::fault::FaultKind;
 use link_capture_grammar::laws::{frames_are_independent, frames_are_judged};
 use link_lines_json::push_json;
+use link_lines_parts::push_remaining;
 use netlink_packet_core::{NetlinkBuffer, nla_align};
 use std::alloc::{AllocError, Global};
 

@@ -3,7 +3,7 @@
 ghost use Rattle.std.specs.Prelude.{◌≡◌, ◌++◌, OnOk};
 ghost use Rattle.link_lines.specs.Offsets.{with_offset};
 
-use link_lines_json::line_len;
+use link_lines_parts::line_len;
 use link_lines_values::push_decimal;
 use std::alloc::AllocError;
 
@@ -12,7 +12,7 @@ use std::alloc::AllocError;
 /// # Errors
 ///
 /// `AllocError` if `out` can't grow; it may then have a part of the lines.
-#[tactic(auto, using(link_lines_json::proofs::FirstParts::prefix_within))]
+#[tactic(auto, using(link_lines_parts::proofs::FirstParts::prefix_within))]
 pub fn push_with_offset(lines: &[u8], offset: u64, out: &mut Vec<u8>) -> Result<(), AllocError>
     ensures ok { OnOk result (out.new.items ≡ out.old.items ++ with_offset offset lines.now) }
 {

@@ -7,7 +7,7 @@ ghost use Rattle.link_lines.specs.MessageLaws.{plain};
 ghost use Rattle.link_lines.specs.Options.{choice_of, selection_of, types_of};
 
 use crate::about::is_about;
-use crate::remaining::Omission;
+use link_lines_parts::Omission;
 
 /// The choice of what is shown of normal texts; by default everything.
 #[derive(Clone, Copy, Debug, Default, PartialEq, Eq, Drop)]

@@ -56,7 +56,7 @@ fn named_in(rows: &[NumberText], word: &[u8]) -> Option<u32>
 fn find_type(word: &[u8]) -> Option<u32>
     ensures { result ≡ named_type word.now }
 {
-    named_in(MESSAGE_TYPE, word)
+    named_in(MESSAGE_TYPE.texts(), word)
 }
 
 /// Returns the type with this name.

@@ -1,7 +1,7 @@
 -- The first word of a text, as a loop cuts it off.
 use Rattle.std.proofs.Common.{◌≡◌, ◌+◌, ◌≤◌, Bool, ℕ, suc, true, false, not, cond, refl, ap, ◌∙◌, List, [], ◌∷◌}
 use Rattle.std.proofs.Common.{take, drop, length, map, arith}
-use Rattle.link_lines_json.specs.Lines.{with_byte}
+use Rattle.link_lines_parts.specs.Lines.{with_byte}
 use Rattle.link_lines_json.specs.Tokens.{ends_word, next_region, tokens, without_space, word_size, words_in}
 use Rattle.link_lines_json.specs.declared.tokens.Region.{Region}
 use Rattle.link_lines_json.specs.declared.tokens.Region.TheVariants.{Word}

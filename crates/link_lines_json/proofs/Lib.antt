@@ -1,3 +1,2 @@
-pub mod FirstParts
 pub mod FirstTokens
 pub mod Steps

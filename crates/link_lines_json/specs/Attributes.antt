@@ -2,7 +2,8 @@
 use Rattle.std.specs.Prelude.{ℕ, ◌&&◌, nat_le, Bool, true, false, cond, List, [], ◌∷◌, ◌++◌, codes, flat_map}
 use Rattle.std.specs.Prelude.{bytes_eq, Some, None}
 use Rattle.std.specs.Fmt.{decimal}
-use Rattle.link_lines_json.specs.Names.{bytes_names, is_among, number_list_names}
+use Rattle.link_lines_json.specs.Names.{bytes_names, number_list_names}
+use Rattle.link_lines_parts.specs.Names.{is_among}
 use Rattle.link_lines_json.specs.Strings.{escaped, string}
 use Rattle.link_lines_json.specs.Tokens.{TermText}
 use Rattle.link_lines_json.specs.Values.{are_numbers, assignments_json, elements_json, fields_json, hex_value, is_assignment}

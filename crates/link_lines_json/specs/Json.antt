@@ -3,7 +3,7 @@ use Rattle.std.specs.Prelude.{ℕ, zero, suc, ◌+◌, ◌-◌, ◌==◌, ◌&&�
 use Rattle.std.specs.Prelude.{take, bytes_eq}
 use Rattle.std.specs.List.{prefix_len}
 use Rattle.link_lines_json.specs.Attributes.{entry_json, first_of, is_lower, terms_string}
-use Rattle.link_lines_json.specs.Lines.{after_first_word, first_word, is_in_line, level, lines_of}
+use Rattle.link_lines_parts.specs.Lines.{after_first_word, first_word, is_in_line, level, lines_of}
 use Rattle.link_lines_json.specs.Strings.{string}
 use Rattle.link_lines_json.specs.Tokens.{TermText, terms}
 use Rattle.link_lines_json.specs.Values.{fields_json, key, next_key, word_json}

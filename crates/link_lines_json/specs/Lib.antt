@@ -1,4 +1,3 @@
-pub mod Lines
 pub mod Tokens
 pub mod Names
 pub mod Strings

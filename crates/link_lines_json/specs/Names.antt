@@ -1,11 +1,6 @@
 -- Names at the start of lines.
-use Rattle.std.specs.Prelude.{ℕ, Bool, List, bytes_eq, map}
-use Rattle.std.specs.List.{list_any}
+use Rattle.std.specs.Prelude.{ℕ, List, map}
 use Rattle.link_lines_json.specs.declared.names.TheConstants.{BYTES, NUMBER_LISTS}
-
--- Whether a name is one of these.
-abbrev pub is_among : List (List ℕ) → List ℕ → Bool
-is_among names name = list_any (λ other. bytes_eq other name) names
 
 -- The attributes whose values are bytes in hex, which may look like numbers.
 unfoldable pub bytes_names : List (List ℕ)

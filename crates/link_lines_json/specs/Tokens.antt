@@ -1,7 +1,7 @@
 -- The words of a line, where a text in quotes or in brackets is one word, and the brackets after a word.
 use Rattle.std.specs.Prelude.{ℕ, ◌+◌, ◌-◌, ◌==◌, Bool, false, not, cond, List, [], ◌∷◌, length, take, drop, map}
 use Rattle.std.specs.Prelude.{Option, Some, None, option_map}
-use Rattle.link_lines_json.specs.Lines.{is_in_word, with_byte}
+use Rattle.link_lines_parts.specs.Lines.{is_in_word, with_byte}
 use Rattle.link_lines_json.specs.declared.tokens.Region.{Region}
 use Rattle.link_lines_json.specs.declared.tokens.Region.TheVariants.{Word, Quotes, Escape, Brackets}
 use Rattle.link_lines_json.specs.declared.tokens.Term.{Term}

@@ -3,7 +3,7 @@ use Rattle.std.specs.Prelude.{ℕ, ◌+◌, ◌-◌, ◌*◌, ◌%◌, ◌^◌, 
 use Rattle.std.specs.Prelude.{List, [], ◌∷◌, ◌++◌, codes, take, drop, map, flat_map, bytes_eq, Option, Some, None}
 use Rattle.std.specs.Fmt.{decimal}
 use Rattle.std.specs.List.{prefix_len, list_all}
-use Rattle.link_lines_json.specs.Lines.{words_of}
+use Rattle.link_lines_parts.specs.Lines.{words_of}
 use Rattle.link_lines_json.specs.Strings.{requoted, string}
 use Rattle.link_lines_json.specs.Tokens.{TermText}
 

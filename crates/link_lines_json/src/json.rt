@@ -5,18 +5,18 @@ ghost use Rattle.link_lines_json.specs.Json.{closing, ending, entry_depth, heade
 ghost use Rattle.link_lines_json.specs.Json.{line_json, lines_json, line_terms, member_json, next_entry, numbered_json};
 ghost use Rattle.link_lines_json.specs.Json.{open_after, opening, request_json, sized_json, struct_object};
 ghost use Rattle.link_lines_json.specs.Json.{typed_json, without_newline};
-ghost use Rattle.link_lines_json.specs.Lines.{after_first_word, lines_of};
+ghost use Rattle.link_lines_parts.specs.Lines.{after_first_word, lines_of};
 ghost use Rattle.link_lines_json.specs.Tokens.{terms};
 
 use crate::attributes::{first_of, is_lower, push_entry, push_terms_string};
-use crate::cuts::{first_word, level, line_len, line_words, split_line};
 use crate::strings::push_string;
 use crate::tokens::split_term;
 use crate::values::{push_fields, push_key, push_next_key, push_word};
+use link_lines_parts::{first_word, level, line_len, line_words, split_line};
 use std::alloc::AllocError;
 
 /// Returns what follows the first word of a line, without the newline.
-#[tactic(auto, using(crate::proofs::FirstParts::prefix_within))]
+#[tactic(auto, using(link_lines_parts::proofs::FirstParts::prefix_within))]
 fn after_first_word(line: &[u8]) -> &[u8]
     ensures { result.now ≡ without_newline (after_first_word line.now) }
 {

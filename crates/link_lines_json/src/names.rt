@@ -1,7 +1,10 @@
 //! Names of attributes whose values have a form of their own.
 
-ghost use Rattle.std.specs.Prelude.{◌≡◌, map};
-ghost use Rattle.link_lines_json.specs.Names.{bytes_names, is_among, number_list_names};
+ghost use Rattle.std.specs.Prelude.{◌≡◌};
+ghost use Rattle.link_lines_json.specs.Names.{bytes_names, number_list_names};
+ghost use Rattle.link_lines_parts.specs.Names.{is_among};
+
+use link_lines_parts::is_among;
 
 /// The attributes whose values are bytes in hex, which may look like numbers.
 pub const BYTES: &[&[u8]] = &[
@@ -85,18 +88,6 @@ pub const NUMBER_LISTS: &[&[u8]] = &[
     b"IFLA_CAN_XL_DATA_BITRATE_CONST",
     b"TCA_STAB_DATA",
 ];
-
-/// Returns whether a name is one of these.
-pub fn is_among(names: &[&[u8]], name: &[u8]) -> bool
-    ensures { result ≡ is_among (map (λ n. n.now) names.now) name.now }
-{
-    for other in names {
-        if *other == name {
-            return true;
-        }
-    }
-    false
-}
 
 /// Returns whether the values of attributes with this name are bytes in hex.
 #[tactic(auto, unfolding(crate::specs::Names::bytes_names))]

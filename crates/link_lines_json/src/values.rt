@@ -1,7 +1,7 @@
 //! Values and fields of lines as JSON.
 
 ghost use Rattle.std.specs.Prelude.{◌≡◌, ◌<◌, ◌++◌, false, [], drop, map, flat_map, option_map, OnOk};
-ghost use Rattle.link_lines_json.specs.Lines.{words_of};
+ghost use Rattle.link_lines_parts.specs.Lines.{words_of};
 ghost use Rattle.link_lines_json.specs.Tokens.{term_text, terms};
 ghost use Rattle.link_lines_json.specs.Values.{are_numbers, assignment_json, assignments_json, begins_with_equals_sign, elements_json, field_json};
 ghost use Rattle.link_lines_json.specs.Values.{fields_json};
@@ -11,9 +11,9 @@ ghost use Rattle.link_lines_json.specs.Values.{is_plain_number, is_quoted, key, 
 ghost use Rattle.link_lines_json.specs.Values.{text_json, value_json, with_digit, without_sign, word_json};
 ghost use Rattle.std.specs.List.{list_all, prefix_len};
 
-use crate::cuts::split_word;
 use crate::strings::{push_requoted, push_string};
 use crate::tokens::{Term, split_term};
+use link_lines_parts::split_word;
 use link_lines_values::push_decimal;
 use std::alloc::AllocError;
 
@@ -339,7 +339,7 @@ fn begins_with_equals_sign(text: &[u8]) -> bool
 }
 
 /// Returns whether a word is a field of a record, `name=value`.
-#[tactic(auto, using(crate::proofs::FirstParts::prefix_within), unfolding(crate::specs::Values::is_assignment))]
+#[tactic(auto, using(link_lines_parts::proofs::FirstParts::prefix_within), unfolding(crate::specs::Values::is_assignment))]
 pub(crate) fn is_assignment(word: &[u8]) -> bool
     ensures { result ≡ is_assignment word.now }
 {
@@ -348,7 +348,7 @@ pub(crate) fn is_assignment(word: &[u8]) -> bool
 }
 
 /// Appends a field of a record.
-#[tactic(auto, using(crate::proofs::FirstParts::prefix_within), unfolding(crate::specs::Values::assignment_json))]
+#[tactic(auto, using(link_lines_parts::proofs::FirstParts::prefix_within), unfolding(crate::specs::Values::assignment_json))]
 fn push_assignment(term: Term<'_>, out: &mut Vec<u8>) -> Result<(), AllocError>
     ensures ok { OnOk result (out.new.items ≡ out.old.items ++ assignment_json (term_text term.entry)) }
 {

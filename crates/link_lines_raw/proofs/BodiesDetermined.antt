@@ -9,6 +9,8 @@ use Rattle.netlink_packet_core_grammar.specs.Bytes.{AreBytes}
 use Rattle.netlink_packet_core_grammar.proofs.Bytes.{AreBytes-drop, AreBytes-take}
 use Rattle.link_lines_values.specs.Laws.{BeginsWithSpace, Ends}
 use Rattle.link_lines_values.specs.Records.{fields_text, is_record, total_size}
+use Rattle.link_lines_values.specs.Layouts.{layout_fields}
+use Rattle.link_lines_values.specs.NumberTexts.{number_texts}
 use Rattle.link_lines_values.proofs.ValuesDetermined.{both_parts}
 use Rattle.link_lines_raw.specs.declared.bodies.BodyRow.{BodyRow}
 use Rattle.link_lines_raw.specs.declared.bodies.Header.{Header}
@@ -41,7 +43,7 @@ is_header_determined line =
     is_line_determined line && (not (bytes_eq line.0 (codes "body")) && ((not (nat_lt 4 (total_size line.1)) || not (bytes_eq line.0 (header_line H.Rtgenmsg).0)) && nat_le 1 (total_size line.1)))
 
 headers_determined : (h : Header) → is_header_determined (header_line h) ≡ true
-unfolding header_line
+unfolding header_line layout_fields number_texts
 headers_determined H.Timestamp = refl
 headers_determined H.Ifaddrmsg = refl
 headers_determined H.Rtmsg = refl

@@ -8,6 +8,8 @@ use Rattle.netlink_packet_core_grammar.specs.Bytes.{AreBytes}
 use Rattle.netlink_packet_core_grammar.specs.Numbers.{u16_at}
 use Rattle.netlink_packet_core_grammar.proofs.Bytes.{AreBytes-drop, AreBytes-take}
 use Rattle.link_lines_values.specs.Records.{Field, is_record, total_size}
+use Rattle.link_lines_values.specs.Layouts.{layout_fields}
+use Rattle.link_lines_values.specs.NumberTexts.{number_texts}
 use Rattle.link_lines_values.proofs.ValuesDetermined.{both_parts}
 use Rattle.link_lines_raw.specs.declared.lists.ListedBy.TheVariants as L
 use Rattle.link_lines_raw.specs.declared.raw_tables.RawTable.{RawTable}
@@ -95,7 +97,7 @@ two_determined (x ∷ y ∷ p) (z ∷ w ∷ q) a b i j e =
     λ k. low k ∷ high k ∷ []
 
 next_hop_determined : is_line_determined next_hop_line ≡ true
-unfolding next_hop_line
+unfolding next_hop_line layout_fields number_texts
 next_hop_determined = refl
 
 -- Next hops whose structs and lists are equal are equal.

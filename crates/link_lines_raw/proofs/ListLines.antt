@@ -5,6 +5,8 @@ use Rattle.std.proofs.lemmas.Bool.{and_parts, leb-true}
 use Rattle.netlink_packet_core_grammar.specs.Attributes.{Attribute}
 use Rattle.link_lines_values.specs.Laws.{Ends, IsLine}
 use Rattle.link_lines_values.specs.Records.{fields_text, total_size}
+use Rattle.link_lines_values.specs.Layouts.{layout_fields}
+use Rattle.link_lines_values.specs.NumberTexts.{number_texts}
 use Rattle.link_lines_values.proofs.OneLine.{fields_are_lines, is_line_checked}
 use Rattle.link_lines_raw.specs.declared.lists.ListedBy.TheVariants as L
 use Rattle.link_lines_raw.specs.declared.raw_tables.RawTable.{RawTable}
@@ -124,7 +126,7 @@ heads_are_lines level None h = record {}
 heads_are_lines level (Some s) h = (h, record {})
 
 next_hop_determined : is_line_determined next_hop_line ≡ true
-unfolding next_hop_line
+unfolding next_hop_line layout_fields number_texts
 next_hop_determined = refl
 
 -- What is known of the lines of a part.

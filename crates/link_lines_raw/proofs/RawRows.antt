@@ -8,6 +8,8 @@ use Rattle.std.proofs.lemmas.Fmt.{decimal_injective}
 use Rattle.std.proofs.lemmas.List.{append_cancel_right}
 use Rattle.std.proofs.lemmas.Option.{same_Some}
 use Rattle.link_lines_values.specs.DenseRows.{find}
+use Rattle.link_lines_values.specs.Layouts.{layout_fields}
+use Rattle.link_lines_values.specs.NumberTexts.{number_texts}
 use Rattle.link_lines_values.proofs.NumbersDetermined.{high}
 use Rattle.link_lines_raw.specs.declared.raw_tables.RawTable.{RawTable}
 use Rattle.link_lines_raw.specs.declared.raw_tables.TheConstants.{INDEXED_ACTION, INDEXED_IPV4, INDEXED_IPV6}
@@ -24,7 +26,7 @@ use Rattle.link_lines_raw.proofs.Words.{IsWord, Starts}
 -- ---- each table
 
 pub tables_determined : RawTablesAreDetermined
-unfolding link_rows kind_rows bridge_rows cfm_rows route_rows neighbour_rows traffic_rows multicast_rows
+unfolding link_rows kind_rows bridge_rows cfm_rows route_rows neighbour_rows traffic_rows multicast_rows layout_fields number_texts
 tables_determined = refl
 
 all_at : (f : List (NameRowOf Raw) → Bool) (n : ℕ) (ts : List (List (NameRowOf Raw))) → f [] ≡ true → list_all f ts ≡ true → f (get_or ts n []) ≡ true

@@ -10,9 +10,9 @@ use Rattle.netlink_packet_core_grammar.proofs.Attributes.{sized}
 use Rattle.netlink_packet_core_grammar.proofs.Bytes.{AreBytes-first_attribute}
 use Rattle.attribute_tables_grammar.proofs.AlreadyCanonical.{canonical_lists_unfold}
 use Rattle.link_lines_values.specs.Bytes.{is_zero}
-pub use Rattle.link_lines_lists.proofs.WholeLists.{cut_part, rest_is}
-use Rattle.link_lines_lists.proofs.WholeLists.{step}
-use Rattle.link_lines_lists.specs.Whole.{is_padded, is_whole}
+pub use Rattle.link_lines_parts.proofs.WholeLists.{cut_part, rest_is}
+use Rattle.link_lines_parts.proofs.WholeLists.{step}
+use Rattle.link_lines_parts.specs.Whole.{is_padded, is_whole}
 use Rattle.link_lines_raw.specs.Laws.{IsEncodable}
 
 -- Attributes whose kinds have 2 bytes, and whose payloads consist of bytes.

@@ -11,8 +11,8 @@ use Rattle.link_lines_values.specs.DenseRows.{find}
 use Rattle.link_lines_values.specs.Exact.{raw_value}
 use Rattle.link_lines_values.specs.Records.{Field, fields_text, is_record, total_size}
 use Rattle.link_lines_values.specs.declared.values.ShownBy.TheVariants as V
-pub use Rattle.link_lines_lists.specs.KindNames.{has_byte_order_bit, has_nested_bit, index_name, nested_word}
-pub use Rattle.link_lines_lists.specs.Whole.{is_padded, is_whole, is_whole_after, is_whole_attribute, padded_length}
+pub use Rattle.link_lines_parts.specs.KindNames.{has_byte_order_bit, has_nested_bit, index_name, nested_word}
+pub use Rattle.link_lines_parts.specs.Whole.{is_padded, is_whole, is_whole_after, is_whole_attribute, padded_length}
 use Rattle.link_lines_raw.specs.declared.raw_tables.RawTable.{RawTable}
 use Rattle.link_lines_raw.specs.declared.raw_tables.TheConstants.{ACTION, ENCAP_BPF, ENCAP_ILA, ENCAP_IOAM6, ENCAP_IP}
 use Rattle.link_lines_raw.specs.declared.raw_tables.TheConstants.{ENCAP_IP6, ENCAP_MPLS, ENCAP_RPL, ENCAP_SEG6}
@@ -90,7 +90,7 @@ is_known (Some table) = true
 
 -- The record of a next hop's line.
 unfoldable pub next_hop_line : RecordLine
-next_hop_line = record_line_of (λ n. n.now) (λ t. t.now) (λ r. r.now) RTNEXTHOP_LINE
+next_hop_line = record_line_of (λ n. n.now) RTNEXTHOP_LINE
 
 -- The line of a record: its word, and its fields.
 abbrev pub record_words : RecordLine → List ℕ → List ℕ

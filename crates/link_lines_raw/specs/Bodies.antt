@@ -21,24 +21,24 @@ use Rattle.link_lines_raw.specs.Rows.{RecordLine, record_line_of}
 
 -- The record at the start of a body.
 unfoldable pub header_line : Header → RecordLine
-header_line H.Timestamp = record_line_of (λ n. n.now) (λ t. t.now) (λ r. r.now) TIMESTAMP_LINE
-header_line H.Ifaddrmsg = record_line_of (λ n. n.now) (λ t. t.now) (λ r. r.now) IFADDRMSG_LINE
-header_line H.Rtmsg = record_line_of (λ n. n.now) (λ t. t.now) (λ r. r.now) RTMSG_LINE
-header_line H.Ndmsg = record_line_of (λ n. n.now) (λ t. t.now) (λ r. r.now) NDMSG_LINE
-header_line H.FibRuleHdr = record_line_of (λ n. n.now) (λ t. t.now) (λ r. r.now) FIB_RULE_HDR_LINE
-header_line H.Tcmsg = record_line_of (λ n. n.now) (λ t. t.now) (λ r. r.now) TCMSG_LINE
-header_line H.TcmsgFilter = record_line_of (λ n. n.now) (λ t. t.now) (λ r. r.now) TCMSG_FILTER_LINE
-header_line H.Tcamsg = record_line_of (λ n. n.now) (λ t. t.now) (λ r. r.now) TCAMSG_LINE
-header_line H.Prefixmsg = record_line_of (λ n. n.now) (λ t. t.now) (λ r. r.now) PREFIXMSG_LINE
-header_line H.Ndtmsg = record_line_of (λ n. n.now) (λ t. t.now) (λ r. r.now) NDTMSG_LINE
-header_line H.Ifaddrlblmsg = record_line_of (λ n. n.now) (λ t. t.now) (λ r. r.now) IFADDRLBLMSG_LINE
-header_line H.Netconfmsg = record_line_of (λ n. n.now) (λ t. t.now) (λ r. r.now) NETCONFMSG_LINE
-header_line H.BrPortMsg = record_line_of (λ n. n.now) (λ t. t.now) (λ r. r.now) BR_PORT_MSG_LINE
-header_line H.Rtgenmsg = record_line_of (λ n. n.now) (λ t. t.now) (λ r. r.now) RTGENMSG_LINE
-header_line H.IfStatsMsg = record_line_of (λ n. n.now) (λ t. t.now) (λ r. r.now) IF_STATS_MSG_LINE
-header_line H.Nhmsg = record_line_of (λ n. n.now) (λ t. t.now) (λ r. r.now) NHMSG_LINE
-header_line H.BrVlanMsg = record_line_of (λ n. n.now) (λ t. t.now) (λ r. r.now) BR_VLAN_MSG_LINE
-header_line H.TunnelMsg = record_line_of (λ n. n.now) (λ t. t.now) (λ r. r.now) TUNNEL_MSG_LINE
+header_line H.Timestamp = record_line_of (λ n. n.now) TIMESTAMP_LINE
+header_line H.Ifaddrmsg = record_line_of (λ n. n.now) IFADDRMSG_LINE
+header_line H.Rtmsg = record_line_of (λ n. n.now) RTMSG_LINE
+header_line H.Ndmsg = record_line_of (λ n. n.now) NDMSG_LINE
+header_line H.FibRuleHdr = record_line_of (λ n. n.now) FIB_RULE_HDR_LINE
+header_line H.Tcmsg = record_line_of (λ n. n.now) TCMSG_LINE
+header_line H.TcmsgFilter = record_line_of (λ n. n.now) TCMSG_FILTER_LINE
+header_line H.Tcamsg = record_line_of (λ n. n.now) TCAMSG_LINE
+header_line H.Prefixmsg = record_line_of (λ n. n.now) PREFIXMSG_LINE
+header_line H.Ndtmsg = record_line_of (λ n. n.now) NDTMSG_LINE
+header_line H.Ifaddrlblmsg = record_line_of (λ n. n.now) IFADDRLBLMSG_LINE
+header_line H.Netconfmsg = record_line_of (λ n. n.now) NETCONFMSG_LINE
+header_line H.BrPortMsg = record_line_of (λ n. n.now) BR_PORT_MSG_LINE
+header_line H.Rtgenmsg = record_line_of (λ n. n.now) RTGENMSG_LINE
+header_line H.IfStatsMsg = record_line_of (λ n. n.now) IF_STATS_MSG_LINE
+header_line H.Nhmsg = record_line_of (λ n. n.now) NHMSG_LINE
+header_line H.BrVlanMsg = record_line_of (λ n. n.now) BR_VLAN_MSG_LINE
+header_line H.TunnelMsg = record_line_of (λ n. n.now) TUNNEL_MSG_LINE
 
 -- Whether two booleans are equal.
 abbrev pub is_same : Bool → Bool → Bool

@@ -69,14 +69,14 @@ use Rattle.link_lines_raw.specs.declared.raw_tables.TheConstants.{TRAFFIC_CONTRO
 -- Rows of lists in link messages: each table's, in the order of their indexes.
 unfoldable pub link_rows : List (List (NameRowOf Raw))
 link_rows =
-    map (λ b. raw_rows_in_code (λ n. n.now) (λ t. t.now) (λ r. r.now) b.now)
+    map (λ b. raw_rows_in_code (λ n. n.now) b.now)
     (LINK_ROWS ∷ DEVLINK_PORT_ROWS ∷ GRE_ROWS ∷ GRE6_ROWS ∷ GENEVE_ROWS ∷ XFRM_ROWS ∷ NETKIT_ROWS ∷ VF_ROWS ∷
     PORT_ROWS ∷ FAMILY_SPECIFIC_ROWS ∷ INET_ROWS ∷ INET6_ROWS ∷ MCTP_ROWS ∷ [])
 
 -- Rows of lists that depend on the kind of a link or of a port: each table's, in the order of their indexes.
 unfoldable pub kind_rows : List (List (NameRowOf Raw))
 kind_rows =
-    map (λ b. raw_rows_in_code (λ n. n.now) (λ t. t.now) (λ r. r.now) b.now)
+    map (λ b. raw_rows_in_code (λ n. n.now) b.now)
     (VLAN_ROWS ∷ VLAN_QOS_ROWS ∷ BOND_ROWS ∷ AD_INFO_ROWS ∷ INDEXED_IPV4_ROWS ∷ INDEXED_IPV6_ROWS ∷
     BOND_PORT_ROWS ∷ TUN_ROWS ∷ CAN_ROWS ∷ CAN_TDC_ROWS ∷ CAN_CTRLMODE_EXT_ROWS ∷ CAN_PWM_ROWS ∷ HSR_ROWS ∷
     DSA_ROWS ∷ [])
@@ -84,7 +84,7 @@ kind_rows =
 -- Rows of lists about bridges and their ports: each table's, in the order of their indexes.
 unfoldable pub bridge_rows : List (List (NameRowOf Raw))
 bridge_rows =
-    map (λ b. raw_rows_in_code (λ n. n.now) (λ t. t.now) (λ r. r.now) b.now)
+    map (λ b. raw_rows_in_code (λ n. n.now) b.now)
     (BRIDGE_ROWS ∷ QUERIER_STATE_ROWS ∷ BRIDGE_PORT_ROWS ∷ BRIDGE_SPECIFIC_ROWS ∷ VLAN_TUNNEL_ROWS ∷ MST_ROWS ∷
     MST_ENTRY_ROWS ∷ MRP_ROWS ∷ MRP_INSTANCE_ROWS ∷ MRP_PORT_STATE_ROWS ∷ MRP_PORT_ROLE_ROWS ∷
     MRP_RING_STATE_ROWS ∷ MRP_RING_ROLE_ROWS ∷ MRP_START_TEST_ROWS ∷ MRP_INFO_ROWS ∷ MRP_IN_STATE_ROWS ∷
@@ -93,14 +93,14 @@ bridge_rows =
 -- Rows of lists about the fault management of bridges: each table's, in the order of their indexes.
 unfoldable pub cfm_rows : List (List (NameRowOf Raw))
 cfm_rows =
-    map (λ b. raw_rows_in_code (λ n. n.now) (λ t. t.now) (λ r. r.now) b.now)
+    map (λ b. raw_rows_in_code (λ n. n.now) b.now)
     (CFM_ROWS ∷ CFM_MEP_CREATE_ROWS ∷ CFM_MEP_DELETE_ROWS ∷ CFM_MEP_CONFIG_ROWS ∷ CFM_CC_CONFIG_ROWS ∷
     CFM_CC_PEER_MEP_ROWS ∷ CFM_CC_RDI_ROWS ∷ CFM_CC_CCM_TX_ROWS ∷ CFM_MEP_STATUS_ROWS ∷ CFM_CC_PEER_STATUS_ROWS ∷ [])
 
 -- Rows of lists in messages about addresses and routes: each table's, in the order of their indexes.
 unfoldable pub route_rows : List (List (NameRowOf Raw))
 route_rows =
-    map (λ b. raw_rows_in_code (λ n. n.now) (λ t. t.now) (λ r. r.now) b.now)
+    map (λ b. raw_rows_in_code (λ n. n.now) b.now)
     (ADDRESS_ROWS ∷ ROUTE_ROWS ∷ MPLS_ROUTE_ROWS ∷ MROUTE_ROWS ∷ ROUTE_METRICS_ROWS ∷ ENCAP_MPLS_ROWS ∷
     ENCAP_IP_ROWS ∷ ENCAP_ILA_ROWS ∷ ENCAP_IP6_ROWS ∷ ENCAP_SEG6_ROWS ∷ ENCAP_BPF_ROWS ∷ ENCAP_SEG6_LOCAL_ROWS ∷
     ENCAP_RPL_ROWS ∷ ENCAP_IOAM6_ROWS ∷ ENCAP_XFRM_ROWS ∷ TUNNEL_OPTIONS_ROWS ∷ GENEVE_OPTION_ROWS ∷
@@ -111,7 +111,7 @@ route_rows =
 -- indexes.
 unfoldable pub neighbour_rows : List (List (NameRowOf Raw))
 neighbour_rows =
-    map (λ b. raw_rows_in_code (λ n. n.now) (λ t. t.now) (λ r. r.now) b.now)
+    map (λ b. raw_rows_in_code (λ n. n.now) b.now)
     (NEIGHBOUR_ROWS ∷ FORWARDING_ENTRY_ROWS ∷ RULE_ROWS ∷ PREFIX_ROWS ∷ NEIGHBOUR_TABLE_ROWS ∷
     NEIGHBOUR_TABLE_PARAMETERS_ROWS ∷ ADDRESS_LABEL_ROWS ∷ NEXTHOP_ROWS ∷ RESILIENT_GROUP_ROWS ∷
     RESILIENT_BUCKET_ROWS ∷ GROUP_STATISTICS_ROWS ∷ GROUP_STATISTICS_ENTRY_ROWS ∷ NETCONF_ROWS ∷ NAMESPACE_ROWS ∷ [])
@@ -119,7 +119,7 @@ neighbour_rows =
 -- Rows of lists in messages about traffic control and statistics: each table's, in the order of their indexes.
 unfoldable pub traffic_rows : List (List (NameRowOf Raw))
 traffic_rows =
-    map (λ b. raw_rows_in_code (λ n. n.now) (λ t. t.now) (λ r. r.now) b.now)
+    map (λ b. raw_rows_in_code (λ n. n.now) b.now)
     (TRAFFIC_CONTROL_ROWS ∷ TRAFFIC_CONTROL_STATISTICS_ROWS ∷ SIZE_TABLE_ROWS ∷ ACTIONS_ROWS ∷
     INDEXED_ACTION_ROWS ∷ ACTION_ROWS ∷ STATISTICS_ROWS ∷ STATISTICS_REQUEST_ROWS ∷ STATISTICS_FILTERS_ROWS ∷
     XSTATS_ROWS ∷ BRIDGE_XSTATS_ROWS ∷ BOND_XSTATS_ROWS ∷ BOND_3AD_STAT_ROWS ∷ OFFLOAD_XSTATS_ROWS ∷
@@ -128,7 +128,7 @@ traffic_rows =
 -- Rows of lists in messages about multicast groups, VLANs and tunnels: each table's, in the order of their indexes.
 unfoldable pub multicast_rows : List (List (NameRowOf Raw))
 multicast_rows =
-    map (λ b. raw_rows_in_code (λ n. n.now) (λ t. t.now) (λ r. r.now) b.now)
+    map (λ b. raw_rows_in_code (λ n. n.now) b.now)
     (MULTICAST_ROWS ∷ MULTICAST_GROUPS_ROWS ∷ MULTICAST_GROUP_ROWS ∷ MULTICAST_ENTRY_ROWS ∷
     MULTICAST_SOURCES_ROWS ∷ MULTICAST_SOURCE_ROWS ∷ MULTICAST_ROUTERS_ROWS ∷ MULTICAST_ROUTER_ROWS ∷
     MULTICAST_SET_ROWS ∷ MULTICAST_GET_ROWS ∷ MULTICAST_ATTRIBUTES_ROWS ∷ MULTICAST_SET_SOURCES_ROWS ∷

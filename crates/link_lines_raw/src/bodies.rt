@@ -22,7 +22,7 @@ use crate::records::{
     TUNNEL_MSG_LINE,
 };
 use crate::rows::RecordLine;
-use link_lines_lists::is_whole;
+use link_lines_parts::is_whole;
 use link_lines_values::{is_record, record_size};
 use std::alloc::AllocError;
 
@@ -108,7 +108,7 @@ pub const BODIES: &[BodyRow] = &[
 /// out each reference in a constant.
 #[tactic(auto, unfolding(crate::specs::Bodies::header_line))]
 fn header_line(header: Header) -> RecordLine
-    ensures { record_line_of (λ b. b.now) (λ t. t.now) (λ r. r.now) result ≡ header_line header }
+    ensures { record_line_of (λ b. b.now) result ≡ header_line header }
 {
     match header {
         Timestamp => TIMESTAMP_LINE,
@@ -194,14 +194,14 @@ fn is_list_of(table: Option<RawTable>, bytes: &[u8]) -> bool
 /// Returns whether bytes are a record and the attributes after it.
 fn is_record_and_list(line: RecordLine, table: Option<RawTable>, bytes: &[u8]) -> bool
     ensures { result ≡ is_record_and_list
-        (record_line_of (λ b. b.now) (λ t. t.now) (λ r. r.now) line.entry) table bytes.now }
+        (record_line_of (λ b. b.now) line.entry) table bytes.now }
 {
-    let size = record_size(line.1);
+    let size = record_size(line.1.fields());
     if bytes.len() < size {
         return false;
     }
     let (head, rest) = bytes.split_at(size);
-    is_record(line.1, head) && is_list_of(table, rest)
+    is_record(line.1.fields(), head) && is_list_of(table, rest)
 }
 
 /// Appends the lines of attributes after a record, if there is a table of them.
@@ -225,14 +225,14 @@ fn push_record_and_list(
 ) -> Result<bool, AllocError>
     requires { length bytes.now + 1 < 2 ^ 63 }
     ensures ok { OnOk result (out.new.items ≡ out.old.items ++ text_or_none (record_and_list
-        (record_line_of (λ b. b.now) (λ t. t.now) (λ r. r.now) line.entry) table bytes.now)) }
+        (record_line_of (λ b. b.now) line.entry) table bytes.now)) }
     ensures shown { IfOk result (λ is_shown. is_shown ≡ has_lines (record_and_list
-        (record_line_of (λ b. b.now) (λ t. t.now) (λ r. r.now) line.entry) table bytes.now)) }
+        (record_line_of (λ b. b.now) line.entry) table bytes.now)) }
 {
     if !is_record_and_list(line, table, bytes) {
         return Ok(false);
     }
-    let (head, rest) = bytes.split_at(record_size(line.1));
+    let (head, rest) = bytes.split_at(record_size(line.1.fields()));
     push_record_line(1, line, head, out)?;
     push_list_of(table, rest, out)?;
     Ok(true)
@@ -241,9 +241,9 @@ fn push_record_and_list(
 /// Returns whether a body is only the general record, though its row has a longer one.
 fn is_general(message_type: u16, line: RecordLine, body: &[u8]) -> bool
     ensures { result ≡ is_general message_type
-        (record_line_of (λ b. b.now) (λ t. t.now) (λ r. r.now) line.entry) body.now }
+        (record_line_of (λ b. b.now) line.entry) body.now }
 {
-    message_type % 4 == 2 && body.len() == 4 && record_size(line.1) > 4
+    message_type % 4 == 2 && body.len() == 4 && record_size(line.1.fields()) > 4
 }
 
 /// Appends the lines of the body of a message other than a link, if they determine every byte of it,

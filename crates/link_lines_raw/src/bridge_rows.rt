@@ -5,19 +5,20 @@ ghost use Rattle.link_lines_values.specs.DenseRows.{are_dense};
 ghost use Rattle.link_lines_raw.specs.Rows.{raw_rows_in_code};
 ghost use Rattle.link_lines_raw.specs.Tables.{bridge_rows};
 
-use crate::flags::{BR_BOOLOPT, BRIDGE_FLAGS, BRIDGE_VLAN_FLAGS};
-use crate::number_texts::{BR_STATE, BR_STP_MODE, BRIDGE_MODE};
 use crate::raw_rows_in;
 use crate::raw_tables::{
     CFM, MRP, MRP_IN_ROLE, MRP_IN_STATE, MRP_INFO, MRP_INSTANCE, MRP_PORT_ROLE, MRP_PORT_STATE,
     MRP_RING_ROLE, MRP_RING_STATE, MRP_START_IN_TEST, MRP_START_TEST, MST, MST_ENTRY,
     QUERIER_STATE, VLAN_TUNNEL,
 };
-use crate::records::BRIDGE_VLAN_INFO;
 use crate::rows::RawBy::{List, Value};
 use crate::rows::RawRow;
 use link_lines_values::ExactBy::{BridgeId, Bytes, Number, Record, Sized};
 use link_lines_values::ShownBy::{BigEndian, Flags, FlagsAndMask, NamedFlags, Presence};
+use link_lines_values::bridge_texts::{
+    BR_BOOLOPT, BR_STATE, BR_STP_MODE, BRIDGE_FLAGS, BRIDGE_MODE, BRIDGE_VLAN_FLAGS,
+};
+use link_lines_values::device_layouts::BRIDGE_VLAN_INFO;
 use link_lines_values::{ETHERNET_PROTOCOL, ShownBy};
 
 /// Data of `bridge` (if_link.h: IFLA_BR_*).
@@ -259,7 +260,7 @@ pub const MRP_START_IN_TEST_ROWS: &[RawRow] = &raw_rows_in! {
 /// Returns the rows of a table, by its index from that of the first table here on.
 #[tactic(auto, unfolding(crate::specs::Tables::bridge_rows))]
 pub(crate) fn rows(index: u8) -> &'static [RawRow]
-    ensures rows { raw_rows_in_code (λ b. b.now) (λ t. t.now) (λ r. r.now) result.now ≡ get_or bridge_rows index [] }
+    ensures rows { raw_rows_in_code (λ b. b.now) result.now ≡ get_or bridge_rows index [] }
     ensures dense { are_dense result.now ≡ true }
 {
     match index {

@@ -5,19 +5,20 @@ ghost use Rattle.link_lines_values.specs.DenseRows.{are_dense};
 ghost use Rattle.link_lines_raw.specs.Rows.{raw_rows_in_code};
 ghost use Rattle.link_lines_raw.specs.Tables.{kind_rows};
 
-use crate::flags::{CAN_CTRLMODE_FLAGS, VLAN_FLAGS};
-use crate::number_texts::{CAN_STATE, HSR_PROTOCOL, TUN_TYPE};
 use crate::raw_rows_in;
 use crate::raw_tables::{
     AD_INFO, CAN_CTRLMODE_EXT, CAN_PWM, CAN_TDC, INDEXED_IPV4, INDEXED_IPV6, VLAN_QOS,
-};
-use crate::records::{
-    CAN_BERR_COUNTER, CAN_BITTIMING, CAN_BITTIMING_CONST, CAN_CTRLMODE, IFLA_VLAN_QOS_MAPPING,
 };
 use crate::rows::RawBy::{List, Value};
 use crate::rows::RawRow;
 use link_lines_values::ExactBy::{HardwareAddress, Number, Numbers, Record, Sized};
 use link_lines_values::ShownBy::{BigEndian, FlagsAndMask, NamedFlags, Signed};
+use link_lines_values::bridge_texts::{
+    CAN_CTRLMODE_FLAGS, CAN_STATE, HSR_PROTOCOL, TUN_TYPE, VLAN_FLAGS,
+};
+use link_lines_values::device_layouts::{
+    CAN_BERR_COUNTER, CAN_BITTIMING, CAN_BITTIMING_CONST, CAN_CTRLMODE, IFLA_VLAN_QOS_MAPPING,
+};
 use link_lines_values::{BOND_MODE, ETHERNET_PROTOCOL, PLAIN, ShownBy};
 
 /// Data of `vlan` (if_link.h: IFLA_VLAN_*).
@@ -193,7 +194,7 @@ pub const DSA_ROWS: &[RawRow] = &raw_rows_in! {
 /// Returns the rows of a table, by its index from that of the first table here on.
 #[tactic(auto, unfolding(crate::specs::Tables::kind_rows))]
 pub(crate) fn rows(index: u8) -> &'static [RawRow]
-    ensures rows { raw_rows_in_code (λ b. b.now) (λ t. t.now) (λ r. r.now) result.now ≡ get_or kind_rows index [] }
+    ensures rows { raw_rows_in_code (λ b. b.now) result.now ≡ get_or kind_rows index [] }
     ensures dense { are_dense result.now ≡ true }
 {
     match index {

@@ -5,7 +5,6 @@
 mod bodies;
 mod bridge_rows;
 mod cfm_rows;
-mod flags;
 mod kind_rows;
 pub mod laws;
 mod link_rows;
@@ -13,7 +12,6 @@ mod lists;
 mod multicast_rows;
 mod names;
 mod neighbour_rows;
-mod number_texts;
 mod raw;
 pub mod raw_tables;
 pub mod records;

@@ -5,14 +5,14 @@ ghost use Rattle.link_lines_values.specs.DenseRows.{are_dense};
 ghost use Rattle.link_lines_raw.specs.Rows.{raw_rows_in_code};
 ghost use Rattle.link_lines_raw.specs.Tables.{link_rows};
 
-use crate::number_texts::{NETKIT_PAIRING, PORT_REQUEST};
 use crate::raw_rows_in;
 use crate::raw_tables::{BRIDGE_SPECIFIC, INET, INET6, MCTP};
-use crate::records::{IFLA_PORT_VSI, IFLA_VF_GUID};
 use crate::rows::RawBy::{List, Value};
 use crate::rows::RawRow;
 use link_lines_values::ExactBy::{Bytes, Counters, Number, Record, Sized, Text, Uint};
 use link_lines_values::ShownBy::{BigEndian, Flags, PortRange, Presence, Signed};
+use link_lines_values::bridge_texts::{NETKIT_PAIRING, PORT_REQUEST};
+use link_lines_values::device_layouts::{IFLA_PORT_VSI, IFLA_VF_GUID};
 use link_lines_values::{
     CACHEINFO, ICMP6_STATS, IN6_ADDR_GEN_MODE, IP6_STATS, IPV4_DEVCONF, IPV6_DEVCONF_ALL,
     MCTP_PHYS_BINDING, PLAIN, ShownBy,
@@ -132,7 +132,7 @@ pub const MCTP_ROWS: &[RawRow] = &raw_rows_in! {
 /// Returns the rows of a table, by its index from that of the first table here on.
 #[tactic(auto, unfolding(crate::specs::Tables::link_rows))]
 pub(crate) fn rows(index: u8) -> &'static [RawRow]
-    ensures rows { raw_rows_in_code (λ b. b.now) (λ t. t.now) (λ r. r.now) result.now ≡ get_or link_rows index [] }
+    ensures rows { raw_rows_in_code (λ b. b.now) result.now ≡ get_or link_rows index [] }
     ensures dense { are_dense result.now ≡ true }
 {
     match index {

@@ -13,10 +13,10 @@ use crate::raw_tables::{
     ENCAP_BPF, ENCAP_ILA, ENCAP_IOAM6, ENCAP_IP, ENCAP_IP6, ENCAP_MPLS, ENCAP_RPL, ENCAP_SEG6,
     ENCAP_SEG6_LOCAL, ENCAP_XFRM, RawTable,
 };
-use crate::records::RTNEXTHOP;
 use crate::rows::RecordLine;
 use link_interpreter::{Attribute, KIND_BOUND, first_attribute};
-use link_lines_lists::{has_byte_order_bit, is_whole};
+use link_lines_parts::{has_byte_order_bit, is_whole};
+use link_lines_values::line_layouts::RTNEXTHOP;
 use link_lines_values::{Field, is_record, record_size};
 use netlink_packet_core_attributes::view::read_u16;
 
@@ -97,7 +97,7 @@ fn is_hop_of(size: usize, bytes: &[u8]) -> bool
     requires high { size ≤ length bytes.now }
     ensures { result ≡ is_hop_of size bytes.now }
 {
-    is_record(RTNEXTHOP, &bytes[2..NEXT_HOP_LEN]) && is_whole(&bytes[NEXT_HOP_LEN..size])
+    is_record(RTNEXTHOP.fields(), &bytes[2..NEXT_HOP_LEN]) && is_whole(&bytes[NEXT_HOP_LEN..size])
 }
 
 /// Returns whether bytes begin with a whole next hop.
@@ -131,7 +131,7 @@ pub(crate) fn are_next_hops(bytes: &[u8]) -> bool
 
 /// Returns whether bytes begin with a record that has these fields.
 fn is_first_record(fields: &[Field], bytes: &[u8]) -> bool
-    ensures { result ≡ is_first_record (fields_of (λ b. b.now) (λ t. t.now) fields.now) bytes.now }
+    ensures { result ≡ is_first_record (fields_of (λ b. b.now) fields.now) bytes.now }
 {
     let size = record_size(fields);
     1 <= size && size <= bytes.len() && is_record(fields, &bytes[..size])
@@ -139,7 +139,7 @@ fn is_first_record(fields: &[Field], bytes: &[u8]) -> bool
 
 /// Returns whether bytes are records with these fields up to the end.
 pub(crate) fn are_records(fields: &[Field], bytes: &[u8]) -> bool
-    ensures { result ≡ are_records_after (fields_of (λ b. b.now) (λ t. t.now) fields.now) 0 bytes.now }
+    ensures { result ≡ are_records_after (fields_of (λ b. b.now) fields.now) 0 bytes.now }
 {
     let size = record_size(fields);
     let mut rest = bytes;
@@ -171,7 +171,7 @@ pub(crate) fn first_part<'a>(
     listed: Listed<'_>,
     bytes: &'a [u8],
 ) -> Option<(Attribute<'a>, &'a [u8])>
-    ensures first { first_part (listed_of (λ b. b.now) (λ t. t.now) (λ r. r.now) listed.entry) bytes.now
+    ensures first { first_part (listed_of (λ b. b.now) listed.entry) bytes.now
         ≡ option_map (λ r. (attribute_of r.0, r.1.now)) result }
 {
     match listed {
@@ -179,8 +179,8 @@ pub(crate) fn first_part<'a>(
         ListedBy::NextHops(_) if is_next_hop(bytes) => {
             Some(first_bytes(read_u16(bytes, 0) as usize, bytes))
         }
-        ListedBy::Records(line) if is_first_record(line.1, bytes) => {
-            Some(first_bytes(record_size(line.1), bytes))
+        ListedBy::Records(line) if is_first_record(line.1.fields(), bytes) => {
+            Some(first_bytes(record_size(line.1.fields()), bytes))
         }
         _ => None,
     }

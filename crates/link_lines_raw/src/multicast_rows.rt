@@ -5,8 +5,6 @@ ghost use Rattle.link_lines_values.specs.DenseRows.{are_dense};
 ghost use Rattle.link_lines_raw.specs.Rows.{raw_rows_in_code};
 ghost use Rattle.link_lines_raw.specs.Tables.{multicast_rows};
 
-use crate::flags::VLANDB_DUMP_FLAGS;
-use crate::number_texts::{BR_STATE, MCAST_MODE, MDB_ROUTER_TYPE, RT_PROTOCOL};
 use crate::raw_rows_in;
 use crate::raw_tables::{
     MULTICAST, MULTICAST_ATTRIBUTES, MULTICAST_ENTRY, MULTICAST_GROUP, MULTICAST_GROUPS,
@@ -14,12 +12,15 @@ use crate::raw_tables::{
     MULTICAST_SOURCE, MULTICAST_SOURCES, QUERIER_STATE, VLAN_ENTRY, VLAN_GLOBAL_OPTIONS,
     VLAN_STATISTICS, VLAN_TUNNEL_INFO, VNIFILTER_ENTRY, VNIFILTER_STATS,
 };
-use crate::records::{BR_MDB_ENTRY_LINE, BRIDGE_VLAN_INFO, ROUTER_PORT_LINE};
+use crate::records::{BR_MDB_ENTRY_LINE, ROUTER_PORT_LINE};
 use crate::rows::RawBy::{Head, List, Records, Value};
 use crate::rows::RawRow;
 use link_lines_values::ExactBy::{Address, Bytes, Number, Record, Sized};
 use link_lines_values::ShownBy;
 use link_lines_values::ShownBy::NamedFlags;
+use link_lines_values::bridge_texts::{BR_STATE, MCAST_MODE, MDB_ROUTER_TYPE, VLANDB_DUMP_FLAGS};
+use link_lines_values::device_layouts::BRIDGE_VLAN_INFO;
+use link_lines_values::route_texts::RT_PROTOCOL;
 
 /// Multicast (if_bridge.h: MDBA_*).
 pub const MULTICAST_ROWS: &[RawRow] = &raw_rows_in! {
@@ -204,7 +205,7 @@ pub const VNIFILTER_STATS_ROWS: &[RawRow] = &raw_rows_in! {
 /// Returns the rows of a table, by its index from that of the first table here on.
 #[tactic(auto, unfolding(crate::specs::Tables::multicast_rows))]
 pub(crate) fn rows(index: u8) -> &'static [RawRow]
-    ensures rows { raw_rows_in_code (λ b. b.now) (λ t. t.now) (λ r. r.now) result.now ≡ get_or multicast_rows index [] }
+    ensures rows { raw_rows_in_code (λ b. b.now) result.now ≡ get_or multicast_rows index [] }
     ensures dense { are_dense result.now ≡ true }
 {
     match index {

@@ -5,25 +5,26 @@ ghost use Rattle.link_lines_values.specs.DenseRows.{are_dense};
 ghost use Rattle.link_lines_raw.specs.Rows.{raw_rows_in_code};
 ghost use Rattle.link_lines_raw.specs.Tables.{neighbour_rows};
 
-use crate::flags::{FDB_NOTIFY, NEIGH_FLAGS, NEIGH_FLAGS_EXT, NEIGH_STATE, NHA_OP_FLAGS};
-use crate::number_texts::{
-    ENCAP_TYPE, IP_PROTO, NETCONF_IFINDEX, NEXTHOP_GRP_TYPE, RT_PROTOCOL, RT_TABLE,
-};
 use crate::raw_rows_in;
 use crate::raw_tables::{
     FORWARDING_ENTRY, GROUP_STATISTICS, GROUP_STATISTICS_ENTRY, NEIGHBOUR_TABLE_PARAMETERS,
     RESILIENT_BUCKET, RESILIENT_GROUP,
 };
-use crate::records::{
-    FIB_RULE_PORT_RANGE, FIB_RULE_UID_RANGE, NDA_CACHEINFO, NDT_CONFIG, NDT_STATS,
-    NEXTHOP_GRP_LINE, PREFIX_CACHEINFO,
-};
+use crate::records::NEXTHOP_GRP_LINE;
 use crate::rows::RawBy::{Encapsulation, List, Records, Value};
 use crate::rows::RawRow;
 use link_lines_values::ExactBy::{
     Address, Bytes, Counters, HardwareAddress, Number, Record, Sized, Text, Uint,
 };
 use link_lines_values::ShownBy::{BigEndian, NamedFlags, Presence, Signed};
+use link_lines_values::neighbour_texts::{
+    FDB_NOTIFY, NEIGH_FLAGS, NEIGH_FLAGS_EXT, NEIGH_STATE, NETCONF_IFINDEX, NEXTHOP_GRP_TYPE,
+    NHA_OP_FLAGS,
+};
+use link_lines_values::route_layouts::{
+    FIB_RULE_PORT_RANGE, FIB_RULE_UID_RANGE, NDA_CACHEINFO, NDT_CONFIG, NDT_STATS, PREFIX_CACHEINFO,
+};
+use link_lines_values::route_texts::{ENCAP_TYPE, IP_PROTO, RT_PROTOCOL, RT_TABLE};
 use link_lines_values::{PLAIN, ShownBy};
 
 /// Neighbour (neighbour.h: NDA_*).
@@ -211,7 +212,7 @@ pub const NAMESPACE_ROWS: &[RawRow] = &raw_rows_in! {
 /// Returns the rows of a table, by its index from that of the first table here on.
 #[tactic(auto, unfolding(crate::specs::Tables::neighbour_rows))]
 pub(crate) fn rows(index: u8) -> &'static [RawRow]
-    ensures rows { raw_rows_in_code (λ b. b.now) (λ t. t.now) (λ r. r.now) result.now ≡ get_or neighbour_rows index [] }
+    ensures rows { raw_rows_in_code (λ b. b.now) result.now ≡ get_or neighbour_rows index [] }
     ensures dense { are_dense result.now ≡ true }
 {
     match index {

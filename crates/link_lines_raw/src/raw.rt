@@ -4,7 +4,8 @@ ghost use Rattle.std.specs.Prelude.{◌≡◌, ◌<◌, ◌+◌, ◌%◌, ◌^�
 ghost use Rattle.link_interpreter.specs.Sameness.{attribute_of};
 ghost use Rattle.link_lines_values.specs.DenseRows.{are_dense, find};
 ghost use Rattle.link_lines_values.specs.Indents.{indent};
-ghost use Rattle.link_lines_values.specs.Records.{fields_of, total_size};
+ghost use Rattle.link_lines_values.specs.Layouts.{layout_fields};
+ghost use Rattle.link_lines_values.specs.Records.{total_size};
 ghost use Rattle.link_lines_raw.specs.Attributes.{after_name, holds_lines, indexed_row, is_headed, plain_bytes};
 ghost use Rattle.link_lines_raw.specs.Attributes.{proper_row, raw_row, raw_text, record_words, unnamed_text};
 ghost use Rattle.link_lines_raw.specs.Lines.{line_text, lines_text};
@@ -29,7 +30,7 @@ use crate::{
     traffic_rows,
 };
 use link_interpreter::{Attribute, KIND_BOUND};
-use link_lines_lists::{has_byte_order_bit, is_whole, push_kind_name};
+use link_lines_parts::{has_byte_order_bit, is_whole, push_kind_name};
 use link_lines_values::{
     ExactBy, ShownBy, is_record, look_up, push_bytes, push_four_digits, push_header_fields,
     push_indent, push_raw_value, record_size,
@@ -39,7 +40,7 @@ use std::alloc::AllocError;
 /// Returns the rows of a table.
 #[tactic(auto, unfolding(crate::specs::Tables::raw_rows_of))]
 pub(crate) fn raw_rows(table: RawTable) -> &'static [RawRow]
-    ensures rows { raw_rows_in_code (λ b. b.now) (λ t. t.now) (λ r. r.now) result.now ≡ raw_rows_of table.0 }
+    ensures rows { raw_rows_in_code (λ b. b.now) result.now ≡ raw_rows_of table.0 }
     ensures dense { are_dense result.now ≡ true }
 {
     let index = table.0;
@@ -71,7 +72,7 @@ const ONE_ACTION: &Raw = &RawBy::List(ACTION);
 
 /// Returns what an attribute holds in a table in which each kind is an index.
 fn indexed_row(table: RawTable) -> Option<&'static Raw>
-    ensures { option_map (λ raw. raw_of (λ b. b.now) (λ t. t.now) (λ r. r.now) raw.now) result
+    ensures { option_map (λ raw. raw_of (λ b. b.now) raw.now) result
         ≡ indexed_row table }
 {
     const IPV4: u8 = INDEXED_IPV4.0;
@@ -91,7 +92,7 @@ type FoundRow = (Option<&'static [u8]>, &'static Raw);
 /// Returns the name of a kind without flag bits in a table, and what its payload holds.
 fn listed_row(table: RawTable, kind: u16) -> Option<&'static RawName>
     ensures { option_map
-        (λ row. named_of (λ b. b.now) (raw_of (λ b. b.now) (λ t. t.now) (λ r. r.now)) row.now) result
+        (λ row. named_of (λ b. b.now) (raw_of (λ b. b.now)) row.now) result
         ≡ find kind (raw_rows_of table.0) }
 {
     look_up(raw_rows(table), kind)
@@ -101,7 +102,7 @@ fn listed_row(table: RawTable, kind: u16) -> Option<&'static RawName>
 #[tactic(auto, unfolding(crate::specs::Attributes::proper_row))]
 fn proper_row(table: RawTable, kind: u16) -> Option<FoundRow>
     ensures { option_map (found_row (λ b. b.now)
-        (λ raw. raw_of (λ b. b.now) (λ t. t.now) (λ r. r.now) raw.now) kind) result
+        (λ raw. raw_of (λ b. b.now) raw.now) kind) result
         ≡ proper_row table kind }
 {
     if let Some((name, raw)) = listed_row(table, kind) {
@@ -117,7 +118,7 @@ fn proper_row(table: RawTable, kind: u16) -> Option<FoundRow>
 #[tactic(auto, unfolding(crate::specs::Attributes::raw_row))]
 fn raw_row(table: RawTable, kind: u16) -> Option<FoundRow>
     ensures { option_map (found_row (λ b. b.now)
-        (λ raw. raw_of (λ b. b.now) (λ t. t.now) (λ r. r.now) raw.now) (kind % 0x4000)) result
+        (λ raw. raw_of (λ b. b.now) raw.now) (kind % 0x4000)) result
         ≡ raw_row table kind }
 {
     if has_byte_order_bit(kind) {
@@ -129,7 +130,7 @@ fn raw_row(table: RawTable, kind: u16) -> Option<FoundRow>
 /// Returns whether a payload of a list, next hops or records is exactly that.
 fn holds_lines(raw: &Raw, list: &[u8], payload: &[u8]) -> bool
     ensures { result
-        ≡ holds_lines (raw_of (λ b. b.now) (λ t. t.now) (λ r. r.now) raw.now) list.now payload.now }
+        ≡ holds_lines (raw_of (λ b. b.now) raw.now) list.now payload.now }
 {
     match raw {
         RawBy::Value(_) => false,
@@ -137,27 +138,27 @@ fn holds_lines(raw: &Raw, list: &[u8], payload: &[u8]) -> bool
         RawBy::Encapsulation(kind) => encapsulation(*kind, list).is_some() && is_whole(payload),
         RawBy::Head(line, _) => starts_with_record(line, payload),
         RawBy::Hops(_) => are_next_hops(payload),
-        RawBy::Records(line) => are_records(line.1, payload),
+        RawBy::Records(line) => are_records(line.1.fields(), payload),
     }
 }
 
 /// Returns whether bytes are a record, followed by a whole list.
 fn starts_with_record(line: &RecordLine, bytes: &[u8]) -> bool
     ensures { result
-        ≡ is_headed (record_line_of (λ b. b.now) (λ t. t.now) (λ r. r.now) line.now) bytes.now }
+        ≡ is_headed (record_line_of (λ b. b.now) line.now) bytes.now }
 {
-    let size = record_size(line.1);
-    size <= bytes.len() && is_record(line.1, &bytes[..size]) && is_whole(&bytes[size..])
+    let size = record_size(line.1.fields());
+    size <= bytes.len() && is_record(line.1.fields(), &bytes[..size]) && is_whole(&bytes[size..])
 }
 
 /// Appends the word of a record and its fields.
 fn push_record_words(line: RecordLine, bytes: &[u8], out: &mut Vec<u8>) -> Result<(), AllocError>
-    requires { length bytes.now ≡ total_size (fields_of (λ b. b.now) (λ t. t.now) line.1.now) }
+    requires { length bytes.now ≡ total_size (layout_fields line.1) }
     ensures ok { OnOk result (out.new.items ≡ out.old.items
-        ++ record_words (record_line_of (λ b. b.now) (λ t. t.now) (λ r. r.now) line.entry) bytes.now) }
+        ++ record_words (record_line_of (λ b. b.now) line.entry) bytes.now) }
 {
     out.extend_from_slice(line.0)?;
-    push_header_fields(line.1, bytes, out)
+    push_header_fields(line.1.fields(), bytes, out)
 }
 
 /// Appends the line of a record at the start of bytes, at a level.
@@ -167,10 +168,10 @@ pub(crate) fn push_record_line(
     bytes: &[u8],
     out: &mut Vec<u8>,
 ) -> Result<(), AllocError>
-    requires { length bytes.now ≡ total_size (fields_of (λ b. b.now) (λ t. t.now) line.1.now) }
+    requires { length bytes.now ≡ total_size (layout_fields line.1) }
     ensures ok { OnOk result (out.new.items ≡ out.old.items ++ line_text (
       level,
-      record_words (record_line_of (λ b. b.now) (λ t. t.now) (λ r. r.now) line.entry) bytes.now,
+      record_words (record_line_of (λ b. b.now) line.entry) bytes.now,
     )) }
 {
     push_indent(level, out)?;
@@ -187,11 +188,11 @@ fn open_lines<'a>(
     payload: &'a [u8],
     out: &mut Vec<u8>,
 ) -> Result<Option<(Listed<'a>, &'a [u8])>, AllocError>
-    requires { holds_lines (raw_of (λ b. b.now) (λ t. t.now) (λ r. r.now) raw.now) list.now payload.now ≡ true }
+    requires { holds_lines (raw_of (λ b. b.now) raw.now) list.now payload.now ≡ true }
     ensures ok { OnOk result (out.new.items ≡ out.old.items
-        ++ head_text level (head_of (raw_of (λ b. b.now) (λ t. t.now) (λ r. r.now) raw.now) payload.now)) }
-    ensures list { IfOk result (λ found. option_map (listing (λ b. b.now) (λ t. t.now) (λ r. r.now)) found
-        ≡ listed_in (raw_of (λ b. b.now) (λ t. t.now) (λ r. r.now) raw.now) list.now payload.now) }
+        ++ head_text level (head_of (raw_of (λ b. b.now) raw.now) payload.now)) }
+    ensures list { IfOk result (λ found. option_map (listing (λ b. b.now)) found
+        ≡ listed_in (raw_of (λ b. b.now) raw.now) list.now payload.now) }
 {
     match raw {
         RawBy::Value(_) => Ok(None),
@@ -201,7 +202,7 @@ fn open_lines<'a>(
             None => Ok(None),
         },
         RawBy::Head(line, table) => {
-            let (head, rest) = payload.split_at(record_size(line.1));
+            let (head, rest) = payload.split_at(record_size(line.1.fields()));
             push_record_line(level, *line, head, out)?;
             Ok(Some((ListedBy::Attributes(*table, rest), rest)))
         }
@@ -230,10 +231,10 @@ pub(crate) fn push_after_name<'a>(
     out: &mut Vec<u8>,
 ) -> Result<Option<(Listed<'a>, &'a [u8])>, AllocError>
     ensures ok { OnOk result (out.new.items ≡ out.old.items
-        ++ (after_name (raw_of (λ b. b.now) (λ t. t.now) (λ r. r.now) raw.now) list.now payload.now
-        ++ 10 ∷ head_text level (shown_head (raw_of (λ b. b.now) (λ t. t.now) (λ r. r.now) raw.now) list.now payload.now))) }
-    ensures list { IfOk result (λ found. option_map (listing (λ b. b.now) (λ t. t.now) (λ r. r.now)) found
-        ≡ shown_list (raw_of (λ b. b.now) (λ t. t.now) (λ r. r.now) raw.now) list.now payload.now) }
+        ++ (after_name (raw_of (λ b. b.now) raw.now) list.now payload.now
+        ++ 10 ∷ head_text level (shown_head (raw_of (λ b. b.now) raw.now) list.now payload.now))) }
+    ensures list { IfOk result (λ found. option_map (listing (λ b. b.now)) found
+        ≡ shown_list (raw_of (λ b. b.now) raw.now) list.now payload.now) }
 {
     if let RawBy::Value(shown) = raw {
         push_raw_value(*shown, payload, out)?;
@@ -271,7 +272,7 @@ pub(crate) fn push_attribute<'a>(
 ) -> Result<Option<(Listed<'a>, &'a [u8])>, AllocError>
     ensures ok { OnOk result (out.new.items ≡ out.old.items ++ (raw_text table list.now (attribute_of attribute.entry)
         ++ 10 ∷ head_text level (named_head (raw_row table attribute.entry.kind) list.now (attribute_of attribute.entry)))) }
-    ensures list { IfOk result (λ found. option_map (listing (λ b. b.now) (λ t. t.now) (λ r. r.now)) found
+    ensures list { IfOk result (λ found. option_map (listing (λ b. b.now)) found
         ≡ named_list (raw_row table attribute.entry.kind) list.now (attribute_of attribute.entry)) }
 {
     match raw_row(table, attribute.kind) {
@@ -288,19 +289,19 @@ pub(crate) fn push_attribute<'a>(
 
 /// Appends the line of a part of what is listed, and the line of the record at the start of its
 /// payload one level deeper, if it has one. Returns what the part lists below.
-#[tactic(auto, unfolding(crate::specs::Lists::part_text, crate::specs::Lists::part_head, crate::specs::Lists::part_list, crate::specs::Attributes::next_hop_line))]
+#[tactic(auto, unfolding(crate::specs::Lists::part_text, crate::specs::Lists::part_head, crate::specs::Lists::part_list, crate::specs::Attributes::next_hop_line, link_lines_values::specs::Layouts::layout_fields))]
 fn push_part<'a>(
     level: usize,
     listed: Listed<'_>,
     part: Attribute<'a>,
     out: &mut Vec<u8>,
 ) -> Result<Option<(Listed<'a>, &'a [u8])>, AllocError>
-    requires part { is_part (listed_of (λ b. b.now) (λ t. t.now) (λ r. r.now) listed) part.payload.now ≡ true }
+    requires part { is_part (listed_of (λ b. b.now) listed) part.payload.now ≡ true }
     requires level { level < 2 ^ 63 }
     ensures ok { OnOk result (out.new.items ≡ out.old.items ++ part_with_head level
-        (listed_of (λ b. b.now) (λ t. t.now) (λ r. r.now) listed.entry) (attribute_of part.entry)) }
-    ensures list { IfOk result (λ found. option_map (listing (λ b. b.now) (λ t. t.now) (λ r. r.now)) found
-        ≡ part_list (listed_of (λ b. b.now) (λ t. t.now) (λ r. r.now) listed.entry) (attribute_of part.entry)) }
+        (listed_of (λ b. b.now) listed.entry) (attribute_of part.entry)) }
+    ensures list { IfOk result (λ found. option_map (listing (λ b. b.now)) found
+        ≡ part_list (listed_of (λ b. b.now) listed.entry) (attribute_of part.entry)) }
 {
     match listed {
         ListedBy::Attributes(table, list) => {
@@ -328,7 +329,7 @@ pub(crate) fn push_listed(
 ) -> Result<(), AllocError>
     requires { level + length bytes.now < 2 ^ 63 }
     ensures ok { OnOk result (out.new.items ≡ out.old.items ++ lines_text (listed_lines level
-        (listed_of (λ b. b.now) (λ t. t.now) (λ r. r.now) listed.entry) bytes.now)) }
+        (listed_of (λ b. b.now) listed.entry) bytes.now)) }
 {
     let mut rest = bytes;
     while let Some((part, after)) = first_part(listed, rest) {
@@ -378,8 +379,8 @@ pub fn push_held(
 ) -> Result<(), AllocError>
     requires { level + length payload.now < 2 ^ 63 }
     ensures ok { OnOk result (out.new.items ≡ out.old.items
-        ++ (after_name (raw_of (λ b. b.now) (λ t. t.now) (λ r. r.now) raw.now) [] payload.now
-        ++ 10 ∷ lines_text (held_lines level (raw_of (λ b. b.now) (λ t. t.now) (λ r. r.now) raw.now) payload.now))) }
+        ++ (after_name (raw_of (λ b. b.now) raw.now) [] payload.now
+        ++ 10 ∷ lines_text (held_lines level (raw_of (λ b. b.now) raw.now) payload.now))) }
 {
     match push_after_name(level, raw, &[], payload, out)? {
         Some((listed, list)) => push_listed(level, listed, list, out),

@@ -5,23 +5,22 @@ ghost use Rattle.link_lines_values.specs.DenseRows.{are_dense};
 ghost use Rattle.link_lines_raw.specs.Rows.{raw_rows_in_code};
 ghost use Rattle.link_lines_raw.specs.Tables.{route_rows};
 
-use crate::flags::{IFA_FLAGS, RTAX_FEATURES, RTAX_LOCK, SEG6_FLAVORS};
-use crate::number_texts::{
-    ENCAP_TYPE, IFA_PROTO, IOAM6_MODE, IP_PROTO, ROUTER_PREF, RT_DEL_REASON, RT_TABLE,
-    SEG6_LOCAL_ACTION,
-};
 use crate::raw_rows_in;
 use crate::raw_tables::{
     BPF_PROGRAM, ERSPAN_OPTION, GENEVE_OPTION, MPLS_ROUTE, MROUTE, ROUTE, ROUTE_METRICS,
     SEG6_LOCAL_BPF, SEG6_LOCAL_COUNTERS, SEG6_LOCAL_FLAVORS, TUNNEL_OPTIONS, VXLAN_OPTION,
 };
-use crate::records::{IFA_CACHEINFO, RTA_CACHEINFO, RTA_MFC_STATS};
 use crate::rows::RawBy::{Encapsulation, Hops, List, Value};
 use crate::rows::RawRow;
 use link_lines_values::ExactBy::{
     Address, Bytes, Counters, Labels, Number, Record, Sized, Text, Via,
 };
 use link_lines_values::ShownBy::{BigEndian, BigEndianFlags, NamedFlags, Signed};
+use link_lines_values::route_layouts::{IFA_CACHEINFO, RTA_CACHEINFO, RTA_MFC_STATS};
+use link_lines_values::route_texts::{
+    ENCAP_TYPE, IFA_FLAGS, IFA_PROTO, IOAM6_MODE, IP_PROTO, ROUTER_PREF, RT_DEL_REASON, RT_TABLE,
+    RTAX_FEATURES, RTAX_LOCK, SEG6_FLAVORS, SEG6_LOCAL_ACTION,
+};
 use link_lines_values::{ER_SPAN_DIR, PLAIN, ShownBy};
 
 /// Address (if_addr.h: IFA_*).
@@ -258,7 +257,7 @@ pub const SEG6_LOCAL_FLAVORS_ROWS: &[RawRow] = &raw_rows_in! {
 /// Returns the rows of a table, by its index from that of the first table here on.
 #[tactic(auto, unfolding(crate::specs::Tables::route_rows))]
 pub(crate) fn rows(index: u8) -> &'static [RawRow]
-    ensures rows { raw_rows_in_code (λ b. b.now) (λ t. t.now) (λ r. r.now) result.now ≡ get_or route_rows index [] }
+    ensures rows { raw_rows_in_code (λ b. b.now) result.now ≡ get_or route_rows index [] }
     ensures dense { are_dense result.now ≡ true }
 {
     match index {

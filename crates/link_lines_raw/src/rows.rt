@@ -2,14 +2,14 @@
 //! kernel's names of their kinds, and what their payloads hold.
 
 use crate::raw_tables::RawTable;
-use link_lines_values::{Exact, Fields};
+use link_lines_values::{Exact, Layout};
 
 /// A record that has a line of its own: the line's first word, and the record's fields.
 #[derive(Clone, Copy)]
 pub struct RecordLineOf<N, R>(pub N, pub R);
 
 /// A record that has a line of its own.
-pub type RecordLine = RecordLineOf<&'static [u8], Fields>;
+pub type RecordLine = RecordLineOf<&'static [u8], Layout>;
 
 /// What a raw attribute holds, with formats of values of type `X` and records of type `L`. A
 /// payload that isn't exactly that is shown as bytes.

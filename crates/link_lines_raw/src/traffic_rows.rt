@@ -5,23 +5,27 @@ ghost use Rattle.link_lines_values.specs.DenseRows.{are_dense};
 ghost use Rattle.link_lines_raw.specs.Rows.{raw_rows_in_code};
 ghost use Rattle.link_lines_raw.specs.Tables.{traffic_rows};
 
-use crate::flags::{TCA_ACT_FLAGS, TCA_ACT_HW_STATS, TCA_DUMP_FLAGS, TCA_ROOT_FLAGS};
 use crate::raw_rows_in;
 use crate::raw_tables::{
     BOND_3AD_STAT, BOND_XSTATS, BRIDGE_XSTATS, HW_S_INFO, HW_S_INFO_ENTRY, INDEXED_ACTION,
     MPLS_STATS, OFFLOAD_XSTATS, SIZE_TABLE, STATISTICS_FAMILIES, STATISTICS_FILTERS,
     TRAFFIC_CONTROL_STATISTICS, XSTATS,
 };
-use crate::records::{
-    BR_MCAST_STATS, BRIDGE_STP_XSTATS, BRIDGE_VLAN_XSTATS, GNET_STATS_BASIC, GNET_STATS_QUEUE,
-    GNET_STATS_RATE_EST, GNET_STATS_RATE_EST64, HW_STATS64, MPLS_LINK_STATS, TC_ESTIMATOR,
-    TC_SIZESPEC, TC_STATS,
-};
 use crate::rows::RawBy::{List, Value};
 use crate::rows::RawRow;
 use link_lines_values::ExactBy::{Bytes, Counters, Number, Numbers, Record, Sized, Text};
 use link_lines_values::STATS64;
 use link_lines_values::ShownBy::{Flags, FlagsAndMask, Presence};
+use link_lines_values::device_layouts::{
+    BR_MCAST_STATS, BRIDGE_STP_XSTATS, BRIDGE_VLAN_XSTATS, HW_STATS64, MPLS_LINK_STATS,
+};
+use link_lines_values::neighbour_texts::{
+    TCA_ACT_FLAGS, TCA_ACT_HW_STATS, TCA_DUMP_FLAGS, TCA_ROOT_FLAGS,
+};
+use link_lines_values::route_layouts::{
+    GNET_STATS_BASIC, GNET_STATS_QUEUE, GNET_STATS_RATE_EST, GNET_STATS_RATE_EST64, TC_ESTIMATOR,
+    TC_SIZESPEC, TC_STATS,
+};
 
 /// Traffic control (rtnetlink.h: TCA_*).
 pub const TRAFFIC_CONTROL_ROWS: &[RawRow] = &raw_rows_in! {
@@ -175,7 +179,7 @@ pub const MPLS_STATS_ROWS: &[RawRow] = &raw_rows_in! {
 /// Returns the rows of a table, by its index from that of the first table here on.
 #[tactic(auto, unfolding(crate::specs::Tables::traffic_rows))]
 pub(crate) fn rows(index: u8) -> &'static [RawRow]
-    ensures rows { raw_rows_in_code (λ b. b.now) (λ t. t.now) (λ r. r.now) result.now ≡ get_or traffic_rows index [] }
+    ensures rows { raw_rows_in_code (λ b. b.now) result.now ≡ get_or traffic_rows index [] }
     ensures dense { are_dense result.now ≡ true }
 {
     match index {

@@ -15,7 +15,8 @@ use Rattle.link_lines_values.specs.Values.{value_text}
 use Rattle.link_lines_values.proofs.BytesDetermined.{bytes_determined}
 use Rattle.link_lines_values.proofs.NumbersDetermined.{numbers_determined}
 use Rattle.link_lines_values.proofs.OneLine.{values_are_lines}
-use Rattle.link_lines_texts.specs.Frames.{after_code, bytes_line, body_lines, code_lines, frame_lines, has_request_flag, header_line, in_message, is_property_type, link_lines, or_bytes, other_lines, property_lines, request_line, type_text}
+use Rattle.link_lines_texts.specs.Frames.{after_code, body_lines, code_lines, frame_lines, has_request_flag, header_line, in_message, is_property_type, link_lines, or_bytes, other_lines, property_lines, request_line, type_text}
+use Rattle.link_lines_parts.specs.BytesLines.{bytes_line}
 use Rattle.link_lines_texts.specs.Format.{is_canonical_peer}
 use Rattle.link_lines_texts.specs.Links.{link_numbers}
 use Rattle.link_lines_texts.specs.Lists.{in_peer}

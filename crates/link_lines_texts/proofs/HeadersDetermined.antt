@@ -10,6 +10,7 @@ use Rattle.attribute_tables_grammar.specs.Shapes.{number}
 use Rattle.link_lines_values.specs.Flags.{named_flags}
 use Rattle.link_lines_values.specs.Names.{Text, text_in}
 use Rattle.link_lines_values.specs.Laws.{Ends}
+use Rattle.link_lines_values.specs.NumberTexts.{number_texts}
 use Rattle.link_lines_raw.specs.Names.{is_word}
 use Rattle.link_lines_texts.specs.Frames.{flag_names, header_line, message_types, numbers_text, or_number, request_line, type_text}
 use Rattle.link_lines_texts.specs.Links.{labelled}
@@ -69,7 +70,7 @@ text_is_name all (r ∷ rs) n h =
     (λ e. subst (λ k. IsName all k r.1) (sym (eqb-true n r.0 e)) (is_a_name all r.0 r.1 p.0)) (λ e. text_is_name all rs n p.1)
 
 type_names : are_names message_types message_types ≡ true
-unfolding message_types
+unfolding number_texts
 type_names = refl
 
 type_by : (all : List Text) (m n : ℕ) (x y s t : List ℕ) → IsName all m x → IsName all n y → m < 2 ^ 64 → n < 2 ^ 64 → Ends s → Ends t → or_number m x ++ s ≡ or_number n y ++ t → (m ≡ n) × (s ≡ t)

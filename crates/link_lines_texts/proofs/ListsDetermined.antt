@@ -15,6 +15,8 @@ use Rattle.link_lines_values.specs.Indents.{indent}
 use Rattle.link_lines_values.specs.Laws.{Ends, IsLine}
 use Rattle.link_lines_values.specs.Values.{value_text}
 use Rattle.link_lines_values.specs.declared.values.ShownBy.TheVariants.{Bytes}
+use Rattle.link_lines_values.specs.Layouts.{layout_fields}
+use Rattle.link_lines_values.specs.NumberTexts.{number_texts}
 use Rattle.link_lines_texts.specs.Format.{Inside, Inside.Value, Inside.Settings, Inside.Plain, Inside.Held, Inside.Peer, Inside.Data, Inside.Statistics, Inside.PortData, can_statistics, inside_held, is_canonical_peer, is_inside_on_a_line, known_inside, of_held, peer_inside, statistics_inside}
 use Rattle.link_tables.specs.InForce.{data_under, port_data_under}
 use Rattle.link_lines_raw.specs.declared.raw_tables.RawTable.{RawTable}
@@ -96,7 +98,7 @@ name_line None = refl
 name_line (Some h) = data_line h
 
 can_line : determines_raw can_statistics ≡ true
-unfolding can_statistics
+unfolding can_statistics layout_fields number_texts
 can_line = refl
 
 statistics_line : (o : Option (List ℕ)) → is_inside_on_a_line (statistics_inside o) ≡ true

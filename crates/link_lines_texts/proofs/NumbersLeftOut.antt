@@ -14,7 +14,8 @@ use Rattle.link_capture_numbers.proofs.ClearedCaptures.{following}
 use Rattle.link_lines_values.specs.declared.values.ShownBy.TheVariants.{Signed}
 use Rattle.link_lines_values.specs.Flags.{named_flags}
 use Rattle.link_lines_values.specs.Values.{value_text}
-use Rattle.link_lines_texts.specs.Frames.{after_code, body_lines, bytes_line, code_lines, flag_names, frame_lines, has_request_flag, header_line, request_line, type_text}
+use Rattle.link_lines_texts.specs.Frames.{after_code, body_lines, code_lines, flag_names, frame_lines, has_request_flag, header_line, request_line, type_text}
+use Rattle.link_lines_parts.specs.BytesLines.{bytes_line}
 use Rattle.link_lines_texts.specs.Links.{labelled}
 use Rattle.link_lines_texts.specs.Captures.{is_frame, text_lines, without_numbers}
 use Rattle.link_lines_texts.proofs.FrameUnfolding as Lines

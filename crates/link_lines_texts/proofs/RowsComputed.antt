@@ -5,6 +5,8 @@ use Rattle.attribute_tables_grammar.specs.Lists.{any}
 use Rattle.attribute_tables_grammar.specs.Tables.{Payload}
 use Rattle.link_message_grammar.specs.LinkMessage.{unspec, bridge, inet_6, other, link_table}
 use Rattle.link_message_grammar.specs.NestedTables.{resized}
+use Rattle.link_lines_values.specs.Layouts.{layout_fields}
+use Rattle.link_lines_values.specs.NumberTexts.{number_texts}
 use Rattle.link_lines_texts.specs.Format.{Inside.Nested}
 use Rattle.link_lines_raw.specs.Names.{all_named_rows, has_name, names_apart}
 use Rattle.link_lines_raw.specs.Tables.{bridge_rows, kind_rows, link_rows as raw_link_rows, raw_rows_of}
@@ -15,19 +17,19 @@ use Rattle.link_tables.specs.declared.table.TheConstants.{LINK_BRIDGE, LINK_INET
 use Rattle.link_lines_texts.specs.AttributeNames.{data_names, info_attribute_names, link_rows, link_names, nested_names, family_names, attribute_name_of, attribute_names_of}
 
 unspec_is_determined : holds_shown (Payload.list any (link_table unspec)) (Some (Nested LINK_UNSPEC)) ≡ true
-unfolding attribute_name_of attribute_names_of nested_names link_names family_names link_rows info_attribute_names data_names resized
+unfolding attribute_name_of attribute_names_of nested_names link_names family_names link_rows info_attribute_names data_names resized layout_fields number_texts
 unspec_is_determined = refl
 
 bridge_is_determined : holds_shown (Payload.list any (link_table bridge)) (Some (Nested LINK_BRIDGE)) ≡ true
-unfolding attribute_name_of attribute_names_of nested_names link_names family_names link_rows info_attribute_names data_names resized
+unfolding attribute_name_of attribute_names_of nested_names link_names family_names link_rows info_attribute_names data_names resized layout_fields number_texts
 bridge_is_determined = refl
 
 inet6_is_determined : holds_shown (Payload.list any (link_table inet_6)) (Some (Nested LINK_INET6)) ≡ true
-unfolding attribute_name_of attribute_names_of nested_names link_names family_names link_rows info_attribute_names data_names resized
+unfolding attribute_name_of attribute_names_of nested_names link_names family_names link_rows info_attribute_names data_names resized layout_fields number_texts
 inet6_is_determined = refl
 
 other_is_determined : holds_shown (Payload.list any (link_table other)) (Some (Nested LINK_OTHER)) ≡ true
-unfolding attribute_name_of attribute_names_of nested_names link_names family_names link_rows info_attribute_names data_names resized
+unfolding attribute_name_of attribute_names_of nested_names link_names family_names link_rows info_attribute_names data_names resized layout_fields number_texts
 other_is_determined = refl
 
 pub all_are_named : in_each (all_named_rows has_name) ≡ true
@@ -35,7 +37,7 @@ unfolding nested_names link_names family_names link_rows info_attribute_names da
 all_are_named = refl
 
 pub all_on_lines : in_each (all_named_rows has_line) ≡ true
-unfolding nested_names link_names family_names link_rows info_attribute_names data_names
+unfolding nested_names link_names family_names link_rows info_attribute_names data_names layout_fields number_texts
 all_on_lines = refl
 
 pub info_is_named : all_named_rows is_info_kind (attribute_names_of LINK_INFO.0) ≡ true

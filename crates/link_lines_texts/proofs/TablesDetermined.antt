@@ -16,6 +16,8 @@ use Rattle.attribute_tables_grammar.specs.Peers.{Peer, peer_rule}
 use Rattle.attribute_tables_grammar.specs.Tables.{Payload, Table, Names, info_next, info_row, lacks_name, named, names_grammar, row_in, row_in_force, rule}
 use Rattle.link_lines_values.specs.declared.values.ShownBy.TheVariants as V
 use Rattle.link_lines_values.specs.Values.{Shown}
+use Rattle.link_lines_values.specs.Layouts.{layout_fields}
+use Rattle.link_lines_values.specs.NumberTexts.{number_texts}
 use Rattle.link_lines_raw.specs.Coverage.{determines_raw}
 use Rattle.link_lines_raw.specs.Rows.{Raw as Kept}
 use Rattle.link_lines_raw.proofs.RawDetermined.{held_payloads_determined}
@@ -172,7 +174,7 @@ force_typed None f = refl
 force_typed (Some n) f = refl
 
 can_determined : determines_raw can_statistics ≡ true
-unfolding can_statistics
+unfolding can_statistics layout_fields number_texts
 can_determined = refl
 
 force_statistics : (bound : ℕ) (scope : Scope) (o : Option (List ℕ)) → InsideDetermined bound scope (row_in_force o (λ n. shape_rule raw)).rule (λ p. statistics_inside o)

@@ -1,6 +1,7 @@
 -- The names of attributes, by table and kind, as the constants in code define them.
 use Rattle.std.specs.Prelude.{ℕ, ◌-◌, nat_lt, cond, List, [], ◌∷◌, ◌++◌, Option, Some, None, get_or, map}
-use Rattle.link_lines_values.specs.declared.fields.FieldOf.{FieldOf}
+use Rattle.link_lines_values.specs.declared.fields.Layout.{Layout}
+use Rattle.link_lines_values.specs.declared.number_tables.Numbers.{Numbers}
 use Rattle.link_lines_values.specs.declared.values.ShownBy.{ShownBy}
 use Rattle.link_lines_raw.specs.Names.{Named, NameRowOf, named_of, rows_in_code}
 use Rattle.link_lines_texts.specs.declared.format.FormatBy.{FormatBy}
@@ -43,19 +44,18 @@ abbrev pub AttributeRow : Type 0
 AttributeRow = NameRowOf Inside
 
 -- The name that a value in code represents.
-abbrev pub viewed : {N T R : Type 0} → (N → List ℕ) → (T → List (ℕ × N)) → (R → List (FieldOf N T)) →
-    N × FormatBy (ShownBy T R) → Name
-viewed f g h n = named_of f (inside_of f g h) n
+abbrev pub viewed : {N : Type 0} → (N → List ℕ) → N × FormatBy (ShownBy Numbers Layout) → Name
+viewed f n = named_of f inside_of n
 
 -- The entries that a constant in code represents.
-abbrev pub attribute_rows_of : {N T R : Type 0} → (N → List ℕ) → (T → List (ℕ × N)) → (R → List (FieldOf N T)) →
-    List (ℕ × Option (N × FormatBy (ShownBy T R))) → List AttributeRow
-attribute_rows_of f g h ts = rows_in_code f (inside_of f g h) ts
+abbrev pub attribute_rows_of : {N : Type 0} → (N → List ℕ) →
+    List (ℕ × Option (N × FormatBy (ShownBy Numbers Layout))) → List AttributeRow
+attribute_rows_of f ts = rows_in_code f inside_of ts
 
 -- The names in each nested table, by the number that the interpreter's `List` has.
 unfoldable pub nested_names : List (List AttributeRow)
 nested_names =
-    map (λ b. attribute_rows_of (λ n. n.now) (λ t. t.now) (λ r. r.now) b.now)
+    map (λ b. attribute_rows_of (λ n. n.now) b.now)
     (XDP_ATTRIBUTE_NAMES ∷ PROPS_ATTRIBUTE_NAMES ∷ PROTOCOL_DOWN_REASON_ATTRIBUTE_NAMES ∷ DEVLINK_PORT_ATTRIBUTE_NAMES ∷
     DPLL_PIN_ATTRIBUTE_NAMES ∷
     MCTP_ATTRIBUTE_NAMES ∷ AF_INET_ATTRIBUTE_NAMES ∷ AF_INET6_ATTRIBUTE_NAMES ∷ SPECIFIC_ATTRIBUTE_NAMES ∷
@@ -65,7 +65,7 @@ nested_names =
 -- The names in each table of data.
 unfoldable pub data_names : List (List AttributeRow)
 data_names =
-    map (λ b. attribute_rows_of (λ n. n.now) (λ t. t.now) (λ r. r.now) b.now)
+    map (λ b. attribute_rows_of (λ n. n.now) b.now)
     (AMT_ATTRIBUTE_NAMES ∷ BAREUDP_ATTRIBUTE_NAMES ∷ BATADV_ATTRIBUTE_NAMES ∷ GENEVE_ATTRIBUTE_NAMES ∷
     GRE_ATTRIBUTE_NAMES ∷ GRE6_ATTRIBUTE_NAMES ∷
     GTP_ATTRIBUTE_NAMES ∷ IPOIB_ATTRIBUTE_NAMES ∷ IPVLAN_ATTRIBUTE_NAMES ∷ IP4_TUNNEL_ATTRIBUTE_NAMES ∷
@@ -77,19 +77,19 @@ data_names =
 
 -- The names of the attributes of link info.
 unfoldable pub info_attribute_names : List AttributeRow
-info_attribute_names = attribute_rows_of (λ n. n.now) (λ t. t.now) (λ r. r.now) INFO_ATTRIBUTE_NAMES.now
+info_attribute_names = attribute_rows_of (λ n. n.now) INFO_ATTRIBUTE_NAMES.now
 
 -- ---- links: the rows that depend on the address family, and the others
 
 -- The names of the rows that depend on the address family of a link.
 unfoldable pub family_names : List (List AttributeRow)
 family_names =
-    map (λ b. attribute_rows_of (λ n. n.now) (λ t. t.now) (λ r. r.now) b.now) (UNSPEC_FAMILY_NAMES ∷
+    map (λ b. attribute_rows_of (λ n. n.now) b.now) (UNSPEC_FAMILY_NAMES ∷
     BRIDGE_FAMILY_NAMES ∷ INET6_FAMILY_NAMES ∷ OTHER_FAMILY_NAMES ∷ [])
 
 -- The names of the rows that links of every address family have.
 unfoldable pub link_rows : List AttributeRow
-link_rows = attribute_rows_of (λ n. n.now) (λ t. t.now) (λ r. r.now) LINK_ATTRIBUTE_NAMES.now
+link_rows = attribute_rows_of (λ n. n.now) LINK_ATTRIBUTE_NAMES.now
 
 -- The first name if there is one, else the second.
 abbrev pub first_name : Option Name → Option Name → Option Name

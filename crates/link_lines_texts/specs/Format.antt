@@ -7,7 +7,8 @@ use Rattle.link_tables.specs.declared.rows.Held.TheVariants.{List as HeldList}
 use Rattle.link_tables.specs.declared.table.Table.{Table}
 use Rattle.link_tables.specs.declared.table.TheConstants.{LINK_INFO}
 use Rattle.link_tables.specs.InForce.{data_under, port_data_under}
-use Rattle.link_lines_values.specs.declared.fields.FieldOf.{FieldOf}
+use Rattle.link_lines_values.specs.declared.fields.Layout.{Layout}
+use Rattle.link_lines_values.specs.declared.number_tables.Numbers.{Numbers}
 use Rattle.link_lines_values.specs.declared.values.ShownBy.{ShownBy}
 use Rattle.link_lines_values.specs.declared.values.ShownBy.TheVariants.{Bytes}
 use Rattle.link_lines_values.specs.Values.{Shown, is_shown_on_a_line, format_of}
@@ -35,22 +36,21 @@ pub data Inside : Type 0 where
 
 -- The statistics of links of the kind `can`.
 unfoldable pub can_statistics : Raw
-can_statistics = raw_of (λ n. n.now) (λ t. t.now) (λ r. r.now) CAN_STATISTICS
+can_statistics = raw_of (λ n. n.now) CAN_STATISTICS
 
 -- The way of showing a payload that a value in code represents.
-abbrev pub inside_of : {N T R : Type 0} → (N → List ℕ) → (T → List (ℕ × N)) → (R → List (FieldOf N T)) →
-    FormatBy (ShownBy T R) → Inside
-inside_of f g h (B.Value shown) = Value (format_of f g h shown)
-inside_of f g h (B.Settings shown) = Settings (format_of f g h shown)
-inside_of f g h B.Plain = Plain
-inside_of f g h (B.Raw table) = Held (R.List table)
-inside_of f g h B.CanStatistics = Held can_statistics
-inside_of f g h B.Peer = Peer
-inside_of f g h (B.List form table) = Nested table
-inside_of f g h B.LinkInfo = Nested LINK_INFO
-inside_of f g h B.Data = Data
-inside_of f g h B.Statistics = Statistics
-inside_of f g h B.PortData = PortData
+abbrev pub inside_of : FormatBy (ShownBy Numbers Layout) → Inside
+inside_of (B.Value shown) = Value (format_of shown)
+inside_of (B.Settings shown) = Settings (format_of shown)
+inside_of B.Plain = Plain
+inside_of (B.Raw table) = Held (R.List table)
+inside_of B.CanStatistics = Held can_statistics
+inside_of B.Peer = Peer
+inside_of (B.List form table) = Nested table
+inside_of B.LinkInfo = Nested LINK_INFO
+inside_of B.Data = Data
+inside_of B.Statistics = Statistics
+inside_of B.PortData = PortData
 
 -- The way in which data are shown: as a list or as bytes.
 abbrev pub of_held : TableHeld → Inside

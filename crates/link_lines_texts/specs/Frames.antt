@@ -3,14 +3,15 @@ use Rattle.std.specs.Prelude.{ℕ, ◌%◌, ◌==◌, ◌||◌, ◌&&◌, nat_le
 use Rattle.std.specs.Prelude.{take, drop, codes, decimal, Option, Some, None}
 use Rattle.netlink_packet_core_grammar.specs.Numbers.{u16_at, u32_at}
 use Rattle.link_capture_grammar.specs.Bodies.{is_link_type}
-use Rattle.link_lines_values.specs.declared.flags.TheConstants.{MESSAGE_FLAGS, MESSAGE_GET_FLAGS, MESSAGE_CREATE_FLAGS}
-use Rattle.link_lines_values.specs.declared.flags.TheConstants.{MESSAGE_DELETE_FLAGS, MESSAGE_ACK_FLAGS}
+use Rattle.link_lines_values.specs.declared.flag_names.TheConstants.{MESSAGE_FLAGS, MESSAGE_GET_FLAGS, MESSAGE_CREATE_FLAGS}
+use Rattle.link_lines_values.specs.declared.flag_names.TheConstants.{MESSAGE_DELETE_FLAGS, MESSAGE_ACK_FLAGS}
 use Rattle.link_lines_values.specs.declared.number_texts.TheConstants.{MESSAGE_TYPE}
 use Rattle.link_lines_values.specs.declared.values.ShownBy.TheVariants.{Signed}
-use Rattle.link_lines_values.specs.Bytes.{bytes_text}
 use Rattle.link_lines_values.specs.Flags.{named_flags}
-use Rattle.link_lines_values.specs.Names.{Text, text_in, texts_of}
+use Rattle.link_lines_values.specs.Names.{Text, text_in}
+use Rattle.link_lines_values.specs.NumberTexts.{number_texts}
 use Rattle.link_lines_values.specs.Values.{value_text}
+use Rattle.link_lines_parts.specs.BytesLines.{bytes_line}
 use Rattle.link_lines_raw.specs.Bodies.{body_lines as raw_body_lines}
 use Rattle.link_lines_raw.specs.Lines.{Line, lines_text}
 use Rattle.link_lines_texts.specs.declared.format.Scope.{Scope}
@@ -19,8 +20,8 @@ use Rattle.link_lines_texts.specs.Links.{labelled, link_header_line}
 use Rattle.link_lines_texts.specs.Lists.{in_peer, list_lines, of_link}
 
 -- The names of message types.
-unfoldable pub message_types : List Text
-message_types = texts_of (λ n. n.now) MESSAGE_TYPE.now
+abbrev pub message_types : List Text
+message_types = number_texts MESSAGE_TYPE
 
 -- Whether there is a text.
 abbrev pub has_text : List ℕ → Bool
@@ -30,15 +31,15 @@ has_text (c ∷ text) = true
 -- The names of the flags of requests of a type, by what they ask for: to create or set, to delete, or to get.
 unfoldable pub request_flag_names : ℕ → List Text
 request_flag_names t =
-    cond (t % 4 == 1) (texts_of (λ n. n.now) MESSAGE_DELETE_FLAGS.now)
-    (cond (t % 4 == 2) (texts_of (λ n. n.now) MESSAGE_GET_FLAGS.now) (texts_of (λ n. n.now) MESSAGE_CREATE_FLAGS.now))
+    cond (t % 4 == 1) (number_texts MESSAGE_DELETE_FLAGS)
+    (cond (t % 4 == 2) (number_texts MESSAGE_GET_FLAGS) (number_texts MESSAGE_CREATE_FLAGS))
 
 -- The names of the flags that messages of a type have.
 unfoldable pub flag_names : ℕ → List Text
 flag_names t =
-    cond (t == 2) (texts_of (λ n. n.now) MESSAGE_ACK_FLAGS.now)
+    cond (t == 2) (number_texts MESSAGE_ACK_FLAGS)
     (cond (nat_le 16 t && has_text (text_in message_types t)) (request_flag_names t)
-    (texts_of (λ n. n.now) MESSAGE_FLAGS.now))
+    (number_texts MESSAGE_FLAGS))
 
 -- A name, or `type` and a number if the name is empty.
 abbrev pub or_number : ℕ → List ℕ → List ℕ
@@ -65,11 +66,6 @@ header_line numbers f =
 -- The line of the header of the request that an NLMSG_ERROR is about: its length, then its fields.
 unfoldable pub request_line : Bool → List ℕ → List ℕ
 request_line numbers r = labelled (codes "  request length ") (decimal (u32_at 0 r)) ++ (32 ∷ header_line numbers r)
-
--- A line of a name and bytes; no line if there are no bytes.
-unfoldable pub bytes_line : List ℕ → List ℕ → List ℕ
-bytes_line name [] = []
-bytes_line name (b ∷ bytes) = codes "  " ++ (name ++ (bytes_text (b ∷ bytes) ++ 10 ∷ []))
 
 -- What a link's attributes are in, in a message that is a request or not.
 abbrev pub in_message : Bool → Scope

@@ -1,23 +1,24 @@
 -- The line of a link's header, in a message and in a peer.
 use Rattle.std.specs.Prelude.{ℕ, List, [], ◌∷◌, ◌++◌, codes, decimal, slice_index}
 use Rattle.netlink_packet_core_grammar.specs.Numbers.{u16_at, u32_at}
-use Rattle.link_lines_values.specs.declared.flags.TheConstants.{LINK_FLAGS}
+use Rattle.link_lines_values.specs.declared.flag_names.TheConstants.{LINK_FLAGS}
 use Rattle.link_lines_values.specs.declared.number_texts.TheConstants.{ADDRESS_FAMILY, LINK_LAYER_TYPE}
 use Rattle.link_lines_values.specs.Flags.{word_flags}
 use Rattle.link_lines_values.specs.Indents.{indent}
-use Rattle.link_lines_values.specs.Names.{Text, named_number, texts_of}
+use Rattle.link_lines_values.specs.Names.{Text, named_number}
+use Rattle.link_lines_values.specs.NumberTexts.{number_texts}
 
 -- The names of address families.
-unfoldable pub address_families : List Text
-address_families = texts_of (λ n. n.now) ADDRESS_FAMILY.now
+abbrev pub address_families : List Text
+address_families = number_texts ADDRESS_FAMILY
 
 -- The names of layer types.
-unfoldable pub layer_types : List Text
-layer_types = texts_of (λ n. n.now) LINK_LAYER_TYPE.now
+abbrev pub layer_types : List Text
+layer_types = number_texts LINK_LAYER_TYPE
 
 -- The names of a link's flags.
-unfoldable pub link_flag_names : List Text
-link_flag_names = texts_of (λ n. n.now) LINK_FLAGS.now
+abbrev pub link_flag_names : List Text
+link_flag_names = number_texts LINK_FLAGS
 
 -- A label followed by a text.
 abbrev pub labelled : List ℕ → List ℕ → List ℕ

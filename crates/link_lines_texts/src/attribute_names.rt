@@ -92,7 +92,7 @@ macro_rules! family_name_row {
 /// Returns the names of a nested table, by its number in `link_tables`.
 #[tactic(auto, unfolding(crate::specs::AttributeNames::nested_names))]
 pub(crate) fn nested_table(table: u8) -> &'static [AttributeRow]
-    ensures attribute_names { attribute_rows_of (λ b. b.now) (λ t. t.now) (λ r. r.now) result.now ≡ get_or nested_names table [] }
+    ensures attribute_names { attribute_rows_of (λ b. b.now) result.now ≡ get_or nested_names table [] }
     ensures dense { are_dense result.now ≡ true }
 {
     match table {
@@ -117,7 +117,7 @@ pub(crate) fn nested_table(table: u8) -> &'static [AttributeRow]
 /// Returns the names of a table of data, by its number from that of `AMT` on.
 #[tactic(auto, unfolding(crate::specs::AttributeNames::data_names))]
 pub(crate) fn data_table(table: u8) -> &'static [AttributeRow]
-    ensures attribute_names { attribute_rows_of (λ b. b.now) (λ t. t.now) (λ r. r.now) result.now ≡ get_or data_names table [] }
+    ensures attribute_names { attribute_rows_of (λ b. b.now) result.now ≡ get_or data_names table [] }
     ensures dense { are_dense result.now ≡ true }
 {
     match table {
@@ -152,7 +152,7 @@ pub(crate) fn data_table(table: u8) -> &'static [AttributeRow]
 /// table.
 #[tactic(auto, unfolding(crate::specs::AttributeNames::family_names))]
 pub(crate) fn family_names_table(table: u8) -> &'static [AttributeRow]
-    ensures attribute_names { attribute_rows_of (λ b. b.now) (λ t. t.now) (λ r. r.now) result.now ≡ get_or family_names table [] }
+    ensures attribute_names { attribute_rows_of (λ b. b.now) result.now ≡ get_or family_names table [] }
     ensures dense { are_dense result.now ≡ true }
 {
     match table {
@@ -168,7 +168,7 @@ pub(crate) fn family_names_table(table: u8) -> &'static [AttributeRow]
 /// function of its own, since the prover spells it out in each function that names it.
 #[tactic(auto, unfolding(crate::specs::AttributeNames::link_rows))]
 pub(crate) fn link_rows() -> &'static [AttributeRow]
-    ensures attribute_names { attribute_rows_of (λ b. b.now) (λ t. t.now) (λ r. r.now) result.now ≡ link_rows }
+    ensures attribute_names { attribute_rows_of (λ b. b.now) result.now ≡ link_rows }
     ensures dense { are_dense result.now ≡ true }
 {
     message_names::LINK_ATTRIBUTE_NAMES
@@ -177,7 +177,7 @@ pub(crate) fn link_rows() -> &'static [AttributeRow]
 /// Returns the names of the attributes of link info.
 #[tactic(auto, unfolding(crate::specs::AttributeNames::info_attribute_names))]
 pub(crate) fn info_attribute_names() -> &'static [AttributeRow]
-    ensures attribute_names { attribute_rows_of (λ b. b.now) (λ t. t.now) (λ r. r.now) result.now ≡ info_attribute_names }
+    ensures attribute_names { attribute_rows_of (λ b. b.now) result.now ≡ info_attribute_names }
     ensures dense { are_dense result.now ≡ true }
 {
     message_names::INFO_ATTRIBUTE_NAMES
@@ -187,7 +187,7 @@ pub(crate) fn info_attribute_names() -> &'static [AttributeRow]
 /// for all families.
 fn link_attribute_name(family: u8, kind: u16) -> Option<&'static Name>
     requires { family < 4 }
-    ensures { option_map (λ name. viewed (λ b. b.now) (λ t. t.now) (λ r. r.now) name.now) result
+    ensures { option_map (λ name. viewed (λ b. b.now) name.now) result
         ≡ find kind (get_or link_names family []) }
 {
     match look_up(family_names_table(family), kind) {
@@ -200,7 +200,7 @@ fn link_attribute_name(family: u8, kind: u16) -> Option<&'static Name>
 #[tactic(auto, unfolding(crate::specs::AttributeNames::attribute_names_of))]
 fn attribute_names_of(table: Table) -> &'static [AttributeRow]
     requires { table.0 < LINK_UNSPEC.0 ⊎ LINK_INFO.0 ≤ table.0 }
-    ensures attribute_names { attribute_rows_of (λ b. b.now) (λ t. t.now) (λ r. r.now) result.now ≡ attribute_names_of table.0 }
+    ensures attribute_names { attribute_rows_of (λ b. b.now) result.now ≡ attribute_names_of table.0 }
     ensures dense { are_dense result.now ≡ true }
 {
     if table.0 < LINK_UNSPEC.0 {
@@ -215,7 +215,7 @@ fn attribute_names_of(table: Table) -> &'static [AttributeRow]
 /// Returns the name of a kind without flag bits in a table, and how its payload is shown; None if
 /// the table has no row for it.
 pub fn attribute_name_of(table: Table, kind: u16) -> Option<&'static Name>
-    ensures { option_map (λ name. viewed (λ b. b.now) (λ t. t.now) (λ r. r.now) name.now) result
+    ensures { option_map (λ name. viewed (λ b. b.now) name.now) result
         ≡ attribute_name_of table.0 kind }
 {
     if LINK_UNSPEC.0 <= table.0 && table.0 < LINK_INFO.0 {

@@ -75,8 +75,8 @@ fn push_payload(
 ) -> Result<(), AllocError>
     requires { level + length payload.now < 2 ^ 63 }
     ensures ok { OnOk result (out.new.items ≡ out.old.items
-        ++ (inside_text (inside_of (λ b. b.now) (λ t. t.now) (λ r. r.now) format.now) payload.now
-        ++ 10 ∷ header_inside level (inside_of (λ b. b.now) (λ t. t.now) (λ r. r.now) format.now) payload.now)) }
+        ++ (inside_text (inside_of format.now) payload.now
+        ++ 10 ∷ header_inside level (inside_of format.now) payload.now)) }
 {
     match format {
         FormatBy::Raw(table) => return push_held(level, &RawBy::List(*table), payload, out),
@@ -109,7 +109,7 @@ fn peer_list<'a>(scope: Scope, payload: &'a [u8]) -> Option<(ListTable, &'a [u8]
 /// Returns the list with a table that is shown below a name, if there is one.
 fn list_of<'a>(scope: Scope, format: &Format, payload: &'a [u8]) -> Option<(ListTable, &'a [u8])>
     ensures { option_map (λ f. (f.0, f.1.now)) result
-        ≡ inside_list scope (inside_of (λ b. b.now) (λ t. t.now) (λ r. r.now) format.now) payload.now }
+        ≡ inside_list scope (inside_of format.now) payload.now }
 {
     let table = match format {
         FormatBy::Peer => return peer_list(scope, payload),
@@ -135,12 +135,12 @@ fn push_known<'a>(
     requires { level + length payload.now < 2 ^ 63 }
     ensures ok { OnOk result (out.new.items ≡ out.old.items
         ++ (inside_text (known_inside scope (in_force force.entry)
-        (inside_of (λ b. b.now) (λ t. t.now) (λ r. r.now) format.now) payload.now) payload.now
+        (inside_of format.now) payload.now) payload.now
         ++ 10 ∷ header_inside level (known_inside scope (in_force force.entry)
-        (inside_of (λ b. b.now) (λ t. t.now) (λ r. r.now) format.now) payload.now) payload.now)) }
+        (inside_of format.now) payload.now) payload.now)) }
     ensures list { IfOk result (λ found. option_map (λ f. (f.0, f.1.now)) found
         ≡ inside_list scope (known_inside scope (in_force force.entry)
-        (inside_of (λ b. b.now) (λ t. t.now) (λ r. r.now) format.now) payload.now) payload.now) }
+        (inside_of format.now) payload.now) payload.now) }
 {
     let known = known_format(scope, force, format, payload, out)?;
     let format = or_format(&known, format);

@@ -5,8 +5,8 @@ ghost use Rattle.link_lines_texts.specs.Format.{inside_of, inside_held, known_in
 ghost use Rattle.link_tables.specs.InForce.{held_in_force, in_force};
 
 use crate::canonical_peers::is_canonical_peer;
-use link_lines_raw::records::CAN_DEVICE_STATS;
 use link_lines_raw::{Raw, RawBy, RawTable};
+use link_lines_values::device_layouts::CAN_DEVICE_STATS;
 use link_lines_values::{ExactBy, Shown, ShownBy};
 use link_tables::{Form, Held, IFLA_INFO_DATA, IFLA_INFO_SLAVE_DATA, InForce, Table, info_held};
 use std::alloc::AllocError;
@@ -58,7 +58,7 @@ pub const CAN_STATISTICS: Raw = RawBy::Value(ExactBy::Counters(CAN_DEVICE_STATS)
 
 /// Returns how data are shown: as a list or as bytes.
 fn of_held(held: Held) -> Format
-    ensures { inside_of (λ b. b.now) (λ t. t.now) (λ r. r.now) result ≡ of_held held }
+    ensures { inside_of result ≡ of_held held }
 {
     match held {
         Held::List(form, table) => FormatBy::List(form, table),
@@ -68,7 +68,7 @@ fn of_held(held: Held) -> Format
 
 /// Returns how data in link info are shown: as bytes if no kind is in force on which they depend.
 fn info_format(force: InForce<'_>, kind: u16) -> Format
-    ensures { inside_of (λ b. b.now) (λ t. t.now) (λ r. r.now) result
+    ensures { inside_of result
         ≡ inside_held (held_in_force (in_force force.entry) kind) }
 {
     match info_held(force, kind) {
@@ -79,7 +79,7 @@ fn info_format(force: InForce<'_>, kind: u16) -> Format
 
 /// Returns how the statistics of the kind in force are shown.
 fn statistics_format(force: InForce<'_>) -> Format
-    ensures { inside_of (λ b. b.now) (λ t. t.now) (λ r. r.now) result
+    ensures { inside_of result
         ≡ statistics_inside (in_force force.entry).kind }
 {
     match force.kind {
@@ -90,7 +90,7 @@ fn statistics_format(force: InForce<'_>) -> Format
 
 /// Returns how a peer inside a peer is shown: as a peer if it is canonical, else as bytes.
 fn inner_peer_format(payload: &[u8], scratch: &mut Vec<u8>) -> Result<Format, AllocError>
-    ensures ok { IfOk result (λ format. inside_of (λ b. b.now) (λ t. t.now) (λ r. r.now) format
+    ensures ok { IfOk result (λ format. inside_of format
         ≡ peer_inside true payload.now) }
     ensures scratch { scratch.new.items ≡ scratch.old.items }
 {
@@ -116,9 +116,9 @@ pub(crate) fn known_format(
     scratch: &mut Vec<u8>,
 ) -> Result<Option<Format>, AllocError>
     ensures ok { IfOk result (λ known.
-        inside_of (λ b. b.now) (λ t. t.now) (λ r. r.now) (unwrap_or known format.now)
+        inside_of (unwrap_or known format.now)
         ≡ known_inside scope (in_force force.entry)
-        (inside_of (λ b. b.now) (λ t. t.now) (λ r. r.now) format.now) payload.now) }
+        (inside_of format.now) payload.now) }
     ensures scratch { scratch.new.items ≡ scratch.old.items }
 {
     Ok(match format {

@@ -3,10 +3,12 @@
 ghost use Rattle.std.specs.Prelude.{◌≡◌, ◌<◌, ◌≤◌, ◌+◌, ◌^◌, ◌++◌, true, false, length, drop, decimal, OnOk, IfSome, IfNone};
 ghost use Rattle.netlink_packet_core_grammar.specs.Attributes.{nla_align};
 ghost use Rattle.netlink_packet_core.specs.Frames.{frame_length};
-ghost use Rattle.link_lines_values.specs.Names.{text_in, texts_of};
+ghost use Rattle.link_lines_values.specs.Names.{text_in};
+ghost use Rattle.link_lines_values.specs.NumberTexts.{number_texts};
 ghost use Rattle.link_lines_texts.specs.Frames.{type_text, flag_names, has_text, request_flag_names, message_types, numbers_text};
 ghost use Rattle.link_lines_texts.specs.Frames.{has_request_flag, header_line, request_line};
-ghost use Rattle.link_lines_texts.specs.Frames.{link_lines, bytes_line, after_code, code_lines};
+ghost use Rattle.link_lines_parts.specs.BytesLines.{bytes_line};
+ghost use Rattle.link_lines_texts.specs.Frames.{link_lines, after_code, code_lines};
 ghost use Rattle.link_lines_texts.specs.Frames.{body_lines, frame_lines, in_message, is_property_type};
 ghost use Rattle.link_lines_texts.specs.Frames.{other_lines, property_lines};
 
@@ -15,11 +17,11 @@ use crate::canonical_peers::is_canonical_peer;
 use crate::format::Scope;
 use crate::links::{push_labelled_decimal, push_labelled_flags, push_link_header};
 use link_capture_grammar::link_types::{RTM_NEWLINK, RTM_SETLINK};
+use link_lines_parts::push_bytes_line;
 use link_lines_raw::push_body as push_raw_body;
 use link_lines_values::{
-    FlagNames, MESSAGE_ACK_FLAGS, MESSAGE_CREATE_FLAGS, MESSAGE_DELETE_FLAGS, MESSAGE_FLAGS,
-    MESSAGE_GET_FLAGS, MESSAGE_TYPE, PLAIN, ShownBy, find_text, push_bytes, push_decimal,
-    push_value,
+    MESSAGE_ACK_FLAGS, MESSAGE_CREATE_FLAGS, MESSAGE_DELETE_FLAGS, MESSAGE_FLAGS,
+    MESSAGE_GET_FLAGS, MESSAGE_TYPE, Numbers, PLAIN, ShownBy, find_text, push_decimal, push_value,
 };
 use link_tables::{LINK_HEADER_LEN, family_table};
 use netlink_packet_core::{
@@ -36,20 +38,18 @@ const RTM_NEWLINKPROP: u16 = 108;
 /// The last type of messages about a link's properties.
 const RTM_GETLINKPROP: u16 = 110;
 
-/// Returns the name of a message type; empty if it has none. The constant has a function of its
-/// own, since the prover spells it out in each function that names it.
-#[tactic(auto, unfolding(crate::specs::Frames::message_types))]
+/// Returns the name of a message type; empty if it has none.
 fn type_name(message_type: u16) -> &'static [u8]
     ensures { result.now ≡ text_in message_types message_type }
 {
-    find_text(MESSAGE_TYPE, message_type as u64)
+    find_text(MESSAGE_TYPE.texts(), message_type as u64)
 }
 
 /// Returns the names of the flags of requests of a type, by what they ask for (rtnetlink.h:
 /// RTM_NEW*, RTM_DEL*, RTM_GET*, RTM_SET*).
 #[tactic(auto, unfolding(crate::specs::Frames::request_flag_names))]
-fn request_flag_names(message_type: u16) -> FlagNames
-    ensures { texts_of (λ b. b.now) result.now ≡ request_flag_names message_type }
+fn request_flag_names(message_type: u16) -> Numbers
+    ensures { number_texts result ≡ request_flag_names message_type }
 {
     match message_type % 4 {
         1 => MESSAGE_DELETE_FLAGS,
@@ -60,8 +60,8 @@ fn request_flag_names(message_type: u16) -> FlagNames
 
 /// Returns the names of the flags that messages of a type have.
 #[tactic(auto, unfolding(crate::specs::Frames::flag_names))]
-fn flag_names(message_type: u16) -> FlagNames
-    ensures { texts_of (λ b. b.now) result.now ≡ flag_names message_type }
+fn flag_names(message_type: u16) -> Numbers
+    ensures { number_texts result ≡ flag_names message_type }
 {
     if message_type == NLMSG_ERROR {
         MESSAGE_ACK_FLAGS
@@ -132,24 +132,6 @@ fn push_request(numbers: bool, header: &[u8], out: &mut Vec<u8>) -> Result<(), A
     push_header(numbers, header, out)
 }
 
-/// Appends a line of a name and bytes; no line if there are no bytes.
-///
-/// # Errors
-///
-/// `AllocError` if `out` can't grow; it may then have a part of the line.
-#[tactic(auto, unfolding(crate::specs::Frames::bytes_line))]
-pub fn push_bytes_line(name: &[u8], bytes: &[u8], out: &mut Vec<u8>) -> Result<(), AllocError>
-    ensures ok { OnOk result (out.new.items ≡ out.old.items ++ bytes_line name.now bytes.now) }
-{
-    if bytes.is_empty() {
-        return Ok(());
-    }
-    out.extend_from_slice(b"  ")?;
-    out.extend_from_slice(name)?;
-    push_bytes(bytes, out)?;
-    out.extend_from_slice(b"\n")
-}
-
 /// Appends the lines of the body of a link message, or of a peer.
 #[tactic(auto, unfolding(crate::specs::Frames::link_lines))]
 fn push_link(scope: Scope, body: &[u8], out: &mut Vec<u8>) -> Result<(), AllocError>
@@ -201,7 +183,7 @@ fn push_after_code(
 }
 
 /// Appends the lines of the body of an NLMSG_ERROR or NLMSG_DONE: its code, and what follows it.
-#[tactic(auto, unfolding(crate::specs::Frames::code_lines))]
+#[tactic(auto, unfolding(crate::specs::Frames::code_lines, link_lines_values::specs::NumberTexts::number_texts))]
 fn push_code(
     numbers: bool,
     message_type: u16,

@@ -13,5 +13,5 @@ mod message_names;
 mod names;
 mod raw_tables;
 
-pub use frames::{push_bytes_line, push_frame};
+pub use frames::push_frame;
 pub use names::find_name;

@@ -3,12 +3,13 @@
 ghost use Rattle.std.specs.Prelude.{◌≡◌, ◌<◌, ◌≤◌, ◌^◌, ◌++◌, length, decimal, OnOk};
 ghost use Rattle.link_lines_values.specs.Flags.{named_flags, word_flags};
 ghost use Rattle.link_lines_values.specs.Indents.{indent};
-ghost use Rattle.link_lines_values.specs.Names.{named_number, texts_of};
+ghost use Rattle.link_lines_values.specs.Names.{named_number};
+ghost use Rattle.link_lines_values.specs.NumberTexts.{number_texts};
 ghost use Rattle.link_lines_texts.specs.Links.{labelled, link_flag_names, link_flags, link_header_line, link_numbers};
 
 use link_lines_values::{
-    ADDRESS_FAMILY, FlagName, LINK_FLAGS, LINK_LAYER_TYPE, NumberText, push_decimal, push_flags,
-    push_indent, push_number, push_word_flags,
+    ADDRESS_FAMILY, LINK_FLAGS, LINK_LAYER_TYPE, Numbers, push_decimal, push_flags, push_indent,
+    push_number, push_word_flags,
 };
 use netlink_packet_core_attributes::view::{read_u16, read_u32};
 use std::alloc::AllocError;
@@ -16,15 +17,15 @@ use std::alloc::AllocError;
 /// Appends a label, and a number with its name.
 fn push_labelled(
     label: &[u8],
-    texts: &[NumberText],
+    table: Numbers,
     number: u32,
     out: &mut Vec<u8>,
 ) -> Result<(), AllocError>
     ensures ok { OnOk result (out.new.items
-        ≡ out.old.items ++ labelled label.now (named_number (texts_of (λ b. b.now) texts.now) number)) }
+        ≡ out.old.items ++ labelled label.now (named_number (number_texts table) number)) }
 {
     out.extend_from_slice(label)?;
-    push_number(texts, number as u64, out)
+    push_number(table.texts(), number as u64, out)
 }
 
 /// Appends a label and a number.
@@ -43,15 +44,15 @@ pub(crate) fn push_labelled_decimal(
 /// Appends a label and flags.
 pub(crate) fn push_labelled_flags(
     label: &[u8],
-    names: &[FlagName],
+    table: Numbers,
     flags: u32,
     out: &mut Vec<u8>,
 ) -> Result<(), AllocError>
     ensures ok { OnOk result (out.new.items
-        ≡ out.old.items ++ labelled label.now (named_flags (texts_of (λ b. b.now) names.now) flags)) }
+        ≡ out.old.items ++ labelled label.now (named_flags (number_texts table) flags)) }
 {
     out.extend_from_slice(label)?;
-    push_flags(names, flags as u64, out)
+    push_flags(table.texts(), flags as u64, out)
 }
 
 /// Appends the address family, layer type and index of a link (rtnetlink.h, `struct ifinfomsg`).
@@ -68,19 +69,18 @@ fn push_link_numbers(body: &[u8], out: &mut Vec<u8>) -> Result<(), AllocError>
 /// Appends a label and flags of 4 bytes, or ` (all)` for all bits.
 fn push_labelled_word_flags(
     label: &[u8],
-    names: &[FlagName],
+    table: Numbers,
     flags: u32,
     out: &mut Vec<u8>,
 ) -> Result<(), AllocError>
     ensures ok { OnOk result (out.new.items
-        ≡ out.old.items ++ labelled label.now (word_flags (texts_of (λ b. b.now) names.now) flags)) }
+        ≡ out.old.items ++ labelled label.now (word_flags (number_texts table) flags)) }
 {
     out.extend_from_slice(label)?;
-    push_word_flags(names, flags, out)
+    push_word_flags(table.texts(), flags, out)
 }
 
 /// Appends a label and a link's flags.
-#[tactic(auto, unfolding(crate::specs::Links::link_flag_names))]
 fn push_labelled_link_flags(label: &[u8], flags: u32, out: &mut Vec<u8>) -> Result<(), AllocError>
     ensures ok { OnOk result (out.new.items
         ≡ out.old.items ++ labelled label.now (word_flags link_flag_names flags)) }

@@ -39,7 +39,7 @@ fn find_name_in(rows: &[AttributeRow], word: &[u8]) -> Option<&'static [u8]>
 /// Returns the rows at an index: for links of an address family those that depend on it.
 #[tactic(auto, unfolding(crate::specs::NameSearch::rows_at))]
 fn rows_at(index: u8) -> &'static [AttributeRow]
-    ensures rows { attribute_rows_of (λ b. b.now) (λ t. t.now) (λ r. r.now) result.now ≡ rows_at index }
+    ensures rows { attribute_rows_of (λ b. b.now) result.now ≡ rows_at index }
 {
     if index < LINK_UNSPEC.0 {
         nested_table(index)

@@ -5,18 +5,19 @@ use Rattle.std.specs.Fmt.{decimal}
 use Rattle.std.proofs.Math.Nat.{div-eq-sub-div, div-eq_of_lt}
 use Rattle.std.proofs.lemmas.List.{length-drop}
 use Rattle.link_lines_values.specs.declared.fields.FieldOf.{FieldOf}
+use Rattle.link_lines_values.specs.declared.number_tables.Numbers.{Numbers}
 use Rattle.link_lines_values.specs.Bytes.{is_zero}
 use Rattle.link_lines_values.specs.Records.{Field, FieldShown, counter_name, field_text, fields_of, slots_text, title_or}
 
-module _ {N T : Type 0} (f : N → List ℕ) (g : T → List (ℕ × N)) where
+module _ {N : Type 0} (f : N → List ℕ) where
   -- The title of the field at an index.
-  pub title_at : (rows : List (FieldOf N T)) (d : FieldOf N T) (n k : ℕ) → k < length rows → f (get_or rows k d).0 ≡ title_or (fields_of f g rows) n k
+  pub title_at : (rows : List (FieldOf N Numbers)) (d : FieldOf N Numbers) (n k : ℕ) → k < length rows → f (get_or rows k d).0 ≡ title_or (fields_of f rows) n k
   title_at [] d n k l = absurd (omega arith)
   title_at (r ∷ rows) d n zero l = refl
   title_at (r ∷ rows) d n (suc k) l = title_at rows d n k (omega arith)
 
   -- After the last field there is the number.
-  pub title_past : (rows : List (FieldOf N T)) (n k : ℕ) → length rows ≤ k → decimal n ≡ title_or (fields_of f g rows) n k
+  pub title_past : (rows : List (FieldOf N Numbers)) (n k : ℕ) → length rows ≤ k → decimal n ≡ title_or (fields_of f rows) n k
   title_past [] n k l = refl
   title_past (r ∷ rows) n zero l = absurd (omega arith)
   title_past (r ∷ rows) n (suc k) l = title_past rows n k (omega arith)

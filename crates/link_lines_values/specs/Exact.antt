@@ -7,11 +7,13 @@ use Rattle.std.specs.Net.Addr.{segments_of}
 use Rattle.std.specs.Net.Text.{ipv4_text, ipv6_text}
 use Rattle.link_lines_values.specs.declared.exact.ExactBy.{ExactBy}
 use Rattle.link_lines_values.specs.declared.exact.ExactBy.TheVariants as E
-use Rattle.link_lines_values.specs.declared.fields.FieldOf.{FieldOf}
+use Rattle.link_lines_values.specs.declared.fields.Layout.{Layout}
+use Rattle.link_lines_values.specs.declared.number_tables.Numbers.{Numbers}
 use Rattle.link_lines_values.specs.Digits.{big_endian}
 use Rattle.link_lines_values.specs.Bytes.{address_text, bytes_text, hardware_text, hex_text, is_zero, quoted}
+use Rattle.link_lines_values.specs.Layouts.{layout_fields}
 use Rattle.link_lines_values.specs.Names.{Text}
-use Rattle.link_lines_values.specs.Records.{Field, counters_determine, counters_text, fields_of, fields_text}
+use Rattle.link_lines_values.specs.Records.{Field, counters_determine, counters_text, fields_text}
 use Rattle.link_lines_values.specs.Records.{has_no_booleans, is_counters, is_padding, is_record, is_size, sizes_known}
 use Rattle.link_lines_values.specs.Values.{are_fields_on_a_line, determines_sized, format_of, is_shown_on_a_line}
 use Rattle.link_lines_values.specs.Values.{number_value, value_text}
@@ -21,21 +23,20 @@ abbrev pub Exact : Type 0
 Exact = ExactBy (List Text) (List Field)
 
 -- The format that a value in code represents.
-abbrev pub exact_of : {N T R : Type 0} → (N → List ℕ) → (T → List (ℕ × N)) → (R → List (FieldOf N T)) →
-    ExactBy T R → Exact
-exact_of f g h (E.Number n) = E.Number n
-exact_of f g h (E.Sized n shown) = E.Sized n (format_of f g h shown)
-exact_of f g h E.Bytes = E.Bytes
-exact_of f g h E.HardwareAddress = E.HardwareAddress
-exact_of f g h E.Address = E.Address
-exact_of f g h E.Text = E.Text
-exact_of f g h E.Uint = E.Uint
-exact_of f g h (E.Numbers n) = E.Numbers n
-exact_of f g h E.BridgeId = E.BridgeId
-exact_of f g h E.Labels = E.Labels
-exact_of f g h E.Via = E.Via
-exact_of f g h (E.Record fields) = E.Record (fields_of f g (h fields))
-exact_of f g h (E.Counters fields) = E.Counters (fields_of f g (h fields))
+abbrev pub exact_of : ExactBy Numbers Layout → Exact
+exact_of (E.Number n) = E.Number n
+exact_of (E.Sized n shown) = E.Sized n (format_of shown)
+exact_of E.Bytes = E.Bytes
+exact_of E.HardwareAddress = E.HardwareAddress
+exact_of E.Address = E.Address
+exact_of E.Text = E.Text
+exact_of E.Uint = E.Uint
+exact_of (E.Numbers n) = E.Numbers n
+exact_of E.BridgeId = E.BridgeId
+exact_of E.Labels = E.Labels
+exact_of E.Via = E.Via
+exact_of (E.Record layout) = E.Record (layout_fields layout)
+exact_of (E.Counters layout) = E.Counters (layout_fields layout)
 
 -- ---- which payloads are shown by their value
 

@@ -1,8 +1,10 @@
 pub mod Digits
 pub mod Bytes
 pub mod Names
+pub mod NumberTexts
 pub mod Flags
 pub mod Records
+pub mod Layouts
 pub mod Values
 pub mod Exact
 pub mod Laws

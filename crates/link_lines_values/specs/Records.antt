@@ -9,11 +9,13 @@ use Rattle.attribute_tables_grammar.specs.Shapes.{number}
 use Rattle.link_lines_values.specs.declared.fields.FieldOf.{FieldOf}
 use Rattle.link_lines_values.specs.declared.fields.FieldShownBy.{FieldShownBy}
 use Rattle.link_lines_values.specs.declared.fields.FieldShownBy.TheVariants as S
+use Rattle.link_lines_values.specs.declared.number_tables.Numbers.{Numbers}
 use Rattle.link_lines_values.specs.Digits.{big_endian, is_number, signed_by}
 use Rattle.link_lines_values.specs.Bytes.{boolean_text, bytes_text, colons, hex_text, is_zero}
 use Rattle.link_lines_values.specs.Bytes.{padded_address, padded_text}
 use Rattle.link_lines_values.specs.Flags.{flags_text}
-use Rattle.link_lines_values.specs.Names.{Text, bracketed, named_number, text_in, texts_of}
+use Rattle.link_lines_values.specs.Names.{Text, bracketed, named_number, text_in}
+use Rattle.link_lines_values.specs.NumberTexts.{number_texts}
 
 -- How a field of a record is shown.
 abbrev pub FieldShown : Type 0
@@ -24,26 +26,26 @@ abbrev pub Field : Type 0
 Field = FieldOf (List ℕ) (List Text)
 
 -- How a field is shown that a value in code represents.
-abbrev pub shown_of : {N T : Type 0} → (N → List ℕ) → (T → List (ℕ × N)) → FieldShownBy T → FieldShown
-shown_of f g (S.Number texts) = S.Number (texts_of f (g texts))
-shown_of f g S.Signed = S.Signed
-shown_of f g (S.BigEndian texts) = S.BigEndian (texts_of f (g texts))
-shown_of f g (S.Flags names) = S.Flags (texts_of f (g names))
-shown_of f g S.Address = S.Address
-shown_of f g S.Boolean = S.Boolean
-shown_of f g (S.Handle texts) = S.Handle (texts_of f (g texts))
-shown_of f g S.Text = S.Text
-shown_of f g (S.Group texts) = S.Group (texts_of f (g texts))
-shown_of f g S.Padding = S.Padding
+abbrev pub shown_of : FieldShownBy Numbers → FieldShown
+shown_of (S.Number texts) = S.Number (number_texts texts)
+shown_of S.Signed = S.Signed
+shown_of (S.BigEndian texts) = S.BigEndian (number_texts texts)
+shown_of (S.Flags names) = S.Flags (number_texts names)
+shown_of S.Address = S.Address
+shown_of S.Boolean = S.Boolean
+shown_of (S.Handle texts) = S.Handle (number_texts texts)
+shown_of S.Text = S.Text
+shown_of (S.Group texts) = S.Group (number_texts texts)
+shown_of S.Padding = S.Padding
 
 -- The field that a value in code represents.
-abbrev pub field_of : {N T : Type 0} → (N → List ℕ) → (T → List (ℕ × N)) → FieldOf N T → Field
-field_of f g r = (f r.0, r.1, shown_of f g r.2)
+abbrev pub field_of : {N : Type 0} → (N → List ℕ) → FieldOf N Numbers → Field
+field_of f r = (f r.0, r.1, shown_of r.2)
 
 -- The fields that a constant in code represents.
-abbrev pub fields_of : {N T : Type 0} → (N → List ℕ) → (T → List (ℕ × N)) → List (FieldOf N T) → List Field
-fields_of f g [] = []
-fields_of f g (r ∷ rs) = field_of f g r ∷ fields_of f g rs
+abbrev pub fields_of : {N : Type 0} → (N → List ℕ) → List (FieldOf N Numbers) → List Field
+fields_of f [] = []
+fields_of f (r ∷ rs) = field_of f r ∷ fields_of f rs
 
 -- The sum of the fields' sizes in bytes.
 abbrev pub total_size : List Field → ℕ

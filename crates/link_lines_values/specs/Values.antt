@@ -4,40 +4,42 @@ use Rattle.std.specs.Prelude.{take, drop}
 use Rattle.std.specs.Fmt.{decimal}
 use Rattle.std.specs.List.{list_all}
 use Rattle.attribute_tables_grammar.specs.Shapes.{number}
-use Rattle.link_lines_values.specs.declared.fields.FieldOf.{FieldOf}
+use Rattle.link_lines_values.specs.declared.fields.Layout.{Layout}
 use Rattle.link_lines_values.specs.declared.fields.FieldShownBy.TheVariants as F
+use Rattle.link_lines_values.specs.declared.number_tables.Numbers.{Numbers}
 use Rattle.link_lines_values.specs.declared.values.ShownBy.{ShownBy}
 use Rattle.link_lines_values.specs.declared.values.ShownBy.TheVariants as S
 use Rattle.link_lines_values.specs.Digits.{big_endian, is_number, hex_number}
 use Rattle.link_lines_values.specs.Bytes.{address_text, bytes_text, hardware_text, quoted, boolean_text}
 use Rattle.link_lines_values.specs.Flags.{flags_text, word_flags}
-use Rattle.link_lines_values.specs.Names.{Text, named_number, named_signed, texts_of}
-use Rattle.link_lines_values.specs.Records.{Field, FieldShown, fields_of, is_size, record_text}
+use Rattle.link_lines_values.specs.Names.{Text, named_number, named_signed}
+use Rattle.link_lines_values.specs.Layouts.{layout_fields}
+use Rattle.link_lines_values.specs.NumberTexts.{number_texts}
+use Rattle.link_lines_values.specs.Records.{Field, FieldShown, is_size, record_text}
 
 -- How a payload is shown: numbers with their names, flags with the names of their bits, records with their fields.
 abbrev pub Shown : Type 0
 Shown = ShownBy (List Text) (List Field)
 
 -- The format that a value in code represents.
-abbrev pub format_of : {N T R : Type 0} → (N → List ℕ) → (T → List (ℕ × N)) → (R → List (FieldOf N T)) →
-    ShownBy T R → Shown
-format_of f g h (S.Number texts) = S.Number (texts_of f (g texts))
-format_of f g h (S.BigEndian texts) = S.BigEndian (texts_of f (g texts))
-format_of f g h (S.Signed texts) = S.Signed (texts_of f (g texts))
-format_of f g h S.Flags = S.Flags
-format_of f g h (S.NamedFlags names) = S.NamedFlags (texts_of f (g names))
-format_of f g h S.BigEndianFlags = S.BigEndianFlags
-format_of f g h S.Boolean = S.Boolean
-format_of f g h S.Presence = S.Presence
-format_of f g h S.OptionalByte = S.OptionalByte
-format_of f g h S.Text = S.Text
-format_of f g h S.Bytes = S.Bytes
-format_of f g h S.HardwareAddress = S.HardwareAddress
-format_of f g h S.Address = S.Address
-format_of f g h S.PortRange = S.PortRange
-format_of f g h (S.FlagsAndMask names) = S.FlagsAndMask (texts_of f (g names))
-format_of f g h (S.Record fields) = S.Record (fields_of f g (h fields))
-format_of f g h (S.SparseRecord fields) = S.SparseRecord (fields_of f g (h fields))
+abbrev pub format_of : ShownBy Numbers Layout → Shown
+format_of (S.Number texts) = S.Number (number_texts texts)
+format_of (S.BigEndian texts) = S.BigEndian (number_texts texts)
+format_of (S.Signed texts) = S.Signed (number_texts texts)
+format_of S.Flags = S.Flags
+format_of (S.NamedFlags names) = S.NamedFlags (number_texts names)
+format_of S.BigEndianFlags = S.BigEndianFlags
+format_of S.Boolean = S.Boolean
+format_of S.Presence = S.Presence
+format_of S.OptionalByte = S.OptionalByte
+format_of S.Text = S.Text
+format_of S.Bytes = S.Bytes
+format_of S.HardwareAddress = S.HardwareAddress
+format_of S.Address = S.Address
+format_of S.PortRange = S.PortRange
+format_of (S.FlagsAndMask names) = S.FlagsAndMask (number_texts names)
+format_of (S.Record layout) = S.Record (layout_fields layout)
+format_of (S.SparseRecord layout) = S.SparseRecord (layout_fields layout)
 
 -- A little-endian number of 1, 2, 3, 4 or 8 bytes with its name; other sizes as bytes.
 abbrev pub number_value : List Text → List ℕ → List ℕ

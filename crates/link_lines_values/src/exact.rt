@@ -15,10 +15,10 @@ ghost use Rattle.link_lines_values.specs.Exact.{pieces_text, raw_value, takes, v
 use crate::addresses::push_address;
 use crate::bytes::{is_zero, push_bytes, push_hardware_address, push_hex_text, push_text};
 use crate::digits::push_decimal;
-use crate::fields::{Field, Fields};
-use crate::number_texts::{Numbers, PLAIN};
+use crate::fields::{Field, Layout};
+use crate::number_tables::Numbers;
 use crate::records::{is_counters, is_record, push_counters, push_record_fields};
-use crate::values::{ShownBy, push_value};
+use crate::values::{ShownBy, push_number_value, push_value};
 use arrayvec::ArrayString;
 use std::alloc::AllocError;
 use std::fmt::Write;
@@ -63,7 +63,7 @@ pub enum ExactBy<N, R> {
 }
 
 /// How the payload of a raw attribute is shown if its line determines it.
-pub type Exact = ExactBy<Numbers, Fields>;
+pub type Exact = ExactBy<Numbers, Layout>;
 
 // Returns whether the last byte is a NUL.
 fn ends_with_nul(payload: &[u8]) -> bool
@@ -115,7 +115,7 @@ fn is_via(payload: &[u8]) -> bool
 // Returns whether the bytes are counters. A slice has fewer than 2^64 bytes.
 fn are_counters(rows: &[Field], payload: &[u8]) -> bool
     ensures { result
-        ≡ are_counters (fields_of (λ b. b.now) (λ t. t.now) rows.now) payload.now }
+        ≡ are_counters (fields_of (λ b. b.now) rows.now) payload.now }
 {
     is_counters(rows, payload)
 }
@@ -123,7 +123,7 @@ fn are_counters(rows: &[Field], payload: &[u8]) -> bool
 // Returns whether a payload is shown by its value.
 fn takes(exact: Exact, payload: &[u8]) -> bool
     ensures { result
-        ≡ takes (exact_of (λ b. b.now) (λ t. t.now) (λ r. r.now) exact.entry) payload.now }
+        ≡ takes (exact_of exact) payload.now }
 {
     match exact {
         ExactBy::Number(size) => payload.len() == usize::from(size),
@@ -137,8 +137,8 @@ fn takes(exact: Exact, payload: &[u8]) -> bool
         ExactBy::BridgeId => payload.len() == 8,
         ExactBy::Labels => !payload.is_empty() && payload.len() % 4 == 0,
         ExactBy::Via => is_via(payload),
-        ExactBy::Record(rows) => is_record(rows, payload),
-        ExactBy::Counters(rows) => are_counters(rows, payload),
+        ExactBy::Record(layout) => is_record(layout.fields(), payload),
+        ExactBy::Counters(layout) => are_counters(layout.fields(), payload),
     }
 }
 
@@ -146,7 +146,7 @@ fn takes(exact: Exact, payload: &[u8]) -> bool
 fn push_plain_number(payload: &[u8], out: &mut Vec<u8>) -> Result<(), AllocError>
     ensures ok { OnOk result (out.new.items ≡ out.old.items ++ number_value [] payload.now) }
 {
-    push_value(ShownBy::Number(PLAIN), payload, out)
+    push_number_value(&[], payload, out)
 }
 
 // Appends the first `count` numbers of `size` bytes each, with a space before each. `min` spares a
@@ -300,10 +300,10 @@ fn push_via(payload: &[u8], out: &mut Vec<u8>) -> Result<(), AllocError>
 // to show.
 #[tactic(auto, using(crate::proofs::ExactTaken::of_a_record))]
 fn push_taken(exact: Exact, payload: &[u8], out: &mut Vec<u8>) -> Result<(), AllocError>
-    requires { takes (exact_of (λ b. b.now) (λ t. t.now) (λ r. r.now) exact) payload.now ≡ true }
+    requires { takes (exact_of exact) payload.now ≡ true }
     ensures ok { OnOk result (out.new.items
         ≡ out.old.items
-        ++ exact_text (exact_of (λ b. b.now) (λ t. t.now) (λ r. r.now) exact.entry) payload.now) }
+        ++ exact_text (exact_of exact) payload.now) }
 {
     match exact {
         ExactBy::Number(_) => push_plain_number(payload, out),
@@ -317,8 +317,8 @@ fn push_taken(exact: Exact, payload: &[u8], out: &mut Vec<u8>) -> Result<(), All
         ExactBy::BridgeId => push_bridge_id(payload, out),
         ExactBy::Labels => push_labels(payload, out),
         ExactBy::Via => push_via(payload, out),
-        ExactBy::Record(rows) => push_record_fields(rows, payload, out),
-        ExactBy::Counters(rows) => push_counters(rows, payload, out),
+        ExactBy::Record(layout) => push_record_fields(layout.fields(), payload, out),
+        ExactBy::Counters(layout) => push_counters(layout.fields(), payload, out),
     }
 }
 
@@ -341,7 +341,7 @@ fn push_bytes_word(payload: &[u8], out: &mut Vec<u8>) -> Result<(), AllocError>
 pub fn push_raw_value(exact: Exact, payload: &[u8], out: &mut Vec<u8>) -> Result<(), AllocError>
     ensures ok { OnOk result (out.new.items
         ≡ out.old.items
-        ++ raw_value (exact_of (λ b. b.now) (λ t. t.now) (λ r. r.now) exact.entry) payload.now) }
+        ++ raw_value (exact_of exact) payload.now) }
 {
     if takes(exact, payload) {
         push_taken(exact, payload, out)

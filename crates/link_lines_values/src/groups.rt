@@ -9,7 +9,7 @@ ghost use Rattle.link_lines_values.specs.Records.{group_address, group_text};
 
 use crate::bytes::{is_zero, push_colons, push_hex_text};
 use crate::digits::big_endian;
-use crate::number_texts::NumberText;
+use crate::number_tables::NumberText;
 use crate::numbers::push_number;
 use arrayvec::ArrayString;
 use std::alloc::AllocError;

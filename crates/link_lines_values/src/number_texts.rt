@@ -1,38 +1,60 @@
-//! The names of numbers, a table for each type of number. They repeat the displays of the typed
-//! crates, so that `linkshow` builds none of these; laws of `link_lines_tests` compare both.
+//! The names of numbers in attributes of links, a table for each type of number.
 
-/// A number and its name.
-pub type NumberText = (u32, &'static [u8]);
+ghost use Rattle.std.specs.Prelude.{◌≡◌, [], get_or};
+ghost use Rattle.link_lines_values.specs.Names.{texts_of};
+ghost use Rattle.link_lines_values.specs.NumberTexts.{link_texts};
 
-/// The numbers of a type that have names.
-pub type Numbers = &'static [NumberText];
+use crate::number_tables::{NumberText, Numbers};
 
 /// The table of numbers without names.
-pub const PLAIN: Numbers = &[];
+pub const PLAIN: Numbers = Numbers(0);
+
+pub(crate) const PLAIN_TEXTS: &[NumberText] = &[];
 
 /// Modes of amt devices (if_link.h: IFLA_AMT_MODE).
-pub const AMT_MODE: Numbers = &[(0, b"gateway"), (1, b"relay")];
+pub const AMT_MODE: Numbers = Numbers(1);
+
+pub(crate) const AMT_MODE_TEXTS: &[NumberText] = &[(0, b"gateway"), (1, b"relay")];
 
 /// The treatment of the DF bit by geneve (if_link.h: IFLA_GENEVE_DF).
-pub const GENEVE_DF: Numbers = &[(0, b"unset"), (1, b"set"), (2, b"inherit")];
+pub const GENEVE_DF: Numbers = Numbers(2);
+
+pub(crate) const GENEVE_DF_TEXTS: &[NumberText] = &[(0, b"unset"), (1, b"set"), (2, b"inherit")];
 
 /// The treatment of the DF bit by vxlan (if_link.h: IFLA_VXLAN_DF).
-pub const VXLAN_DF: Numbers = &[(0, b"unset"), (1, b"set"), (2, b"inherit")];
+pub const VXLAN_DF: Numbers = Numbers(3);
+
+pub(crate) const VXLAN_DF_TEXTS: &[NumberText] = &[(0, b"unset"), (1, b"set"), (2, b"inherit")];
 
 /// Roles of gtp devices (if_link.h: IFLA_GTP_ROLE).
-pub const GTP_ROLE: Numbers = &[(0, b"ggsn"), (1, b"sgsn")];
+pub const GTP_ROLE: Numbers = Numbers(4);
+
+pub(crate) const GTP_ROLE_TEXTS: &[NumberText] = &[(0, b"ggsn"), (1, b"sgsn")];
 
 /// Encapsulations of IP tunnels (if_tunnel.h: TUNNEL_ENCAP_*).
-pub const TUNNEL_ENCAP_TYPE: Numbers = &[(0, b"none"), (1, b"fou"), (2, b"gue"), (3, b"mpls")];
+pub const TUNNEL_ENCAP_TYPE: Numbers = Numbers(5);
+
+pub(crate) const TUNNEL_ENCAP_TYPE_TEXTS: &[NumberText] = &[
+    (0, b"none"),
+    (1, b"fou"),
+    (2, b"gue"),
+    (3, b"mpls"),
+];
 
 /// Encapsulations of GRE tunnels (if_tunnel.h: TUNNEL_ENCAP_*).
-pub const GRE_ENCAP_TYPE: Numbers = &[(0, b"none"), (1, b"fou"), (2, b"gue")];
+pub const GRE_ENCAP_TYPE: Numbers = Numbers(6);
+
+pub(crate) const GRE_ENCAP_TYPE_TEXTS: &[NumberText] = &[(0, b"none"), (1, b"fou"), (2, b"gue")];
 
 /// Directions of ERSPAN (if_link.h: IFLA_GRE_ERSPAN_DIR).
-pub const ER_SPAN_DIR: Numbers = &[(0, b"ingress"), (1, b"egress")];
+pub const ER_SPAN_DIR: Numbers = Numbers(7);
+
+pub(crate) const ER_SPAN_DIR_TEXTS: &[NumberText] = &[(0, b"ingress"), (1, b"egress")];
 
 /// Modes of bonds (if_bonding.h: BOND_MODE_*).
-pub const BOND_MODE: Numbers = &[
+pub const BOND_MODE: Numbers = Numbers(8);
+
+pub(crate) const BOND_MODE_TEXTS: &[NumberText] = &[
     (0, b"balance-rr"),
     (1, b"active-backup"),
     (2, b"balance-xor"),
@@ -43,10 +65,14 @@ pub const BOND_MODE: Numbers = &[
 ];
 
 /// Modes of ipvlan (if_link.h: IPVLAN_MODE_*).
-pub const IP_VLAN_MODE: Numbers = &[(0, b"l2"), (1, b"l3"), (2, b"l3s")];
+pub const IP_VLAN_MODE: Numbers = Numbers(9);
+
+pub(crate) const IP_VLAN_MODE_TEXTS: &[NumberText] = &[(0, b"l2"), (1, b"l3"), (2, b"l3s")];
 
 /// Modes of macvlan (if_link.h: MACVLAN_MODE_*).
-pub const MAC_VLAN_MODE: Numbers = &[
+pub const MAC_VLAN_MODE: Numbers = Numbers(10);
+
+pub(crate) const MAC_VLAN_MODE_TEXTS: &[NumberText] = &[
     (1, b"private"),
     (2, b"vepa"),
     (4, b"bridge"),
@@ -55,16 +81,28 @@ pub const MAC_VLAN_MODE: Numbers = &[
 ];
 
 /// Modes of netkit (if_link.h: NETKIT_L2, NETKIT_L3).
-pub const NETKIT_MODE: Numbers = &[(0, b"l2"), (1, b"l3")];
+pub const NETKIT_MODE: Numbers = Numbers(11);
+
+pub(crate) const NETKIT_MODE_TEXTS: &[NumberText] = &[(0, b"l2"), (1, b"l3")];
 
 /// Policies of netkit (if_link.h: NETKIT_*).
-pub const NETKIT_POLICY: Numbers = &[(0, b"forward"), (2, b"blackhole"), (7, b"redirect")];
+pub const NETKIT_POLICY: Numbers = Numbers(12);
+
+pub(crate) const NETKIT_POLICY_TEXTS: &[NumberText] = &[
+    (0, b"forward"),
+    (2, b"blackhole"),
+    (7, b"redirect"),
+];
 
 /// Scrubbing by netkit (if_link.h: NETKIT_SCRUB_*).
-pub const NETKIT_SCRUB: Numbers = &[(0, b"none"), (1, b"default")];
+pub const NETKIT_SCRUB: Numbers = Numbers(13);
+
+pub(crate) const NETKIT_SCRUB_TEXTS: &[NumberText] = &[(0, b"none"), (1, b"default")];
 
 /// Operational states (if.h: IF_OPER_*).
-pub const STATE: Numbers = &[
+pub const STATE: Numbers = Numbers(14);
+
+pub(crate) const STATE_TEXTS: &[NumberText] = &[
     (0, b"UNKNOWN"),
     (1, b"NOTPRESENT"),
     (2, b"DOWN"),
@@ -75,10 +113,18 @@ pub const STATE: Numbers = &[
 ];
 
 /// Link modes (if.h: IF_LINK_MODE_*).
-pub const LINK_MODE: Numbers = &[(0, b"default"), (1, b"dormant"), (2, b"testing")];
+pub const LINK_MODE: Numbers = Numbers(15);
+
+pub(crate) const LINK_MODE_TEXTS: &[NumberText] = &[
+    (0, b"default"),
+    (1, b"dormant"),
+    (2, b"testing"),
+];
 
 /// How IPv6 addresses are generated (if_link.h: IN6_ADDR_GEN_MODE_*).
-pub const IN6_ADDR_GEN_MODE: Numbers = &[
+pub const IN6_ADDR_GEN_MODE: Numbers = Numbers(16);
+
+pub(crate) const IN6_ADDR_GEN_MODE_TEXTS: &[NumberText] = &[
     (0, b"eui64"),
     (1, b"none"),
     (2, b"stable-privacy"),
@@ -86,7 +132,9 @@ pub const IN6_ADDR_GEN_MODE: Numbers = &[
 ];
 
 /// Physical bindings of MCTP (if_link.h: IFLA_MCTP_PHYS_BINDING).
-pub const MCTP_PHYS_BINDING: Numbers = &[
+pub const MCTP_PHYS_BINDING: Numbers = Numbers(17);
+
+pub(crate) const MCTP_PHYS_BINDING_TEXTS: &[NumberText] = &[
     (1, b"smbus"),
     (2, b"pcievdm"),
     (3, b"usb"),
@@ -100,7 +148,9 @@ pub const MCTP_PHYS_BINDING: Numbers = &[
 ];
 
 /// Ethernet protocols (if_ether.h: ETH_P_*).
-pub const ETHERNET_PROTOCOL: Numbers = &[
+pub const ETHERNET_PROTOCOL: Numbers = Numbers(18);
+
+pub(crate) const ETHERNET_PROTOCOL_TEXTS: &[NumberText] = &[
     (0x0800, b"ipv4"),
     (0x0806, b"arp"),
     (0x8100, b"802.1q"),
@@ -110,7 +160,9 @@ pub const ETHERNET_PROTOCOL: Numbers = &[
 ];
 
 /// Address families (socket.h: AF_*).
-pub const ADDRESS_FAMILY: Numbers = &[
+pub const ADDRESS_FAMILY: Numbers = Numbers(19);
+
+pub(crate) const ADDRESS_FAMILY_TEXTS: &[NumberText] = &[
     (0, b"AF_UNSPEC"),
     (1, b"AF_UNIX"),
     (2, b"AF_INET"),
@@ -122,7 +174,9 @@ pub const ADDRESS_FAMILY: Numbers = &[
 ];
 
 /// Types of link layers (if_arp.h: ARPHRD_*).
-pub const LINK_LAYER_TYPE: Numbers = &[
+pub const LINK_LAYER_TYPE: Numbers = Numbers(20);
+
+pub(crate) const LINK_LAYER_TYPE_TEXTS: &[NumberText] = &[
     (0, b"netrom"),
     (1, b"ether"),
     (2, b"eether"),
@@ -193,7 +247,9 @@ pub const LINK_LAYER_TYPE: Numbers = &[
 ];
 
 /// Types of messages (netlink.h, rtnetlink.h: NLMSG_*, RTM_*).
-pub const MESSAGE_TYPE: Numbers = &[
+pub const MESSAGE_TYPE: Numbers = Numbers(21);
+
+pub(crate) const MESSAGE_TYPE_TEXTS: &[NumberText] = &[
     (1, b"NLMSG_NOOP"),
     (2, b"NLMSG_ERROR"),
     (3, b"NLMSG_DONE"),
@@ -275,3 +331,54 @@ pub const MESSAGE_TYPE: Numbers = &[
     (121, b"RTM_DELTUNNEL"),
     (122, b"RTM_GETTUNNEL"),
 ];
+
+/// Protocols of Ethernet frames (if_ether.h: ETH_P_*).
+pub const ETHER_TYPE: Numbers = Numbers(22);
+
+pub(crate) const ETHER_TYPE_TEXTS: &[NumberText] = &[
+    (3, b"all"),
+    (0x0800, b"ip"),
+    (0x0806, b"arp"),
+    (0x8100, b"8021q"),
+    (0x86dd, b"ipv6"),
+    (0x8847, b"mpls_uc"),
+    (0x8848, b"mpls_mc"),
+    (0x8863, b"ppp_disc"),
+    (0x8864, b"ppp_ses"),
+    (0x888e, b"pae"),
+    (0x88a8, b"8021ad"),
+    (0x88cc, b"lldp"),
+    (0x88e5, b"macsec"),
+];
+
+/// Returns the numbers of a table with their names, by its index from that of the first table here on.
+pub(crate) fn texts(index: u8) -> &'static [NumberText]
+    ensures { texts_of (λ b. b.now) result.now ≡ get_or link_texts index [] }
+{
+    match index {
+        0 => PLAIN_TEXTS,
+        1 => AMT_MODE_TEXTS,
+        2 => GENEVE_DF_TEXTS,
+        3 => VXLAN_DF_TEXTS,
+        4 => GTP_ROLE_TEXTS,
+        5 => TUNNEL_ENCAP_TYPE_TEXTS,
+        6 => GRE_ENCAP_TYPE_TEXTS,
+        7 => ER_SPAN_DIR_TEXTS,
+        8 => BOND_MODE_TEXTS,
+        9 => IP_VLAN_MODE_TEXTS,
+        10 => MAC_VLAN_MODE_TEXTS,
+        11 => NETKIT_MODE_TEXTS,
+        12 => NETKIT_POLICY_TEXTS,
+        13 => NETKIT_SCRUB_TEXTS,
+        14 => STATE_TEXTS,
+        15 => LINK_MODE_TEXTS,
+        16 => IN6_ADDR_GEN_MODE_TEXTS,
+        17 => MCTP_PHYS_BINDING_TEXTS,
+        18 => ETHERNET_PROTOCOL_TEXTS,
+        19 => ADDRESS_FAMILY_TEXTS,
+        20 => LINK_LAYER_TYPE_TEXTS,
+        21 => MESSAGE_TYPE_TEXTS,
+        22 => ETHER_TYPE_TEXTS,
+        _ => &[],
+    }
+}

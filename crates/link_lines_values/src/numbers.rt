@@ -4,7 +4,7 @@ ghost use Rattle.std.specs.Prelude.{◌≡◌, ◌++◌, OnOk};
 ghost use Rattle.link_lines_values.specs.Names.{bracketed, named_number, named_signed, text_in, texts_of};
 
 use crate::digits::{push_decimal, push_signed};
-use crate::number_texts::NumberText;
+use crate::number_tables::NumberText;
 use std::alloc::AllocError;
 
 /// Returns the name of a number; empty if it has none.

@@ -17,7 +17,7 @@ use crate::digits::{big_endian, little_endian, push_decimal, push_hex_digits, pu
 use crate::fields::{Field, FieldShown, FieldShownBy};
 use crate::flags::{FlagName, push_flags_of};
 use crate::groups::push_group;
-use crate::number_texts::NumberText;
+use crate::number_tables::NumberText;
 use crate::numbers::{push_bracketed_name, push_number};
 use std::alloc::AllocError;
 
@@ -25,10 +25,10 @@ use std::alloc::AllocError;
 // have.
 #[tactic(auto, using(crate::proofs::Listing::further_on))]
 fn after_fields<'a>(rows: &[Field], bytes: &'a [u8]) -> Option<&'a [u8]>
-    ensures some { IfSome result (λ rest. rest.now ≡ drop (total_size (fields_of (λ b. b.now) (λ t. t.now) rows.now)) bytes.now) }
+    ensures some { IfSome result (λ rest. rest.now ≡ drop (total_size (fields_of (λ b. b.now) rows.now)) bytes.now) }
     ensures whole { IfSome result
-        (λ rest. length rest.now + total_size (fields_of (λ b. b.now) (λ t. t.now) rows.now) ≡ length bytes.now) }
-    ensures none { IfNone result (length bytes.now < total_size (fields_of (λ b. b.now) (λ t. t.now) rows.now)) }
+        (λ rest. length rest.now + total_size (fields_of (λ b. b.now) rows.now) ≡ length bytes.now) }
+    ensures none { IfNone result (length bytes.now < total_size (fields_of (λ b. b.now) rows.now)) }
 {
     let mut rest = bytes;
     for row in rows {
@@ -126,18 +126,24 @@ fn push_field_handle(
 // Appends the value of a field.
 fn push_field_value(shown: &FieldShown, part: &[u8], out: &mut Vec<u8>) -> Result<(), AllocError>
     ensures ok { OnOk result (out.new.items
-        ≡ out.old.items ++ field_value (shown_of (λ b. b.now) (λ t. t.now) shown.now) part.now) }
+        ≡ out.old.items ++ field_value (shown_of shown.now) part.now) }
 {
     match shown {
-        FieldShownBy::Number(texts) => push_field_number(texts, little_endian(part), part, out),
+        FieldShownBy::Number(table) => {
+            push_field_number(table.texts(), little_endian(part), part, out)
+        },
         FieldShownBy::Signed => push_field_signed(part, out),
-        FieldShownBy::BigEndian(texts) => push_field_number(texts, big_endian(part), part, out),
-        FieldShownBy::Flags(names) => push_field_flags(names, part, out),
+        FieldShownBy::BigEndian(table) => {
+            push_field_number(table.texts(), big_endian(part), part, out)
+        },
+        FieldShownBy::Flags(table) => push_field_flags(table.texts(), part, out),
         FieldShownBy::Address => push_padded_address(part, out),
         FieldShownBy::Boolean => push_boolean(part, out),
-        FieldShownBy::Handle(texts) => push_field_handle(texts, little_endian(part), part, out),
+        FieldShownBy::Handle(table) => {
+            push_field_handle(table.texts(), little_endian(part), part, out)
+        },
         FieldShownBy::Text => push_padded_text(part, out),
-        FieldShownBy::Group(texts) => push_group(texts, part, out),
+        FieldShownBy::Group(table) => push_group(table.texts(), part, out),
         FieldShownBy::Padding => Ok(()),
     }
 }
@@ -150,7 +156,7 @@ fn push_field(
     out: &mut Vec<u8>,
 ) -> Result<(), AllocError>
     ensures ok { OnOk result (out.new.items
-        ≡ out.old.items ++ field_text separator (field_of (λ b. b.now) (λ t. t.now) field.now) part.now) }
+        ≡ out.old.items ++ field_text separator (field_of (λ b. b.now) field.now) part.now) }
 {
     out.extend_from_slice(b" ")?;
     out.extend_from_slice(field.0)?;
@@ -160,7 +166,7 @@ fn push_field(
 
 // Returns whether a field is padding.
 fn is_padding(shown: &FieldShown) -> bool
-    ensures { result ≡ is_padding (shown_of (λ b. b.now) (λ t. t.now) shown.now) }
+    ensures { result ≡ is_padding (shown_of shown.now) }
 {
     matches!(shown, FieldShownBy::Padding)
 }
@@ -178,7 +184,7 @@ fn is_zero_field(part: &[u8]) -> bool
 
 // Returns whether a field isn't shown: padding, and in a sparse record any field that is zero.
 fn is_hidden(is_sparse: bool, shown: &FieldShown, part: &[u8]) -> bool
-    ensures { result ≡ is_hidden is_sparse (shown_of (λ b. b.now) (λ t. t.now) shown.now) part.now }
+    ensures { result ≡ is_hidden is_sparse (shown_of shown.now) part.now }
 {
     is_padding(shown) || is_sparse && is_zero_field(part)
 }
@@ -191,9 +197,9 @@ fn push_fields(
     bytes: &[u8],
     out: &mut Vec<u8>,
 ) -> Result<(), AllocError>
-    requires { length bytes.now ≡ total_size (fields_of (λ b. b.now) (λ t. t.now) rows.now) }
+    requires { length bytes.now ≡ total_size (fields_of (λ b. b.now) rows.now) }
     ensures ok { OnOk result (out.new.items
-        ≡ out.old.items ++ fields_text separator is_sparse (fields_of (λ b. b.now) (λ t. t.now) rows.now) bytes.now) }
+        ≡ out.old.items ++ fields_text separator is_sparse (fields_of (λ b. b.now) rows.now) bytes.now) }
 {
     let mut rest = bytes;
     for row in rows {
@@ -212,9 +218,9 @@ fn push_fields(
 ///
 /// `AllocError` if `out` can't grow; it may then have a part of the text.
 pub fn push_record_fields(rows: &[Field], bytes: &[u8], out: &mut Vec<u8>) -> Result<(), AllocError>
-    requires { length bytes.now ≡ total_size (fields_of (λ b. b.now) (λ t. t.now) rows.now) }
+    requires { length bytes.now ≡ total_size (fields_of (λ b. b.now) rows.now) }
     ensures ok { OnOk result (out.new.items
-        ≡ out.old.items ++ fields_text 61 false (fields_of (λ b. b.now) (λ t. t.now) rows.now) bytes.now) }
+        ≡ out.old.items ++ fields_text 61 false (fields_of (λ b. b.now) rows.now) bytes.now) }
 {
     push_fields(b'=', false, rows, bytes, out)
 }
@@ -225,17 +231,17 @@ pub fn push_record_fields(rows: &[Field], bytes: &[u8], out: &mut Vec<u8>) -> Re
 ///
 /// `AllocError` if `out` can't grow; it may then have a part of the text.
 pub fn push_header_fields(rows: &[Field], bytes: &[u8], out: &mut Vec<u8>) -> Result<(), AllocError>
-    requires { length bytes.now ≡ total_size (fields_of (λ b. b.now) (λ t. t.now) rows.now) }
+    requires { length bytes.now ≡ total_size (fields_of (λ b. b.now) rows.now) }
     ensures ok { OnOk result (out.new.items
-        ≡ out.old.items ++ fields_text 32 false (fields_of (λ b. b.now) (λ t. t.now) rows.now) bytes.now) }
+        ≡ out.old.items ++ fields_text 32 false (fields_of (λ b. b.now) rows.now) bytes.now) }
 {
     push_fields(b' ', false, rows, bytes, out)
 }
 
 // Returns whether each field that is padding is zero.
 fn has_zero_padding(rows: &[Field], bytes: &[u8]) -> bool
-    requires { length bytes.now ≡ total_size (fields_of (λ b. b.now) (λ t. t.now) rows.now) }
-    ensures { result ≡ has_zero_padding (fields_of (λ b. b.now) (λ t. t.now) rows.now) bytes.now }
+    requires { length bytes.now ≡ total_size (fields_of (λ b. b.now) rows.now) }
+    ensures { result ≡ has_zero_padding (fields_of (λ b. b.now) rows.now) bytes.now }
 {
     let mut rest = bytes;
     for row in rows {
@@ -250,7 +256,7 @@ fn has_zero_padding(rows: &[Field], bytes: &[u8]) -> bool
 
 /// Returns whether bytes are a record: they have the size of its fields, and padding is zero.
 pub fn is_record(rows: &[Field], bytes: &[u8]) -> bool
-    ensures { result ≡ is_record (fields_of (λ b. b.now) (λ t. t.now) rows.now) bytes.now }
+    ensures { result ≡ is_record (fields_of (λ b. b.now) rows.now) bytes.now }
 {
     match after_fields(rows, bytes) {
         Some([]) => has_zero_padding(rows, bytes),
@@ -260,7 +266,7 @@ pub fn is_record(rows: &[Field], bytes: &[u8]) -> bool
 
 /// Returns the sum of the fields' sizes in bytes, or `usize::MAX` if it is larger than that.
 pub fn record_size(rows: &[Field]) -> usize
-    ensures { result ≡ min 18446744073709551615 (total_size (fields_of (λ b. b.now) (λ t. t.now) rows.now)) }
+    ensures { result ≡ min 18446744073709551615 (total_size (fields_of (λ b. b.now) rows.now)) }
 {
     let mut size = 0usize;
     for row in rows {
@@ -279,7 +285,7 @@ pub(crate) fn push_record(
     out: &mut Vec<u8>,
 ) -> Result<(), AllocError>
     ensures ok { OnOk result (out.new.items
-        ≡ out.old.items ++ record_text is_sparse (fields_of (λ b. b.now) (λ t. t.now) rows.now) bytes.now) }
+        ≡ out.old.items ++ record_text is_sparse (fields_of (λ b. b.now) rows.now) bytes.now) }
 {
     match after_fields(rows, bytes) {
         Some(rest) if is_zero(rest) => {
@@ -297,7 +303,7 @@ pub(crate) fn push_record(
 
 /// Returns whether bytes are counters: a multiple of the size of the first field.
 pub fn is_counters(rows: &[Field], bytes: &[u8]) -> bool
-    ensures { result ≡ is_counters (fields_of (λ b. b.now) (λ t. t.now) rows.now) bytes.now }
+    ensures { result ≡ is_counters (fields_of (λ b. b.now) rows.now) bytes.now }
 {
     match rows {
         [first, ..] => {
@@ -311,7 +317,7 @@ pub fn is_counters(rows: &[Field], bytes: &[u8]) -> bool
 // Returns the title of the field at an index.
 fn find_title(rows: &[Field], index: usize) -> &'static [u8]
     requires { index < length rows.now }
-    ensures { result.now ≡ counter_name (fields_of (λ b. b.now) (λ t. t.now) rows.now) index }
+    ensures { result.now ≡ counter_name (fields_of (λ b. b.now) rows.now) index }
 {
     rows[index].0
 }
@@ -319,7 +325,7 @@ fn find_title(rows: &[Field], index: usize) -> &'static [u8]
 // Appends the name of a counter: the title of its field, or its index if there is none.
 fn push_counter_name(rows: &[Field], index: usize, out: &mut Vec<u8>) -> Result<(), AllocError>
     ensures ok { OnOk result (out.new.items
-        ≡ out.old.items ++ counter_name (fields_of (λ b. b.now) (λ t. t.now) rows.now) index) }
+        ≡ out.old.items ++ counter_name (fields_of (λ b. b.now) rows.now) index) }
 {
     if index < rows.len() {
         return out.extend_from_slice(find_title(rows, index));
@@ -337,8 +343,8 @@ fn push_counter(
 ) -> Result<(), AllocError>
     ensures ok { OnOk result (out.new.items
         ≡ out.old.items ++ cond (is_zero part.now) []
-        (32 ∷ (counter_name (fields_of (λ b. b.now) (λ t. t.now) rows.now) index
-        ++ 61 ∷ field_value (shown_of (λ b. b.now) (λ t. t.now) shown.now) part.now))) }
+        (32 ∷ (counter_name (fields_of (λ b. b.now) rows.now) index
+        ++ 61 ∷ field_value (shown_of shown.now) part.now))) }
 {
     if is_zero_field(part) {
         return Ok(());
@@ -359,8 +365,8 @@ fn push_slots(
 ) -> Result<(), AllocError>
     requires { 0 < size }
     ensures ok { OnOk result (out.new.items
-        ≡ out.old.items ++ slots_text size (shown_of (λ b. b.now) (λ t. t.now) shown.now)
-        (fields_of (λ b. b.now) (λ t. t.now) rows.now) 0 (length bytes.now / size) bytes.now) }
+        ≡ out.old.items ++ slots_text size (shown_of shown.now)
+        (fields_of (λ b. b.now) rows.now) 0 (length bytes.now / size) bytes.now) }
 {
     let mut index = 0;
     let mut rest = bytes;
@@ -380,9 +386,9 @@ fn push_slots(
 ///
 /// `AllocError` if `out` can't grow; it may then have a part of the text.
 pub fn push_counters(rows: &[Field], bytes: &[u8], out: &mut Vec<u8>) -> Result<(), AllocError>
-    requires { is_counters (fields_of (λ b. b.now) (λ t. t.now) rows.now) bytes.now ≡ true }
+    requires { is_counters (fields_of (λ b. b.now) rows.now) bytes.now ≡ true }
     ensures ok { OnOk result (out.new.items
-        ≡ out.old.items ++ counters_text (fields_of (λ b. b.now) (λ t. t.now) rows.now) bytes.now) }
+        ≡ out.old.items ++ counters_text (fields_of (λ b. b.now) rows.now) bytes.now) }
 {
     match rows {
         [first, ..] => {
@@ -405,9 +411,9 @@ pub fn push_nonzero_counters(
     bytes: &[u8],
     out: &mut Vec<u8>,
 ) -> Result<(), AllocError>
-    requires { is_counters (fields_of (λ b. b.now) (λ t. t.now) rows.now) bytes.now ≡ true }
+    requires { is_counters (fields_of (λ b. b.now) rows.now) bytes.now ≡ true }
     ensures ok { OnOk result (out.new.items
-        ≡ out.old.items ++ nonzero_text (fields_of (λ b. b.now) (λ t. t.now) rows.now) bytes.now) }
+        ≡ out.old.items ++ nonzero_text (fields_of (λ b. b.now) rows.now) bytes.now) }
 {
     match rows {
         [first, ..] => push_slots(usize::from(first.1), &first.2, rows, bytes, out),

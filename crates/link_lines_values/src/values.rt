@@ -11,9 +11,9 @@ ghost use Rattle.link_lines_values.specs.Values.{port_range_value, format_of, si
 use crate::addresses::push_address;
 use crate::bytes::{push_boolean, push_bytes, push_hardware_address, push_text};
 use crate::digits::{big_endian, little_endian, push_decimal, push_hex};
-use crate::fields::Fields;
+use crate::fields::Layout;
 use crate::flags::{FlagName, push_flags_of, push_word_flags};
-use crate::number_texts::{NumberText, Numbers};
+use crate::number_tables::{NumberText, Numbers};
 use crate::numbers::{push_number, push_signed_number};
 use crate::records::push_record;
 use std::alloc::AllocError;
@@ -61,10 +61,10 @@ pub enum ShownBy<N, R> {
 
 /// How a payload is shown: numbers with their names, flags with the names of their bits, records
 /// with their fields.
-pub type Shown = ShownBy<Numbers, Fields>;
+pub type Shown = ShownBy<Numbers, Layout>;
 
 /// Appends a space and a little-endian number with its name, or bytes if no number has their size.
-fn push_number_value(
+pub(crate) fn push_number_value(
     texts: &[NumberText],
     payload: &[u8],
     out: &mut Vec<u8>,
@@ -214,14 +214,14 @@ fn push_boolean_value(payload: &[u8], out: &mut Vec<u8>) -> Result<(), AllocErro
 /// `AllocError` if `out` can't grow; it may then have a part of the text.
 pub fn push_value(shown: Shown, payload: &[u8], out: &mut Vec<u8>) -> Result<(), AllocError>
     ensures ok { OnOk result (out.new.items
-        ≡ out.old.items ++ value_text (format_of (λ b. b.now) (λ t. t.now) (λ r. r.now) shown.entry) payload.now) }
+        ≡ out.old.items ++ value_text (format_of shown) payload.now) }
 {
     match shown {
-        ShownBy::Number(texts) => push_number_value(texts, payload, out),
-        ShownBy::BigEndian(texts) => push_big_endian_value(texts, payload, out),
-        ShownBy::Signed(texts) => push_signed_value(texts, payload, out),
+        ShownBy::Number(table) => push_number_value(table.texts(), payload, out),
+        ShownBy::BigEndian(table) => push_big_endian_value(table.texts(), payload, out),
+        ShownBy::Signed(table) => push_signed_value(table.texts(), payload, out),
         ShownBy::Flags => push_named_flags(&[], payload, out),
-        ShownBy::NamedFlags(names) => push_named_flags(names, payload, out),
+        ShownBy::NamedFlags(table) => push_named_flags(table.texts(), payload, out),
         ShownBy::BigEndianFlags => push_big_endian_flags(payload, out),
         ShownBy::Boolean => push_boolean_value(payload, out),
         ShownBy::Presence => Ok(()),
@@ -231,8 +231,8 @@ pub fn push_value(shown: Shown, payload: &[u8], out: &mut Vec<u8>) -> Result<(),
         ShownBy::HardwareAddress => push_hardware_address(payload, out),
         ShownBy::Address => push_address(payload, out),
         ShownBy::PortRange => push_port_range(payload, out),
-        ShownBy::FlagsAndMask(names) => push_flags_and_mask(names, payload, out),
-        ShownBy::Record(rows) => push_record(false, rows, payload, out),
-        ShownBy::SparseRecord(rows) => push_record(true, rows, payload, out),
+        ShownBy::FlagsAndMask(table) => push_flags_and_mask(table.texts(), payload, out),
+        ShownBy::Record(layout) => push_record(false, layout.fields(), payload, out),
+        ShownBy::SparseRecord(layout) => push_record(true, layout.fields(), payload, out),
     }
 }

@@ -1,2 +1,1 @@
 mod PrefixPeers
-mod Texts

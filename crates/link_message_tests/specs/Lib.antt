@@ -1,2 +1,1 @@
 pub mod PrefixPeers
-pub mod Requests

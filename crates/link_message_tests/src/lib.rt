@@ -1,11 +1,10 @@
-// Calls on link messages that the pages quote, and tests of link messages and of the checks on
-// their bytes, in a crate of their own, since a crate with tests is proved twice. The expected
-// values come from outside this project's code.
+// Tests of link messages, of link info and of the checks on their bytes, in a crate of their own,
+// since a crate with tests is proved twice. The expected values come from outside this project's
+// code.
 #![tactic(auto)]
 
 #[cfg(test)]
 mod attributes;
-pub mod callers;
 #[cfg(test)]
 mod checked_bodies;
 #[cfg(test)]
@@ -16,6 +15,8 @@ mod checked_link_peers;
 mod checked_lists;
 #[cfg(test)]
 mod checked_peers;
+#[cfg(test)]
+mod info;
 #[cfg(test)]
 mod messages;
 #[cfg(test)]

@@ -1,5 +1,6 @@
-// Worked cases across the crates, as tests. The expected values come from outside this project's
-// code. Tests are in a crate of their own, since a crate with tests is proved twice.
+// Worked cases across the crates and of lines, as tests, and laws that compare lines with typed
+// values. The expected values come from outside this project's code. Tests are in a crate of their
+// own, since a crate with tests is proved twice.
 #![tactic(auto)]
 
 #[cfg(test)]
@@ -10,6 +11,7 @@ mod core_examples;
 mod devices;
 #[cfg(test)]
 mod fault_texts;
+pub mod lines;
 #[cfg(test)]
 mod memory;
 #[cfg(test)]

@@ -2,7 +2,9 @@
 //! can't be written.
 
 use super::fault_texts::is_displayed;
-use examples::{RequestFault, new_link_request, request, vxlan_request};
+use examples::{
+    RequestFault, new_link_request, request, request_by_name, vxlan_request, with_mtu, written,
+};
 use link_capture::{ReadableLink, RouteLink};
 use link_message::{LinkAttribute, LinkHeader, LinkMessage};
 use std::alloc::Global;
@@ -102,5 +104,25 @@ fn faults_have_their_texts(rt: HostRuntime) -> Result<(), Fail> {
     for (fault, words) in &cases {
         assert!(rt; is_displayed(rt.alloc(), fault, words)?);
     }
+    Ok(())
+}
+
+/// The body of a request about the link of a name: 16 zeros, `IFLA_EXT_MASK` without statistics,
+/// and `IFLA_IFNAME`.
+const NAMED: [u8; 32] = *b"\0\0\0\0\0\0\0\0\0\0\0\0\0\0\0\0\
+    \x08\0\x1d\0\x08\0\0\0\x07\0\x03\0lo\0\0";
+
+/// The same body with an additional `IFLA_MTU` of 1500 bytes.
+const LARGER: [u8; 40] = *b"\0\0\0\0\0\0\0\0\0\0\0\0\0\0\0\0\
+    \x08\0\x1d\0\x08\0\0\0\x07\0\x03\0lo\0\0\x08\0\x04\0\xdc\x05\0\0";
+
+#[test]
+fn bodies_of_requests_are_built(rt: HostRuntime) -> Result<(), Fail> {
+    let request = request_by_name(rt.alloc(), "lo")?;
+    assert!(rt; request.as_slice() == NAMED.as_slice());
+    let larger = with_mtu(rt.alloc(), &request, 1500)?;
+    assert!(rt; larger.as_slice() == LARGER.as_slice());
+    let message = LinkMessage::parse(rt.alloc(), &larger)?;
+    assert!(rt; written(rt.alloc(), &message)?.as_slice() == LARGER.as_slice());
     Ok(())
 }

@@ -12,7 +12,7 @@ use Rattle.link_capture_reader.specs.Outcomes.{ReadFault}
 use Rattle.link_capture_quirks.specs.declared.quirk_at.QuirkAt.{QuirkAt}
 use Rattle.link_capture_quirks.specs.QuirkTexts.{quirk_text}
 use Rattle.link_capture_quirks.specs.CaptureQuirks.{capture_quirks}
-use Rattle.link_lines.specs.Remaining.{Omitted, nothing_omitted}
+use Rattle.link_lines_parts.specs.Remaining.{Omitted, nothing_omitted}
 use Rattle.link_lines.specs.MessageLines.{Selection}
 use Rattle.link_lines.specs.Outcomes.{Shows, ShowsKeeping}
 use Rattle.link_lines.specs.Refused.{fault_message}

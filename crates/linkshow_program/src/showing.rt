@@ -3,7 +3,7 @@
 ghost use Rattle.std.specs.Prelude.{◌≡◌, ◌≤◌, ◌++◌, option_map};
 ghost use Rattle.std.specs.Process.{exit_status};
 ghost use Rattle.link_lines.specs.Options.{selection_of};
-ghost use Rattle.link_lines.specs.Remaining.{omitted_of};
+ghost use Rattle.link_lines_parts.specs.Remaining.{omitted_of};
 ghost use Rattle.link_capture_reader.specs.States.{IsReported, IsReportedOrCut, sink_state, source_state};
 ghost use Rattle.linkshow_program.specs.Devices.{run_of};
 ghost use Rattle.linkshow_program.specs.Runs.{chosen, excludes_numbers, fault_report, is_unread, name_report};

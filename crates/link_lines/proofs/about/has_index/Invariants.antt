@@ -1,6 +1,6 @@
 use Rattle.std.proofs.Common.{◌≡◌, false, length}
 use Rattle.link_lines.specs.About.{has_index}
-use Rattle.link_lines_json.specs.Lines.{words_of}
+use Rattle.link_lines_parts.specs.Lines.{words_of}
 use Rattle.link_lines.proofs.about.has_index.Given as goal
 
 abbrev pub invariant-loop-word : goal.invariant-loop-word

@@ -1,7 +1,7 @@
 use Rattle.std.proofs.Common.{◌≡◌, length}
 use Rattle.std.specs.List.{list_any}
 use Rattle.link_lines.specs.About.{is_name_line}
-use Rattle.link_lines_json.specs.Lines.{lines_of}
+use Rattle.link_lines_parts.specs.Lines.{lines_of}
 use Rattle.link_lines.proofs.about.has_name_line.Given as goal
 
 abbrev pub invariant-loop-line : goal.invariant-loop-line

@@ -1,6 +1,6 @@
 use Rattle.std.proofs.Common.{◌≡◌, ◌++◌, length}
 use Rattle.link_lines_json.specs.Json.{lines_json}
-use Rattle.link_lines_json.specs.Lines.{lines_of}
+use Rattle.link_lines_parts.specs.Lines.{lines_of}
 use Rattle.link_lines_json.proofs.json.push_lines.Given as goal
 
 abbrev pub invariant-loop-line : goal.invariant-loop-line

@@ -1,6 +1,6 @@
 use Rattle.std.proofs.Common.{◌≡◌, ◌++◌, drop, flat_map, map, length}
 use Rattle.link_lines_json.specs.Values.{flag_json}
-use Rattle.link_lines_json.specs.Lines.{words_of}
+use Rattle.link_lines_parts.specs.Lines.{words_of}
 use Rattle.link_lines_json.proofs.values.push_flag_words.Given as goal
 
 abbrev pub invariant-loop-word : goal.invariant-loop-word

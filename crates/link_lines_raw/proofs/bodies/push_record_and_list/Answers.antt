@@ -11,13 +11,13 @@ use Rattle.link_lines_raw.proofs.bodies.push_record_and_list.Goals as goal
 
 pub returns-clause-ok : goal.returns-clause-ok
 returns-clause-ok c =
-    let line = record_line_of (λ b. b.now) (λ t. t.now) (λ r. r.now) c.args.line in
+    let line = record_line_of (λ b. b.now) c.args.line in
     let n = total_size line.1 in
     let bytes = c.args.bytes.now in
     let out = c.args.out.now.items in
     let whole : is_record_and_list line c.args.table bytes ≡ true = sym c.is_record_and_list.ensures ∙ c.if-not-is_record_and_list.false in
     let fits = leb-true n (length bytes) (and_parts (nat_le n (length bytes)) _ whole).0 in
-    let size : c.record_size.result ≡ n = omega (arith, fits, c.requires) in
+    let size : c.record_size.result ≡ n = omega (arith, fits, c.requires, ap total_size c.fields.ensures) in
     let head : c.split_at.result.0.now ≡ take n bytes = c.split_at.ensures.front ∙ ap (λ k. take k bytes) size in
     let rest : c.split_at.result.1.now ≡ drop n bytes = c.split_at.ensures.back ∙ ap (λ k. drop k bytes) size in
     let first : c.push_record_line.new.out.items ≡ out ++ line_text (1, record_words line (take n bytes)) =

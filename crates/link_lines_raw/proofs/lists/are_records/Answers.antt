@@ -7,11 +7,11 @@ use Rattle.link_lines_raw.proofs.lists.are_records.Goals as goal
 
 pub returns-then-not-is_first_record : goal.returns-then-not-is_first_record
 returns-then-not-is_first_record c =
-    sym (records_refused (fields_of (λ b. b.now) (λ t. t.now) c.args.fields.now) c.loop-rest.rest.now (grind (arith, nat_tests)) (sym c.is_first_record.ensures ∙ c.if-not-is_first_record.true)) ∙ c.loop-rest.invariant
+    sym (records_refused (fields_of (λ b. b.now) c.args.fields.now) c.loop-rest.rest.now (grind (arith, nat_tests)) (sym c.is_first_record.ensures ∙ c.if-not-is_first_record.true)) ∙ c.loop-rest.invariant
 
 pub loop-rest-preserved : goal.loop-rest-preserved
 loop-rest-preserved c =
-    let fs = fields_of (λ b. b.now) (λ t. t.now) c.args.fields.now in
+    let fs = fields_of (λ b. b.now) c.args.fields.now in
     let first = sym c.is_first_record.ensures ∙ c.if-not-is_first_record.false in
     let sizes = first_sizes fs c.loop-rest.rest.now first in
     let size : c.record_size-size.result ≡ total_size fs = omega (arith, sizes.0, sizes.1) in
@@ -19,4 +19,4 @@ loop-rest-preserved c =
     ap (are_records_after fs 0) rest ∙ ap (λ n. are_records_after fs 0 (drop n c.loop-rest.rest.now)) size ∙ sym (records_next fs c.loop-rest.rest.now (grind (arith, nat_tests)) first) ∙ c.loop-rest.invariant
 
 pub returns : goal.returns
-returns c = sym (records_none (fields_of (λ b. b.now) (λ t. t.now) c.args.fields.now) c.loop-rest.rest.now (grind (arith, nat_tests))) ∙ c.loop-rest.invariant
+returns c = sym (records_none (fields_of (λ b. b.now) c.args.fields.now) c.loop-rest.rest.now (grind (arith, nat_tests))) ∙ c.loop-rest.invariant

@@ -10,7 +10,7 @@ decreases-push_listed l = length l.bytes.now
 abbrev pub invariant-loop-part : goal.invariant-loop-part
 invariant-loop-part l = record {
   within : length l.rest ≤ length l.fn.bytes;
-  so_far : l.out.items ++ lines_text (listed_lines l.level (listed_of (λ b. b.now) (λ t. t.now) (λ r. r.now) l.listed) l.rest) ≡ l.fn.out.items ++ lines_text (listed_lines l.fn.level (listed_of (λ b. b.now) (λ t. t.now) (λ r. r.now) l.fn.listed) l.fn.bytes);
+  so_far : l.out.items ++ lines_text (listed_lines l.level (listed_of (λ b. b.now) l.listed) l.rest) ≡ l.fn.out.items ++ lines_text (listed_lines l.fn.level (listed_of (λ b. b.now) l.fn.listed) l.fn.bytes);
 }
 
 abbrev pub decreases-loop-part : goal.decreases-loop-part

@@ -5,5 +5,5 @@ use Rattle.link_lines_raw.proofs.raw.listed_row.Goals as goal
 
 pub returns : goal.returns
 returns c =
-    at_kind (λ b. b.now) (raw_of (λ b. b.now) (λ t. t.now) (λ r. r.now)) c.args.kind c.look_up.result c.raw_rows.result.now (raw_rows_of c.args.table.0)
+    at_kind (λ b. b.now) (raw_of (λ b. b.now)) c.args.kind c.look_up.result c.raw_rows.result.now (raw_rows_of c.args.table.0)
     c.look_up.ensures c.raw_rows.ensures.rows

@@ -11,10 +11,10 @@ use Rattle.link_lines_raw.proofs.raw.push_held.Goals as goal
 
 pub returns-in-Some : goal.returns-in-Some
 returns-in-Some c =
-    let raw = raw_of (λ b. b.now) (λ t. t.now) (λ r. r.now) c.args.raw.now in
+    let raw = raw_of (λ b. b.now) c.args.raw.now in
     let p = c.args.payload.now in
     let after = c.push_after_name.new.out.items in
-    let tells = sym c.in_ok-listed.ensures.list ∙ ap (option_map (listing (λ b. b.now) (λ t. t.now) (λ r. r.now))) c.in-Some.is in
+    let tells = sym c.in_ok-listed.ensures.list ∙ ap (option_map (listing (λ b. b.now))) c.in-Some.is in
     record {
       ok = on_ok_weaker c.push_listed.result
           (λ h. held_text c.args.out.now.items (after_name raw [] p) c.args.level (shown_head raw [] p) (shown_list raw [] p) after c.push_listed.new.out.items c.in_ok-listed.ensures.ok
@@ -23,8 +23,8 @@ returns-in-Some c =
 
 pub returns-in-None : goal.returns-in-None
 returns-in-None c =
-    let raw = raw_of (λ b. b.now) (λ t. t.now) (λ r. r.now) c.args.raw.now in
+    let raw = raw_of (λ b. b.now) c.args.raw.now in
     let p = c.args.payload.now in
     let after = c.push_after_name.new.out.items in
-    let tells = sym c.in_ok-listed.ensures.list ∙ ap (option_map (listing (λ b. b.now) (λ t. t.now) (λ r. r.now))) c.in-None.is in
+    let tells = sym c.in_ok-listed.ensures.list ∙ ap (option_map (listing (λ b. b.now))) c.in-None.is in
     record { ok = held_text c.args.out.now.items (after_name raw [] p) c.args.level (shown_head raw [] p) (shown_list raw [] p) after after c.in_ok-listed.ensures.ok (nothing_text after c.args.level (shown_list raw [] p) tells) }

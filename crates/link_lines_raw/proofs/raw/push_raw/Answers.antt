@@ -14,7 +14,7 @@ returns-in-Some c =
     let e : Attribute = record { kind = c.args.attribute.kind; payload = c.args.attribute.payload.now } in
     let row = raw_row c.args.table e.kind in
     let after = c.push_attribute.new.out.items in
-    let tells = sym c.in_ok-listed.ensures.list ∙ ap (option_map (listing (λ b. b.now) (λ t. t.now) (λ r. r.now))) c.in-Some.is in
+    let tells = sym c.in_ok-listed.ensures.list ∙ ap (option_map (listing (λ b. b.now))) c.in-Some.is in
     record {
       ok = on_ok_weaker c.push_listed.result
           (λ h. held_text c.args.out.now.items (raw_text c.args.table [] e) c.args.level (named_head row [] e) (named_list row [] e) after c.push_listed.new.out.items c.in_ok-listed.ensures.ok
@@ -26,5 +26,5 @@ returns-in-None c =
     let e : Attribute = record { kind = c.args.attribute.kind; payload = c.args.attribute.payload.now } in
     let row = raw_row c.args.table e.kind in
     let after = c.push_attribute.new.out.items in
-    let tells = sym c.in_ok-listed.ensures.list ∙ ap (option_map (listing (λ b. b.now) (λ t. t.now) (λ r. r.now))) c.in-None.is in
+    let tells = sym c.in_ok-listed.ensures.list ∙ ap (option_map (listing (λ b. b.now))) c.in-None.is in
     record { ok = held_text c.args.out.now.items (raw_text c.args.table [] e) c.args.level (named_head row [] e) (named_list row [] e) after after c.in_ok-listed.ensures.ok (nothing_text after c.args.level (named_list row [] e) tells) }

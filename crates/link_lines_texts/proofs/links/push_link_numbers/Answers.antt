@@ -8,7 +8,7 @@ use Rattle.link_lines_texts.proofs.LineCuts.{three_parts}
 use Rattle.link_lines_texts.proofs.links.push_link_numbers.Goals as goal
 
 pub returns : goal.returns
-unfolding link_numbers address_families layer_types
+unfolding link_numbers
 returns c =
     let body = c.args.body.now in
     let family = labelled (codes "ifinfomsg family ") (named_number address_families (slice_index body 0)) in

@@ -4,7 +4,7 @@ use Rattle.link_lines_values.proofs.records.push_slots.Given as goal
 
 abbrev pub invariant-loop-rest : goal.invariant-loop-rest
 invariant-loop-rest l = record {
-  text : l.out.items ++ slots_text l.size (shown_of (λ b. b.now) (λ t. t.now) l.shown) (fields_of (λ b. b.now) (λ t. t.now) l.rows) l.index (length l.rest / l.size) l.rest ≡ l.initial.out.items ++ slots_text l.size (shown_of (λ b. b.now) (λ t. t.now) l.shown) (fields_of (λ b. b.now) (λ t. t.now) l.rows) 0 (length l.bytes / l.size) l.bytes;
+  text : l.out.items ++ slots_text l.size (shown_of l.shown) (fields_of (λ b. b.now) l.rows) l.index (length l.rest / l.size) l.rest ≡ l.initial.out.items ++ slots_text l.size (shown_of l.shown) (fields_of (λ b. b.now) l.rows) 0 (length l.bytes / l.size) l.bytes;
   index : l.index + length l.rest ≤ length l.bytes;
 }
 

@@ -1,2 +1,0 @@
-pub mod KindNames
-pub mod Whole

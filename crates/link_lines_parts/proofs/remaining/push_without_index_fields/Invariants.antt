@@ -1,0 +1,12 @@
+use Rattle.std.proofs.Common.{◌≡◌, ◌++◌, false, length}
+use Rattle.link_lines_parts.specs.Lines.{words_of}
+use Rattle.link_lines_parts.specs.Remaining.{without_index_fields}
+use Rattle.link_lines_parts.proofs.remaining.push_without_index_fields.Given as goal
+
+abbrev pub invariant-loop-word : goal.invariant-loop-word
+invariant-loop-word l =
+    l.out.items ++ without_index_fields l.after_name (words_of l.rest)
+    ≡ l.fn.out.items ++ without_index_fields false (words_of l.fn.line)
+
+abbrev pub decreases-loop-word : goal.decreases-loop-word
+decreases-loop-word l = length l.rest

@@ -1,0 +1,6 @@
+pub mod BytesLines
+pub mod KindNames
+pub mod Lines
+pub mod Names
+pub mod Remaining
+pub mod Whole

@@ -1,0 +1,80 @@
+-- The lines of a message without some attributes.
+use Rattle.std.specs.Prelude.{ℕ, ◌&&◌, ◌||◌, nat_lt, Bool, false, cond, bytes_eq, codes, List, [], ◌∷◌, ◌++◌, map}
+use Rattle.std.specs.Prelude.{Option, Some, None}
+use Rattle.link_lines_parts.specs.declared.remaining.Omission.{Omission}
+use Rattle.link_lines_parts.specs.Lines.{first_word, level, lines_of, words_of}
+use Rattle.link_lines_parts.specs.Names.{counter_names, header_names, index_names, is_among}
+
+-- What is left out: attributes with these names, those that count, and indexes of links with numbers of namespaces.
+pub record Omitted : Type 0 where
+  pub names : List (List ℕ)
+  pub counters : Bool
+  pub indexes : Bool
+
+-- What an omission leaves out.
+abbrev pub omitted_of : Omission → Omitted
+omitted_of o = record { names = map (λ n. n.now) o.names.now; counters = o.counters; indexes = o.indexes }
+
+-- Nothing is left out.
+abbrev pub nothing_omitted : Omitted
+nothing_omitted = record { names = []; counters = false; indexes = false }
+
+-- ---- attributes
+
+-- Whether attributes with this name are left out.
+abbrev pub is_omitted_name : Omitted → List ℕ → Bool
+is_omitted_name o name =
+    is_among o.names name || ((o.counters && is_among counter_names name) || (o.indexes && is_among index_names name))
+
+-- Whether a line is that of an attribute that is left out. The line of level 0 is the message's own.
+abbrev pub is_omitted : Omitted → List ℕ → Bool
+is_omitted o line = nat_lt 0 (level line) && is_omitted_name o (first_word line)
+
+-- The level of the omitted attribute that a line begins, if it begins one.
+abbrev pub begun_level : Omitted → List ℕ → Option ℕ
+begun_level o line = cond (is_omitted o line) (Some (level line)) None
+
+-- The level of the omitted attribute that a line belongs to, if there is one; `before` is that of the line before it.
+-- A line belongs to the same attribute as that one if it is deeper than the attribute's own line.
+abbrev pub omitted_level : Omitted → Option ℕ → List ℕ → Option ℕ
+omitted_level o None line = begun_level o line
+omitted_level o (Some attribute) line = cond (nat_lt attribute (level line)) (Some attribute) (begun_level o line)
+
+-- ---- fields of headers
+
+-- Whether a line is that of a header from level 1 on.
+abbrev pub is_header : List ℕ → Bool
+is_header line = nat_lt 0 (level line) && is_among header_names (first_word line)
+
+-- Whether a word, with the space before it, is the name of the field with a link's index.
+abbrev pub is_index_field : List ℕ → Bool
+is_index_field word = bytes_eq word (codes " index") || bytes_eq word (codes " ifindex")
+
+-- The text of words without the fields with an index, name and value; `after_name` says whether the first word is the
+-- value of one.
+abbrev pub without_index_fields : Bool → List (List ℕ) → List ℕ
+without_index_fields after_name [] = []
+without_index_fields after_name (word ∷ words) =
+    cond (after_name || is_index_field word) [] word ++ without_index_fields (is_index_field word) words
+
+-- ---- lines
+
+-- A line that isn't left out: of a header perhaps without its index.
+abbrev pub remaining_line : Omitted → List ℕ → List ℕ
+remaining_line o line = cond (o.indexes && is_header line) (without_index_fields false (words_of line)) line
+
+-- What remains of a line, given the level of the omitted attribute that it belongs to, if there is one.
+abbrev pub line_text : Omitted → Option ℕ → List ℕ → List ℕ
+line_text o None line = remaining_line o line
+line_text o (Some attribute) line = []
+
+-- What remains of lines; `before` is the level of the omitted attribute that the line before them belongs to, if there
+-- is one.
+abbrev pub remaining_after : Omitted → Option ℕ → List (List ℕ) → List ℕ
+remaining_after o before [] = []
+remaining_after o before (line ∷ lines) =
+    line_text o (omitted_level o before line) line ++ remaining_after o (omitted_level o before line) lines
+
+-- What remains of the lines of a message.
+abbrev pub remaining_lines : Omitted → List ℕ → List ℕ
+remaining_lines o text = remaining_after o None (lines_of text)

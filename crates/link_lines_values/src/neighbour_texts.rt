@@ -1,0 +1,175 @@
+//! The names of numbers and of bits in raw lists and bodies about neighbours, rules, next hops,
+//! settings, traffic control and statistics.
+
+ghost use Rattle.std.specs.Prelude.{◌≡◌, [], get_or};
+ghost use Rattle.link_lines_values.specs.Names.{texts_of};
+ghost use Rattle.link_lines_values.specs.NumberTexts.{neighbour_texts};
+
+use crate::number_tables::{NumberText, Numbers};
+
+/// `FrAct`.
+pub const FR_ACT: Numbers = Numbers(48);
+
+pub(crate) const FR_ACT_TEXTS: &[NumberText] = &[
+    (0, b"unspec"),
+    (1, b"to_tbl"),
+    (2, b"goto"),
+    (3, b"nop"),
+    (4, b"res3"),
+    (5, b"res4"),
+    (6, b"blackhole"),
+    (7, b"unreachable"),
+    (8, b"prohibit"),
+];
+
+/// `TcParent`.
+pub const TC_PARENT: Numbers = Numbers(49);
+
+pub(crate) const TC_PARENT_TEXTS: &[NumberText] = &[
+    (4294967281, b"ingress"),
+    (4294967295, b"root"),
+];
+
+/// `NetconfIfindex`.
+pub const NETCONF_IFINDEX: Numbers = Numbers(50);
+
+pub(crate) const NETCONF_IFINDEX_TEXTS: &[NumberText] = &[
+    (4294967294, b"default"),
+    (4294967295, b"all"),
+];
+
+/// `NexthopGrpType`.
+pub const NEXTHOP_GRP_TYPE: Numbers = Numbers(51);
+
+pub(crate) const NEXTHOP_GRP_TYPE_TEXTS: &[NumberText] = &[(0, b"mpath"), (1, b"res")];
+
+/// `NeighState`.
+pub const NEIGH_STATE: Numbers = Numbers(52);
+
+pub(crate) const NEIGH_STATE_TEXTS: &[NumberText] = &[
+    (0x1, b"INCOMPLETE"),
+    (0x2, b"REACHABLE"),
+    (0x4, b"STALE"),
+    (0x8, b"DELAY"),
+    (0x10, b"PROBE"),
+    (0x20, b"FAILED"),
+    (0x40, b"NOARP"),
+    (0x80, b"PERMANENT"),
+];
+
+/// `NeighFlags`.
+pub const NEIGH_FLAGS: Numbers = Numbers(53);
+
+pub(crate) const NEIGH_FLAGS_TEXTS: &[NumberText] = &[
+    (0x1, b"USE"),
+    (0x2, b"SELF"),
+    (0x4, b"MASTER"),
+    (0x8, b"PROXY"),
+    (0x10, b"EXT_LEARNED"),
+    (0x20, b"OFFLOADED"),
+    (0x40, b"STICKY"),
+    (0x80, b"ROUTER"),
+];
+
+/// `NeighFlagsExt`.
+pub const NEIGH_FLAGS_EXT: Numbers = Numbers(54);
+
+pub(crate) const NEIGH_FLAGS_EXT_TEXTS: &[NumberText] = &[
+    (0x1, b"MANAGED"),
+    (0x2, b"LOCKED"),
+    (0x4, b"EXT_VALIDATED"),
+];
+
+/// `FdbNotify`.
+pub const FDB_NOTIFY: Numbers = Numbers(55);
+
+pub(crate) const FDB_NOTIFY_TEXTS: &[NumberText] = &[(0x1, b"NOTIFY"), (0x2, b"INACTIVE")];
+
+/// `FibRuleFlags`.
+pub const FIB_RULE_FLAGS: Numbers = Numbers(56);
+
+pub(crate) const FIB_RULE_FLAGS_TEXTS: &[NumberText] = &[
+    (0x1, b"PERMANENT"),
+    (0x2, b"INVERT"),
+    (0x4, b"UNRESOLVED"),
+    (0x8, b"IIF_DETACHED"),
+    (0x10, b"OIF_DETACHED"),
+    (0x10000, b"FIND_SADDR"),
+];
+
+/// `TcaDumpFlags`.
+pub const TCA_DUMP_FLAGS: Numbers = Numbers(57);
+
+pub(crate) const TCA_DUMP_FLAGS_TEXTS: &[NumberText] = &[(0x1, b"TERSE")];
+
+/// `TcaRootFlags`.
+pub const TCA_ROOT_FLAGS: Numbers = Numbers(58);
+
+pub(crate) const TCA_ROOT_FLAGS_TEXTS: &[NumberText] = &[
+    (0x1, b"LARGE_DUMP_ON"),
+    (0x2, b"TERSE_DUMP"),
+];
+
+/// `TcaActFlags`.
+pub const TCA_ACT_FLAGS: Numbers = Numbers(59);
+
+pub(crate) const TCA_ACT_FLAGS_TEXTS: &[NumberText] = &[
+    (0x1, b"NO_PERCPU_STATS"),
+    (0x2, b"SKIP_HW"),
+    (0x4, b"SKIP_SW"),
+];
+
+/// `TcaActHwStats`.
+pub const TCA_ACT_HW_STATS: Numbers = Numbers(60);
+
+pub(crate) const TCA_ACT_HW_STATS_TEXTS: &[NumberText] = &[(0x1, b"IMMEDIATE"), (0x2, b"DELAYED")];
+
+/// `StatsFilter`.
+pub const STATS_FILTER: Numbers = Numbers(61);
+
+pub(crate) const STATS_FILTER_TEXTS: &[NumberText] = &[
+    (0x1, b"LINK_64"),
+    (0x2, b"LINK_XSTATS"),
+    (0x4, b"LINK_XSTATS_SLAVE"),
+    (0x8, b"LINK_OFFLOAD_XSTATS"),
+    (0x10, b"AF_SPEC"),
+];
+
+/// `NhaOpFlags`.
+pub const NHA_OP_FLAGS: Numbers = Numbers(62);
+
+pub(crate) const NHA_OP_FLAGS_TEXTS: &[NumberText] = &[
+    (0x1, b"DUMP_STATS"),
+    (0x2, b"DUMP_HW_STATS"),
+    (0x80000000, b"RESP_GRP_RESVD_0"),
+];
+
+/// `TunnelMsgFlags`.
+pub const TUNNEL_MSG_FLAGS: Numbers = Numbers(63);
+
+pub(crate) const TUNNEL_MSG_FLAGS_TEXTS: &[NumberText] = &[(0x1, b"STATS")];
+
+/// Returns the numbers of a table with their names, by its index from that of the first table here on.
+pub(crate) fn texts(index: u8) -> &'static [NumberText]
+    ensures { texts_of (λ b. b.now) result.now ≡ get_or neighbour_texts index [] }
+{
+    match index {
+        0 => FR_ACT_TEXTS,
+        1 => TC_PARENT_TEXTS,
+        2 => NETCONF_IFINDEX_TEXTS,
+        3 => NEXTHOP_GRP_TYPE_TEXTS,
+        4 => NEIGH_STATE_TEXTS,
+        5 => NEIGH_FLAGS_TEXTS,
+        6 => NEIGH_FLAGS_EXT_TEXTS,
+        7 => FDB_NOTIFY_TEXTS,
+        8 => FIB_RULE_FLAGS_TEXTS,
+        9 => TCA_DUMP_FLAGS_TEXTS,
+        10 => TCA_ROOT_FLAGS_TEXTS,
+        11 => TCA_ACT_FLAGS_TEXTS,
+        12 => TCA_ACT_HW_STATS_TEXTS,
+        13 => STATS_FILTER_TEXTS,
+        14 => NHA_OP_FLAGS_TEXTS,
+        15 => TUNNEL_MSG_FLAGS_TEXTS,
+        _ => &[],
+    }
+}

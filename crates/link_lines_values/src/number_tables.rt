@@ -1,0 +1,55 @@
+//! Tables of the names of numbers and of bits, by index.
+
+ghost use Rattle.std.specs.Prelude.{◌≡◌};
+ghost use Rattle.link_lines_values.specs.Names.{texts_of};
+ghost use Rattle.link_lines_values.specs.NumberTexts.{number_texts};
+
+use crate::bridge_texts::MCAST_MODE;
+use crate::flag_names::LINK_FLAGS;
+use crate::neighbour_texts::FR_ACT;
+use crate::number_texts::PLAIN;
+use crate::route_texts::FAMILY;
+use crate::{bridge_texts, flag_names, neighbour_texts, number_texts, route_texts};
+
+/// A number, or a bit, and its name.
+pub type NumberText = (u32, &'static [u8]);
+
+/// A table of numbers, or of bits in ascending order, with their names, by its index.
+// Rows of attributes refer to a table by its index, since the prover takes more time over a
+// constant than in proportion to the references inside.
+#[derive(Clone, Copy)]
+pub struct Numbers(pub u8);
+
+impl Numbers {
+    /// Returns the numbers, or the bits, with their names.
+    // Most fields of records have no names.
+    #[inline]
+    #[tactic(auto, unfolding(crate::specs::NumberTexts::number_texts))]
+    pub fn texts(self) -> &'static [NumberText]
+        ensures { texts_of (λ b. b.now) result.now ≡ number_texts self }
+    {
+        if self.0 == PLAIN.0 {
+            return &[];
+        }
+        self.texts_by_group()
+    }
+
+    // Returns the numbers, or the bits, of any table with their names.
+    #[tactic(auto, unfolding(crate::specs::NumberTexts::number_texts))]
+    fn texts_by_group(self) -> &'static [NumberText]
+        ensures { texts_of (λ b. b.now) result.now ≡ number_texts self }
+    {
+        let index = self.0;
+        if index < LINK_FLAGS.0 {
+            number_texts::texts(index)
+        } else if index < FAMILY.0 {
+            flag_names::texts(index - LINK_FLAGS.0)
+        } else if index < FR_ACT.0 {
+            route_texts::texts(index - FAMILY.0)
+        } else if index < MCAST_MODE.0 {
+            neighbour_texts::texts(index - FR_ACT.0)
+        } else {
+            bridge_texts::texts(index - MCAST_MODE.0)
+        }
+    }
+}

@@ -238,14 +238,14 @@ pub(crate) fn push_after_name<'a>(
 {
     if let RawBy::Value(shown) = raw {
         push_raw_value(*shown, payload, out)?;
-        out.extend_from_slice(b"\n")?;
+        out.push(b'\n')?;
         return Ok(None);
     }
     if !holds_lines(raw, list, payload) {
         push_plain_bytes(payload, out)?;
         return Ok(None);
     }
-    out.extend_from_slice(b"\n")?;
+    out.push(b'\n')?;
     open_lines(level, raw, list, payload, out)
 }
 

@@ -86,7 +86,8 @@ fn push_payload(
         FormatBy::Plain => push_plain_bytes(payload, out)?,
         _ => {}
     }
-    out.extend_from_slice(b"\n")
+    out.push(b'\n')?;
+    Ok(())
 }
 
 /// Returns the list of a peer's attributes, with its table; none without a header.
@@ -174,7 +175,7 @@ fn push_attribute<'a>(
     out.extend_from_slice(name)?;
     if let FormatBy::Value(shown) = format {
         push_value(*shown, attribute.payload, out)?;
-        out.extend_from_slice(b"\n")?;
+        out.push(b'\n')?;
         return Ok(None);
     }
     push_known(

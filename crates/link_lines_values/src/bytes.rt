@@ -31,7 +31,7 @@ pub fn push_bytes(bytes: &[u8], out: &mut Vec<u8>) -> Result<(), AllocError>
     if bytes.is_empty() {
         return Ok(());
     }
-    out.extend_from_slice(b" ")?;
+    out.push(b' ')?;
     push_hex_text(bytes, out)
 }
 
@@ -64,7 +64,7 @@ pub(crate) fn push_hardware_address(bytes: &[u8], out: &mut Vec<u8>) -> Result<(
     if bytes.is_empty() {
         return Ok(());
     }
-    out.extend_from_slice(b" ")?;
+    out.push(b' ')?;
     push_colons(bytes, out)
 }
 
@@ -112,7 +112,8 @@ fn push_escaped(byte: u8, out: &mut Vec<u8>) -> Result<(), AllocError>
         return out.extend_from_slice(&[b'\\', byte]);
     }
     if byte >= 32 && byte < 127 {
-        return out.extend_from_slice(&[byte]);
+        out.push(byte)?;
+        return Ok(());
     }
     let [high, low] = hex_byte(byte);
     out.extend_from_slice(&[b'\\', b'x', high, low])

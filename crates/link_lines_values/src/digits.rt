@@ -63,7 +63,8 @@ pub fn push_decimal(number: u64, out: &mut Vec<u8>) -> Result<(), AllocError>
     ensures ok { OnOk result (out.new.items ≡ out.old.items ++ decimal number) }
 {
     if number < 10 {
-        return out.extend_from_slice(&[b'0' + number as u8]);
+        out.push(b'0' + number as u8)?;
+        return Ok(());
     }
     push_formatted(number, out)
 }
@@ -76,7 +77,7 @@ pub(crate) fn push_signed_by(half: u64, number: u64, out: &mut Vec<u8>) -> Resul
     if number < half {
         return push_decimal(number, out);
     }
-    out.extend_from_slice(b"-")?;
+    out.push(b'-')?;
     push_decimal((half + half).saturating_sub(number), out)
 }
 

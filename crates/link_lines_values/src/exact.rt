@@ -17,8 +17,9 @@ use crate::bytes::{is_zero, push_bytes, push_hardware_address, push_hex_text, pu
 use crate::digits::push_decimal;
 use crate::fields::{Field, Layout};
 use crate::number_tables::Numbers;
+use crate::number_texts::PLAIN;
 use crate::records::{is_counters, is_record, push_counters, push_record_fields};
-use crate::values::{ShownBy, push_number_value, push_value};
+use crate::values::{ShownBy, push_value};
 use arrayvec::ArrayString;
 use std::alloc::AllocError;
 use std::fmt::Write;
@@ -143,10 +144,11 @@ fn takes(exact: Exact, payload: &[u8]) -> bool
 }
 
 // Appends a space and a little-endian number without a name, or bytes if no number has their size.
+#[tactic(auto, unfolding(crate::specs::NumberTexts::number_texts))]
 fn push_plain_number(payload: &[u8], out: &mut Vec<u8>) -> Result<(), AllocError>
     ensures ok { OnOk result (out.new.items ≡ out.old.items ++ number_value [] payload.now) }
 {
-    push_number_value(&[], payload, out)
+    push_value(ShownBy::Number(PLAIN), payload, out)
 }
 
 // Appends the first `count` numbers of `size` bytes each, with a space before each. `min` spares a
@@ -182,9 +184,9 @@ fn push_bridge_id(payload: &[u8], out: &mut Vec<u8>) -> Result<(), AllocError>
     if payload.len() != 8 {
         return push_bytes(payload, out);
     }
-    out.extend_from_slice(b" ")?;
+    out.push(b' ')?;
     push_hex_text(&payload[..2], out)?;
-    out.extend_from_slice(b".")?;
+    out.push(b'.')?;
     push_hex_text(&payload[2..], out)
 }
 
@@ -238,7 +240,7 @@ fn push_labels(payload: &[u8], out: &mut Vec<u8>) -> Result<(), AllocError>
     ensures ok { OnOk result (out.new.items ≡ out.old.items ++ labels_text payload.now) }
 {
     let (first, rest) = payload.split_at(4usize.min(payload.len()));
-    out.extend_from_slice(b" ")?;
+    out.push(b' ')?;
     push_label_value(first, out)?;
     push_more_labels(rest, out)
 }

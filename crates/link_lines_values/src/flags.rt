@@ -61,7 +61,7 @@ fn push_listed(names: &[FlagName], number: u64, out: &mut Vec<u8>) -> Result<(),
 {
     if push_names(names, number, out)? {
         push_nameless(nameless(names, number), out)?;
-        out.extend_from_slice(b")")?;
+        out.push(b')')?;
     }
     Ok(())
 }

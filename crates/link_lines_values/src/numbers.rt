@@ -28,7 +28,8 @@ fn push_bracketed(name: &[u8], out: &mut Vec<u8>) -> Result<(), AllocError>
     }
     out.extend_from_slice(b" (")?;
     out.extend_from_slice(name)?;
-    out.extend_from_slice(b")")
+    out.push(b')')?;
+    Ok(())
 }
 
 /// Appends the name of a number, or nothing if it has none.
@@ -63,6 +64,9 @@ pub fn push_number(texts: &[NumberText], number: u64, out: &mut Vec<u8>) -> Resu
     ensures ok { OnOk result (out.new.items ≡ out.old.items ++ named_number (texts_of (λ b. b.now) texts.now) number) }
 {
     push_decimal(number, out)?;
+    if texts.is_empty() {
+        return Ok(());
+    }
     push_bracketed(find_text(texts, number), out)
 }
 

@@ -115,7 +115,7 @@ fn push_field_handle(
     match handle {
         Some(handle) if part.len() == 4 => {
             push_hex_digits(handle / 0x1_0000, out)?;
-            out.extend_from_slice(b":")?;
+            out.push(b':')?;
             push_hex_digits(handle % 0x1_0000, out)?;
             push_bracketed_name(texts, handle, out)
         }
@@ -158,9 +158,9 @@ fn push_field(
     ensures ok { OnOk result (out.new.items
         ≡ out.old.items ++ field_text separator (field_of (λ b. b.now) field.now) part.now) }
 {
-    out.extend_from_slice(b" ")?;
+    out.push(b' ')?;
     out.extend_from_slice(field.0)?;
-    out.extend_from_slice(&[separator])?;
+    out.push(separator)?;
     push_field_value(&field.2, part, out)
 }
 
@@ -349,9 +349,9 @@ fn push_counter(
     if is_zero_field(part) {
         return Ok(());
     }
-    out.extend_from_slice(b" ")?;
+    out.push(b' ')?;
     push_counter_name(rows, index, out)?;
-    out.extend_from_slice(b"=")?;
+    out.push(b'=')?;
     push_field_value(shown, part, out)
 }
 

@@ -64,7 +64,7 @@ pub enum ShownBy<N, R> {
 pub type Shown = ShownBy<Numbers, Layout>;
 
 /// Appends a space and a little-endian number with its name, or bytes if no number has their size.
-pub(crate) fn push_number_value(
+fn push_number_value(
     texts: &[NumberText],
     payload: &[u8],
     out: &mut Vec<u8>,
@@ -75,7 +75,7 @@ pub(crate) fn push_number_value(
     let Some(number) = little_endian(payload) else {
         return push_bytes(payload, out);
     };
-    out.extend_from_slice(b" ")?;
+    out.push(b' ')?;
     push_number(texts, number, out)
 }
 
@@ -91,7 +91,7 @@ fn push_big_endian_value(
     let Some(number) = big_endian(payload) else {
         return push_bytes(payload, out);
     };
-    out.extend_from_slice(b" ")?;
+    out.push(b' ')?;
     push_number(texts, number, out)
 }
 
@@ -106,7 +106,7 @@ fn push_signed_value(
 {
     match little_endian(payload) {
         Some(number) if payload.len() == 4 => {
-            out.extend_from_slice(b" ")?;
+            out.push(b' ')?;
             push_signed_number(texts, number, out)
         }
         _ => push_bytes(payload, out),
@@ -119,7 +119,7 @@ fn push_big_endian_flags(payload: &[u8], out: &mut Vec<u8>) -> Result<(), AllocE
 {
     match big_endian(payload) {
         Some(flags) => {
-            out.extend_from_slice(b" ")?;
+            out.push(b' ')?;
             push_hex(flags, out)
         }
         None => push_bytes(payload, out),
@@ -134,7 +134,7 @@ fn push_named_flags(names: &[FlagName], payload: &[u8], out: &mut Vec<u8>) -> Re
     let Some(flags) = little_endian(payload) else {
         return push_bytes(payload, out);
     };
-    out.extend_from_slice(b" ")?;
+    out.push(b' ')?;
     push_flags_of(names, flags, payload, out)
 }
 
@@ -144,7 +144,7 @@ fn push_optional_byte(payload: &[u8], out: &mut Vec<u8>) -> Result<(), AllocErro
 {
     match payload {
         [byte] => {
-            out.extend_from_slice(b" ")?;
+            out.push(b' ')?;
             push_decimal(u64::from(*byte), out)
         }
         _ => push_bytes(payload, out),
@@ -158,9 +158,9 @@ fn push_port_range(payload: &[u8], out: &mut Vec<u8>) -> Result<(), AllocError>
 {
     match payload {
         [a, b, c, d] => {
-            out.extend_from_slice(b" ")?;
+            out.push(b' ')?;
             push_decimal(u64::from(u16::from_be_bytes([*a, *b])), out)?;
-            out.extend_from_slice(b" ")?;
+            out.push(b' ')?;
             push_decimal(u64::from(u16::from_be_bytes([*c, *d])), out)
         }
         _ => push_bytes(payload, out),
@@ -173,7 +173,7 @@ fn push_mask(names: &[FlagName], flags: u32, mask: u32, out: &mut Vec<u8>) -> Re
         ≡ out.old.items ++ 32 ∷ (word_flags (texts_of (λ b. b.now) names.now) flags ++
         (codes " mask " ++ word_flags (texts_of (λ b. b.now) names.now) mask))) }
 {
-    out.extend_from_slice(b" ")?;
+    out.push(b' ')?;
     push_word_flags(names, flags, out)?;
     out.extend_from_slice(b" mask ")?;
     push_word_flags(names, mask, out)
@@ -203,7 +203,7 @@ fn push_flags_and_mask(
 fn push_boolean_value(payload: &[u8], out: &mut Vec<u8>) -> Result<(), AllocError>
     ensures ok { OnOk result (out.new.items ≡ out.old.items ++ 32 ∷ boolean_text payload.now) }
 {
-    out.extend_from_slice(b" ")?;
+    out.push(b' ')?;
     push_boolean(payload, out)
 }
 

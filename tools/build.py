@@ -4,10 +4,11 @@
     tools/build.py FOLDER CRATE..      as linkcap, linkshow (programs), linkcap_c (FOLDER/liblinkcap_c.a)
 
 `rt ci` proves a crate and all that it depends on, in a temporary repository that has only these crates, without must-fail
-edits and tests. The kit caches proofs by content, so ./check and this script don't prove a crate again that the other one
-proved. `rt ci` proves a static library but doesn't build it, so `rattle build` proves that crate once more, over the
-libraries that `rt ci` built. The result is stored in ${XDG_CACHE_HOME:-~/.cache}/linkcap under the hash of its sources, of
-the kit and of this file; the next build copies it, also in another clone.
+edits and tests. Some kits cache proofs by content; for the others ./check sets LINKCAP_PROVED once `rt ci` has passed, and
+then what that run left in crates/*/out is taken. `rt ci` proves a static library but doesn't build it, so `rattle build`
+proves that crate once more, over the libraries that `rt ci` built. The result is stored in
+${XDG_CACHE_HOME:-~/.cache}/linkcap under the hash of its sources, of the kit and of this file; the next build copies it,
+also in another clone.
 
 Progress goes to standard error. It needs the command rt. The status is 1 if a crate isn't proved.
 """
@@ -108,9 +109,16 @@ def prove(names, repository):
         sys.exit("".join(log[max(first - 40, 0):first + 1] + log[-3:]) + "build: not proved: " + names[-1])
 
 
-def build_static(name, dependencies, repository, archive):
-    """Proves a static library over the libraries in the repository, and builds it."""
-    copy_crate(name, repository)
+def is_proved(names):
+    """Whether `rt ci` has proved these libraries in this checkout, and left what it built: what other commands of the kit
+    build has a stamp, and may be of earlier sources."""
+    folders = [TOP / "crates" / name / "out/rlib" for name in names]
+    return "LINKCAP_PROVED" in os.environ and all(
+        (folder / (name + ".rlib")).is_dir() and not (folder / "stamp").exists() for name, folder in zip(names, folders))
+
+
+def build_static(name, dependencies, repository, folder, archive):
+    """Proves a static library, in a folder, over the libraries in the repository, and builds it."""
     first_page = subprocess.run(["rt", "doc"], stdout=subprocess.PIPE, text=True, check=True).stdout
     kit = Path(first_page.strip()).parent
     options = ["--crate-name", name, "src/lib.rt", "--crate-type", "staticlib", "--links", name + "="]
@@ -122,7 +130,7 @@ def build_static(name, dependencies, repository, archive):
         options += ["--extern", "%s=%s/%s.rlib" % (other, rlib, other)]
     for other in dependencies_of(name, dependencies):
         options += ["-L", "dependency=%s/crates/%s/out/rlib" % (repository, other)]
-    process = subprocess.run([kit / "bin/rattle", "build", *options, "-o", archive], cwd=repository / "crates" / name,
+    process = subprocess.run([kit / "bin/rattle", "build", *options, "-o", archive], cwd=folder,
                              stdout=subprocess.PIPE, stderr=subprocess.STDOUT, text=True)
     if process.returncode:
         sys.exit(process.stdout[-4000:] + "build: not proved: " + name)
@@ -148,14 +156,16 @@ def build(name, dependencies, folder):
         shutil.copy(cache_file, folder)
         return
     with tempfile.TemporaryDirectory(prefix="linkcap-build-") as work:
-        repository = Path(work, "repository")
-        repository.mkdir()
-        prove(libraries if is_static else [*libraries, name], repository)
+        repository = Path(work)
+        is_ready = is_static and is_proved(libraries)
+        if not is_ready:
+            prove(libraries if is_static else [*libraries, name], repository)
         file = repository / "crates" / name / "out" / file_name
         if is_static:
             report("building " + file_name)
+            copy_crate(name, repository)
             file = Path(work, file_name)
-            build_static(name, dependencies, repository, file)
+            build_static(name, dependencies, TOP if is_ready else repository, repository / "crates" / name, file)
         shutil.copy(file, folder)
         store(file, cache_file)
 

@@ -5,8 +5,8 @@
     tools/rows.py --check    ends with status 1 if the page differs from the lists, or if a comment of the grammar
                              names another attribute than the list
 
-The lists are in src/message_lists.rt and src/info_lists.rt of link_tables. Their order is that of src/table_rows.rt, and the
-names of kinds are in src/kinds.rt there. A row's variant is the variant of its type's enum whose docstring begins with the
+The lists are in src/message_lists.rt and src/kinds.rt of link_tables. Their order is that of src/table_rows.rt and of the
+macro data_tables, and the names of kinds are in src/kinds.rt too. A row's variant is the variant of its type's enum whose docstring begins with the
 row's name, or to which `field` gives the row's constant. Raw attributes and bodies are those of the independent implementation,
 tools/oracle/raw.tsv, which the vectors compare with linkshow's. It needs only Python.
 """
@@ -145,7 +145,8 @@ def lists_of(name):
     macros = re.findall(
         r"((?:/// [^\n]*\n)+)#\[macro_export\]\nmacro_rules! (\w+) \{\n    \(\$write:ident.*?\) => \{\n(.*?)\n    \};\n\}", text, re.S
     )
-    return {name: (comment.replace("/// ", "").replace("\n", " ").strip(), body) for comment, name, body in macros}
+    # a list passes its rows in braces; `data_tables` calls the lists
+    return {name: (comment.replace("/// ", "").replace("\n", " ").strip(), body) for comment, name, body in macros if "! {" in body}
 
 
 def body_of(name, lists):
@@ -177,7 +178,7 @@ def rows_of(name, lists):
 
 def tables_of(lists):
     """The names of these lists, in the order of their tables."""
-    return [name for name in re.findall(r"&crate::(\w+)!", source("table_rows.rt")) if name in lists]
+    return [name for name in re.findall(r"&\$?crate::(\w+)!", source("table_rows.rt") + source("kinds.rt")) if name in lists]
 
 
 def kinds_of():
@@ -264,7 +265,7 @@ def differences(file, grammar_crate):
 
 def page():
     out, variants_by_enum, kinds = [HEAD], enums(), kinds_of()
-    for title, file in (("Link messages", "message_lists.rt"), ("Data of links and of ports", "info_lists.rt")):
+    for title, file in (("Link messages", "message_lists.rt"), ("Data of links and of ports", "kinds.rt")):
         lists = lists_of(file)
         tables = tables_of(lists)
         out.append(f"## {title}\n")
@@ -344,7 +345,7 @@ def raw_section():
 def main():
     text = "\n".join([page(), *raw_section()])
     if sys.argv[1:] == ["--check"]:
-        faults = [*differences("message_lists.rt", "link_message_grammar"), *differences("info_lists.rt", "link_info_grammar")]
+        faults = [*differences("message_lists.rt", "link_message_grammar"), *differences("kinds.rt", "link_info_grammar")]
         if open(PAGE, encoding="utf-8").read() != text:
             faults.append("docs/rows.md differs from the lists: tools/rows.py writes it")
         print("\n".join(faults), end="\n" if faults else "")

@@ -4,9 +4,9 @@ use Rattle.std.specs.Prelude.{◌⊎◌, ◌≢◌, option_map}
 use Rattle.std.specs.Option.{is_some}
 use Rattle.std.proofs.lemmas.Bool.{cases_Bool, eqb-true, le-leb}
 use Rattle.netlink_packet_core.specs.ControlMessages.{read_done, read_error}
-use Rattle.netlink_packet_core.specs.Frames.{IsFrame, frame_length, frame_type, frame_body}
+use Rattle.netlink_packet_core.specs.Frames.{IsFrame, frame_length, frame_type, frame_body, is_frame}
 use Rattle.netlink_packet_core.specs.Headers.{header_of}
-use Rattle.netlink_packet_core.specs.Messages.{is_frame, read_message}
+use Rattle.netlink_packet_core.specs.Messages.{read_message}
 use Rattle.netlink_packet_core.specs.Payloads.{read_payload, written_body}
 use Rattle.netlink_packet_core.specs.TypedBodies.{TypedBody}
 use Rattle.netlink_packet_core.specs.NetlinkMessage.{NetlinkMessage}

@@ -4,11 +4,11 @@ use Rattle.std.specs.Prelude.{◌&&◌, nat_le, nat_lt}
 use Rattle.std.proofs.lemmas.Bool.{and_from, le-leb, ltb-false, ltb-true}
 use Rattle.std.proofs.lemmas.List.{length-take, length-take-le, drop_at, drop_all}
 use Rattle.netlink_packet_core_grammar.specs.Attributes.{nla_align}
-use Rattle.netlink_packet_core_grammar.specs.Frames.{frame_length}
+use Rattle.netlink_packet_core_grammar.specs.Frames.{frame_length, is_frame}
 use Rattle.link_message_grammar.specs.Body.{link_body}
 use Rattle.link_capture_grammar.specs.declared.fault.FaultKind.{FaultKind}
 use Rattle.link_capture_grammar.specs.Captures.{Accepted, shifted, first_frame, first_fault, texts}
-use Rattle.link_capture_numbers.specs.Cleared.{is_frame, first_frame_cleared, cleared_after, numbers_cleared}
+use Rattle.link_capture_numbers.specs.Cleared.{first_frame_cleared, cleared_after, numbers_cleared}
 use Rattle.link_capture_numbers.specs.Laws.{ClearedCapturesHaveClearedTexts}
 use Rattle.link_capture_numbers.proofs.Steps.{length_of, whole, stopped}
 use Rattle.link_capture_numbers.proofs.Zeros.{cleared_first}

@@ -3,11 +3,11 @@ use Rattle.std.proofs.Common.{◌≡◌, ℕ, ◌+◌, ◌^◌, ◌<◌, ◌≤�
 use Rattle.std.proofs.lemmas.Bool.{and_from, le-leb}
 use Rattle.std.proofs.lemmas.List.{length-append, take_at, drop_at}
 use Rattle.netlink_packet_core_grammar.specs.Attributes.{nla_align}
-use Rattle.netlink_packet_core_grammar.specs.Frames.{frame_length, frame_type, frame_body, frame_text}
+use Rattle.netlink_packet_core_grammar.specs.Frames.{frame_length, frame_type, frame_body, frame_text, is_frame}
 use Rattle.link_message_grammar.specs.Body.{link_body}
 use Rattle.link_capture_grammar.specs.Bodies.{body_text}
 use Rattle.link_capture_grammar.specs.Captures.{Accepted, first_frame}
-use Rattle.link_capture_numbers.specs.Cleared.{is_frame, zeros_at, repeats_request, first_frame_cleared, numbers_cleared}
+use Rattle.link_capture_numbers.specs.Cleared.{zeros_at, repeats_request, first_frame_cleared, numbers_cleared}
 use Rattle.link_capture_numbers.proofs.Steps.{whole}
 use Rattle.link_capture_numbers.proofs.Zeros.{repeated, zeros_before, length-zeros, cleared_first}
 use Rattle.link_capture_numbers.proofs.Texts.{text_repeats}

@@ -3,8 +3,8 @@ use Rattle.std.proofs.Common.{◌≡◌, ℕ, zero, suc, ◌-◌, ◌≤◌, tru
 use Rattle.std.specs.Prelude.{◌&&◌, nat_le}
 use Rattle.std.proofs.lemmas.Bool.{and_parts, leb-true}
 use Rattle.netlink_packet_core_grammar.specs.Attributes.{nla_align}
-use Rattle.netlink_packet_core_grammar.specs.Frames.{frame_length}
-use Rattle.link_capture_numbers.specs.Cleared.{is_frame, first_frame_cleared, cleared_after, numbers_cleared}
+use Rattle.netlink_packet_core_grammar.specs.Frames.{frame_length, is_frame}
+use Rattle.link_capture_numbers.specs.Cleared.{first_frame_cleared, cleared_after, numbers_cleared}
 
 pub passed : (k : ℕ) (c : List ℕ) → cleared_after k c ≡ numbers_cleared (drop k c)
 unfolding cleared_after numbers_cleared

@@ -1,12 +1,8 @@
 -- Captures with zeros for their sequence and port numbers.
-use Rattle.std.specs.Prelude.{ℕ, zero, suc, ◌+◌, ◌-◌, ◌&&◌, nat_eq, nat_le, Bool, cond, List, [], ◌∷◌, ◌++◌, length}
+use Rattle.std.specs.Prelude.{ℕ, zero, suc, ◌+◌, ◌-◌, ◌&&◌, nat_eq, nat_le, Bool, cond, List, [], ◌∷◌, ◌++◌}
 use Rattle.std.specs.Prelude.{take, drop}
 use Rattle.netlink_packet_core_grammar.specs.Attributes.{nla_align, zeros}
-use Rattle.netlink_packet_core_grammar.specs.Frames.{frame_length, frame_type}
-
--- The bytes begin with a whole frame.
-abbrev pub is_frame : List ℕ → Bool
-is_frame c = nat_le 16 (length c) && (nat_le 16 (frame_length c) && nat_le (frame_length c) (length c))
+use Rattle.netlink_packet_core_grammar.specs.Frames.{frame_length, frame_type, is_frame}
 
 -- The bytes with 8 zeros at `offset`.
 unfoldable pub zeros_at : ℕ → List ℕ → List ℕ

@@ -1,9 +1,9 @@
 -- The laws of cleared numbers, as the functions of `laws` state them.
 use Rattle.std.specs.Prelude.{◌≡◌, ℕ, ◌^◌, ◌<◌, true, false, List, ◌++◌, take, drop}
 use Rattle.netlink_packet_core_grammar.specs.Attributes.{nla_align}
-use Rattle.netlink_packet_core_grammar.specs.Frames.{frame_length}
+use Rattle.netlink_packet_core_grammar.specs.Frames.{frame_length, is_frame}
 use Rattle.link_capture_grammar.specs.Captures.{first_fault, texts}
-use Rattle.link_capture_numbers.specs.Cleared.{is_frame, first_frame_cleared, numbers_cleared}
+use Rattle.link_capture_numbers.specs.Cleared.{first_frame_cleared, numbers_cleared}
 
 -- Numbers are cleared frame by frame.
 pub record NumbersAreClearedByFrames : Type 0 where

@@ -1,11 +1,11 @@
 //! Clears the sequence and port numbers of messages.
 
-ghost use Rattle.std.specs.Prelude.{◌≡◌, ◌+◌, ◌<◌, ◌≤◌, ◌^◌, true, false, length, IfSome, IfNone};
+ghost use Rattle.std.specs.Prelude.{◌≡◌, ◌+◌, ◌≤◌, length};
 ghost use Rattle.netlink_packet_core_grammar.specs.Frames.{frame_length};
-ghost use Rattle.link_capture_numbers.specs.Cleared.{is_frame, zeros_at, repeats_request, first_frame_cleared, numbers_cleared};
+ghost use Rattle.link_capture_numbers.specs.Cleared.{zeros_at, repeats_request, first_frame_cleared, numbers_cleared};
 
 use super::laws::numbers_are_cleared_by_frames;
-use netlink_packet_core::{NETLINK_HEADER_LEN, NLMSG_ERROR, NetlinkBuffer, nla_align};
+use netlink_packet_core::{NLMSG_ERROR, NetlinkBuffer, first_frame_len, nla_align};
 
 /// The offset of the sequence number in a message; the port number follows. Both have 4 bytes.
 const NUMBERS: usize = 8;
@@ -16,22 +16,6 @@ const REQUEST_NUMBERS: usize = 28;
 
 /// The least length of an NLMSG_ERROR that repeats a request's header.
 const REPEATED_LEN: usize = 36;
-
-/// Returns the length of the first frame, if it is whole.
-fn frame_len(bytes: &[u8]) -> Option<usize>
-    ensures some { IfSome result (λ n. (is_frame bytes.now ≡ true) × (n ≡ frame_length bytes.now)) }
-    ensures none { IfNone result (is_frame bytes.now ≡ false) }
-    ensures bounds { IfSome result (λ n. (16 ≤ n) × (n ≤ length bytes.now) × (n < 2 ^ 32)) }
-{
-    if bytes.len() < NETLINK_HEADER_LEN {
-        return None;
-    }
-    let size = NetlinkBuffer::new(bytes).length() as usize;
-    if size < NETLINK_HEADER_LEN || size > bytes.len() {
-        return None;
-    }
-    Some(size)
-}
 
 /// Writes zeros over the 8 bytes at `offset`.
 fn clear_at(bytes: &mut [u8], offset: usize)
@@ -76,7 +60,7 @@ pub fn clear_numbers(text: &mut [u8])
 {
     numbers_are_cleared_by_frames();
     let mut at = 0;
-    'frames: while let Some(size) = frame_len(&text[at..]) {
+    'frames: while let Some(size) = first_frame_len(&text[at..]) {
         clear_first_frame(&mut text[at..], size);
         at += nla_align(size).min(text.len() - at);
     }

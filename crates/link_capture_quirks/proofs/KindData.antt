@@ -16,7 +16,7 @@ use Rattle.link_tables.proofs.NameRows.{found_name}
 use Rattle.link_tables.specs.declared.rows.Form.TheVariants.{FirstOnly}
 use Rattle.link_tables.specs.declared.rows.Held.{Held}
 use Rattle.link_tables.specs.declared.rows.Held.TheVariants.{List as HeldList}
-use Rattle.link_tables.specs.declared.table.TheConstants.{VXLAN, GENEVE, GRE, GRE6, IP4_TUNNEL, IP6_TUNNEL, BAREUDP, BATADV, NETKIT, VETH, VXCAN}
+use Rattle.link_tables.specs.declared.kinds.TheConstants.{VXLAN, GENEVE, GRE, GRE6, IP4_TUNNEL, IP6_TUNNEL, BAREUDP, BATADV, NETKIT, VETH, VXCAN}
 use Rattle.link_tables.specs.Names.{held_by_name, names_of}
 use Rattle.link_tables.specs.declared.names.NameRow.{NameRow}
 use Rattle.link_tables.specs.InForce.{held_under}

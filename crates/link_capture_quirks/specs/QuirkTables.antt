@@ -7,8 +7,9 @@ use Rattle.link_tables.specs.declared.rows.Form.TheVariants.{FirstOnly}
 use Rattle.link_tables.specs.declared.rows.Held.{Held}
 use Rattle.link_tables.specs.declared.rows.Held.TheVariants.{List as HeldList}
 use Rattle.link_tables.specs.declared.table.Table.{Table as Shared}
-use Rattle.link_tables.specs.declared.table.TheConstants.{LINK_UNSPEC, LINK_BRIDGE, VXLAN, GENEVE, GRE, GRE6}
-use Rattle.link_tables.specs.declared.table.TheConstants.{IP4_TUNNEL, IP6_TUNNEL, BAREUDP, BATADV, NETKIT, VETH, VXCAN}
+use Rattle.link_tables.specs.declared.table.TheConstants.{LINK_UNSPEC, LINK_BRIDGE}
+use Rattle.link_tables.specs.declared.kinds.TheConstants.{VXLAN, GENEVE, GRE, GRE6}
+use Rattle.link_tables.specs.declared.kinds.TheConstants.{IP4_TUNNEL, IP6_TUNNEL, BAREUDP, BATADV, NETKIT, VETH, VXCAN}
 use Rattle.link_tables.specs.InForce.{held_in_force}
 use Rattle.link_tables.specs.Tables as tables
 use Rattle.link_capture_checks.specs.Listings.{Listing as ListingOf, whole}

@@ -9,34 +9,11 @@ ghost use Rattle.link_capture_quirks.specs.QuirkTables.{has_peer, inside, depth}
 
 use crate::kinds::{AF_INET, IFLA_AF_SPEC, IFLA_LINKINFO, IFLA_VFINFO_LIST, IFLA_XDP};
 use link_capture_checks::Listed;
-use link_tables::{Form, Held, InForce, info_held, table};
-
-// The indexes of the shared tables in whose rows quirks differ.
-const LINK_UNSPEC: u8 = table::LINK_UNSPEC.0;
-
-const LINK_BRIDGE: u8 = table::LINK_BRIDGE.0;
-
-const VXLAN: u8 = table::VXLAN.0;
-
-const GENEVE: u8 = table::GENEVE.0;
-
-const GRE: u8 = table::GRE.0;
-
-const GRE6: u8 = table::GRE6.0;
-
-const IP4_TUNNEL: u8 = table::IP4_TUNNEL.0;
-
-const IP6_TUNNEL: u8 = table::IP6_TUNNEL.0;
-
-const BAREUDP: u8 = table::BAREUDP.0;
-
-const BATADV: u8 = table::BATADV.0;
-
-const NETKIT: u8 = table::NETKIT.0;
-
-const VETH: u8 = table::VETH.0;
-
-const VXCAN: u8 = table::VXCAN.0;
+use link_tables::kinds::{
+    BAREUDP, BATADV, GENEVE, GRE, GRE6, IP4_TUNNEL, IP6_TUNNEL, NETKIT, VETH, VXCAN, VXLAN,
+};
+use link_tables::table::{LINK_BRIDGE, LINK_UNSPEC};
+use link_tables::{Form, Held, InForce, Table as Shared, info_held};
 
 /// The data of a kind of link, as far as their quirks differ.
 #[derive(Clone, Copy)]
@@ -83,9 +60,9 @@ pub enum Table {
     OfKind(Data),
 }
 
-/// Returns the data with the rows of a table, by its index.
-fn data_of(table: u8) -> Data
-    ensures { result ≡ data_of table }
+/// Returns the data with the rows of a shared table.
+fn data_of(table: Shared) -> Data
+    ensures { result ≡ data_of table.0 }
 {
     match table {
         VXLAN => Data::Vxlan,
@@ -105,14 +82,9 @@ fn data_in(held: Held) -> Data
     ensures { result ≡ data_in held }
 {
     match held {
-        Held::List(Form::FirstOnly, table) => {
-            if table.0 == VETH || table.0 == VXCAN {
-                Data::Pair
-            } else {
-                Data::Other
-            }
-        }
-        Held::List(_, table) => data_of(table.0),
+        Held::List(Form::FirstOnly, VETH | VXCAN) => Data::Pair,
+        Held::List(Form::FirstOnly, _) => Data::Other,
+        Held::List(_, table) => data_of(table),
         _ => Data::Other,
     }
 }
@@ -141,13 +113,10 @@ fn info_list(force: InForce<'_>, kind: u16) -> Option<Table>
 pub fn family_table(family: u8) -> Table
     ensures { result ≡ family_table family }
 {
-    let table = link_tables::family_table(family);
-    if table.0 == LINK_UNSPEC {
-        Table::Unspec
-    } else if table.0 == LINK_BRIDGE {
-        Table::Bridge
-    } else {
-        Table::Link
+    match link_tables::family_table(family) {
+        LINK_UNSPEC => Table::Unspec,
+        LINK_BRIDGE => Table::Bridge,
+        _ => Table::Link,
     }
 }
 

@@ -16,7 +16,8 @@ use Rattle.link_tables.specs.declared.kinds.TheConstants.{KINDS, PORT_KINDS}
 use Rattle.link_tables.specs.declared.rows.Held.{Held}
 use Rattle.link_tables.specs.declared.rows.Held.TheVariants as H
 use Rattle.link_tables.specs.declared.rows.Shape.TheVariants.{Raw, Text}
-use Rattle.link_tables.specs.declared.table.TheConstants.{AMT, LINK_INFO, VLAN}
+use Rattle.link_tables.specs.declared.table.TheConstants.{LINK_INFO}
+use Rattle.link_tables.specs.declared.kinds.TheConstants.{AMT}
 use Rattle.link_tables.specs.InForce.{data_under, held_in_force, port_data_under, statistics_under}
 use Rattle.link_tables.specs.Names.{held_by_name}
 use Rattle.link_tables.specs.Rows.{form_of}
@@ -170,12 +171,3 @@ message_at t h = sym (get_or_append_left message_rows data_rows [] t h)
 pub data_at : (t : ℕ) → AMT.0 ≤ t → get_or data_rows (t - AMT.0) [] ≡ get_or table_rows t []
 unfolding table_rows message_rows
 data_at t h = sym (get_or-append_right message_rows data_rows AMT.0 t [] refl h)
-
-past : (xs : List (List NamedRow)) (t : ℕ) → length xs ≤ t → [] ≡ get_or xs t []
-past [] t h = refl
-past (x ∷ xs) zero h = absurd (omega (arith, h))
-past (x ∷ xs) (suc t) h = past xs t (omega (arith, h))
-
-pub none_at : (t : ℕ) → VLAN.0 ≤ t → [] ≡ get_or table_rows t []
-unfolding table_rows message_rows data_rows
-none_at t h = past table_rows t h

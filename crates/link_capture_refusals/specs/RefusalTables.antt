@@ -8,7 +8,8 @@ use Rattle.link_tables.specs.declared.rows.Form.TheVariants.{NonEmpty}
 use Rattle.link_tables.specs.declared.rows.Held.{Held}
 use Rattle.link_tables.specs.declared.rows.Held.TheVariants as H
 use Rattle.link_tables.specs.declared.table.Table.{Table}
-use Rattle.link_tables.specs.declared.table.TheConstants.{AMT, LINK_INFO, LINK_UNSPEC, MACVLAN_ADDRESS, SPECIFIC, VF}
+use Rattle.link_tables.specs.declared.table.TheConstants.{LINK_INFO, LINK_UNSPEC, SPECIFIC, VF}
+use Rattle.link_tables.specs.declared.kinds.TheConstants.{AMT, MACVLAN_ADDRESS}
 use Rattle.link_tables.specs.declared.table.TheConstants.{VF_INFOS, VF_PORTS, VLAN}
 use Rattle.link_tables.specs.InForce.{held_in_force}
 use Rattle.link_tables.specs.Tables.{is_link_info}

@@ -1,17 +1,20 @@
 //! Names and rows by kind.
 
-ghost use Rattle.std.specs.Prelude.{◌≡◌, ◌<◌, true, [], get_or, length, option_map};
+ghost use Rattle.std.specs.Prelude.{◌≡◌, true, [], get_or, option_map};
 ghost use Rattle.link_capture_refusals.specs.RefusalTables.{all_row_values, find, is_name, row_values};
 
 use crate::rows::NamedRow;
 
-/// Returns the rows of the table with an index.
+/// Returns the rows of the table with an index; none if the index is out of range.
 pub(crate) fn rows_at<'a>(tables: &'a [&'a [NamedRow]], index: u8) -> &'a [NamedRow]
-    requires { index < length tables.now }
     ensures { row_values (λ n. n.now) result.now
         ≡ get_or (all_row_values (λ b. b.now) (λ n. n.now) tables.now) index [] }
 {
-    tables[index as usize]
+    if (index as usize) < tables.len() {
+        tables[index as usize]
+    } else {
+        &[]
+    }
 }
 
 /// Returns the row of a kind, which has no flag bits.

@@ -8,16 +8,15 @@ use link_tables::Shape::{
     AtMost, BooleanOfFour, Either, Exact, FixedRecord, IdAndBoolean, NonzeroByte, OneByte,
     Presence, Raw, Resized, Text,
 };
+use link_tables::kinds::{DATA_COUNT, MACVLAN_ADDRESS};
 use link_tables::table::{
-    BRIDGE_PORT, BRIDGE_SPECIFIC, DEVLINK_PORT, DPLL_PIN, INET, INET6, INET6_PROTOCOL,
-    MACVLAN_ADDRESS, MCTP, PORT, PROPS, PROTOCOL_DOWN_REASON, SPECIFIC, VF, VF_INFOS, VF_PORTS,
-    VF_STATS, VF_VLANS, XDP,
+    BRIDGE_PORT, BRIDGE_SPECIFIC, DEVLINK_PORT, DPLL_PIN, INET, INET6, INET6_PROTOCOL, MCTP, PORT,
+    PROPS, PROTOCOL_DOWN_REASON, SPECIFIC, VF, VF_INFOS, VF_PORTS, VF_STATS, VF_VLANS, XDP,
 };
 use link_tables::{
-    Held, amt, bareudp, batadv, devlink_port, dpll_pin, geneve, gre, gre6, gtp, inet, inet6,
-    ip4_tunnel, ip6_tunnel, ipoib, ipvlan, link_bridge, link_inet6, link_other, link_unspec,
-    macsec, macvlan, macvlan_address, mctp, netkit, props, protocol_down_reason, rmnet, specific,
-    veth, vf, vf_infos, vf_ports, vf_stats, vf_vlans, vrf, vti, vxcan, vxlan, wwan, xdp, xfrm,
+    Held, data_tables, devlink_port, dpll_pin, inet, inet6, link_bridge, link_inet6, link_other,
+    link_unspec, mctp, props, protocol_down_reason, specific, vf, vf_infos, vf_ports, vf_stats,
+    vf_vlans, xdp,
 };
 
 /// A row: a kind, its name, and what its payload is.
@@ -66,28 +65,4 @@ pub const MESSAGE_ROWS: [&[NamedRow]; 20] = [
 
 /// The rows of the tables of data, by the index of the table, counted from the first of these
 /// tables.
-pub const DATA_ROWS: [&[NamedRow]; 23] = [
-    &amt!(named_rows),
-    &bareudp!(named_rows),
-    &batadv!(named_rows),
-    &geneve!(named_rows),
-    &gre!(named_rows),
-    &gre6!(named_rows),
-    &gtp!(named_rows),
-    &ipoib!(named_rows),
-    &ipvlan!(named_rows),
-    &ip4_tunnel!(named_rows),
-    &ip6_tunnel!(named_rows),
-    &macvlan!(named_rows),
-    &macvlan_address!(named_rows),
-    &macsec!(named_rows),
-    &netkit!(named_rows),
-    &veth!(named_rows),
-    &rmnet!(named_rows),
-    &vrf!(named_rows),
-    &wwan!(named_rows),
-    &xfrm!(named_rows),
-    &vti!(named_rows),
-    &vxlan!(named_rows),
-    &vxcan!(named_rows),
-];
+pub const DATA_ROWS: [&[NamedRow]; DATA_COUNT] = data_tables!(named_rows);

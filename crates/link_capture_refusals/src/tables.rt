@@ -2,7 +2,8 @@
 
 ghost use Rattle.std.specs.Prelude.{◌≡◌, ◌<◌, ◌≤◌, ◌-◌, [], get_or, ℕ, List, option_map, IfSome};
 ghost use Rattle.attribute_tables_grammar.specs.Lists as Lists;
-ghost use Rattle.link_tables.specs.declared.table.TheConstants.{AMT, LINK_INFO, VLAN};
+ghost use Rattle.link_tables.specs.declared.table.TheConstants.{LINK_INFO};
+ghost use Rattle.link_tables.specs.declared.kinds.TheConstants.{AMT};
 ghost use Rattle.link_tables.specs.InForce.{held_in_force, in_force};
 ghost use Rattle.link_tables.specs.Rows.{form_of};
 ghost use Rattle.link_capture_checks.specs.Listings.{listing};
@@ -15,7 +16,8 @@ use crate::reason::Reason;
 use crate::rows::{DATA_ROWS, MESSAGE_ROWS, NamedRow};
 use link_capture_checks::Listed;
 use link_interpreter::KIND_BOUND;
-use link_tables::table::{AMT, LINK_INFO, VLAN};
+use link_tables::kinds::AMT;
+use link_tables::table::LINK_INFO;
 use link_tables::{
     Form, Held, IFLA_INFO_DATA, IFLA_INFO_KIND, IFLA_INFO_SLAVE_DATA, IFLA_INFO_SLAVE_KIND,
     IFLA_INFO_XSTATS, InForce, Shape, Table, info_held,
@@ -98,8 +100,7 @@ fn message_row(table: Table, kind: u16) -> Option<NamedRow>
 
 /// Returns the row of a kind in a table of data.
 fn data_row(table: Table, kind: u16) -> Option<NamedRow>
-    requires from { AMT.0 ≤ table.0 }
-    requires below { table.0 < VLAN.0 }
+    requires { AMT.0 ≤ table.0 }
     ensures { option_map (λ r. (r.0, r.1.now, r.2)) result ≡ find kind (get_or data_rows (table.0 - AMT.0) []) }
 {
     find(rows_at(&DATA_ROWS, table.0 - AMT.0), kind)
@@ -111,10 +112,8 @@ fn named_row(table: Table, kind: u16) -> Option<NamedRow>
 {
     if table.0 < AMT.0 {
         message_row(table, kind)
-    } else if table.0 < VLAN.0 {
-        data_row(table, kind)
     } else {
-        None
+        data_row(table, kind)
     }
 }
 

@@ -1,6 +1,6 @@
 -- The laws of link info, as the functions of `laws` state them.
 use Rattle.std.specs.Prelude.{◌≡◌, map}
-use Rattle.link_info_grammar.specs.KindNames.{kind_names, port_kind_names}
+use Rattle.link_info_grammar.specs.Families.{kind_names, port_kind_names}
 use Rattle.attribute_tables_grammar.specs.Rules.{Lawful}
 use Rattle.link_info_kinds.specs.Kinds.{info_kind_text, listed_kinds}
 use Rattle.link_info_kinds.specs.PortKinds.{info_port_kind_text, listed_port_kinds}

@@ -23,53 +23,8 @@ module _ (looked_up : NamesAreLookedUp) (unlisted : UnlistedNamesHoldBytes) (p :
 
   data_rule-kind : (k : InfoKind) → info_kind_is_named k ≡ true → data_rule_under p (info_kind_text k) ≡ data_rule_of_under p k
   unfolding data_rule_under
-  data_rule-kind Kind.Dummy h = listed Kind.Dummy refl
-  data_rule-kind Kind.Ifb h = listed Kind.Ifb refl
-  data_rule-kind Kind.Bridge h = listed Kind.Bridge refl
-  data_rule-kind Kind.Tun h = listed Kind.Tun refl
-  data_rule-kind Kind.Nlmon h = listed Kind.Nlmon refl
-  data_rule-kind Kind.Vlan h = listed Kind.Vlan refl
-  data_rule-kind Kind.Veth h = listed Kind.Veth refl
-  data_rule-kind Kind.Vxlan h = listed Kind.Vxlan refl
-  data_rule-kind Kind.Bond h = listed Kind.Bond refl
-  data_rule-kind Kind.IpVlan h = listed Kind.IpVlan refl
-  data_rule-kind Kind.IpVtap h = listed Kind.IpVtap refl
-  data_rule-kind Kind.MacVlan h = listed Kind.MacVlan refl
-  data_rule-kind Kind.MacVtap h = listed Kind.MacVtap refl
-  data_rule-kind Kind.GreTap h = listed Kind.GreTap refl
-  data_rule-kind Kind.GreTap6 h = listed Kind.GreTap6 refl
-  data_rule-kind Kind.IpIp h = listed Kind.IpIp refl
-  data_rule-kind Kind.Ip6Tnl h = listed Kind.Ip6Tnl refl
-  data_rule-kind Kind.SitTun h = listed Kind.SitTun refl
-  data_rule-kind Kind.GreTun h = listed Kind.GreTun refl
-  data_rule-kind Kind.GreTun6 h = listed Kind.GreTun6 refl
-  data_rule-kind Kind.Vti h = listed Kind.Vti refl
-  data_rule-kind Kind.Vti6 h = listed Kind.Vti6 refl
-  data_rule-kind Kind.Vrf h = listed Kind.Vrf refl
-  data_rule-kind Kind.Gtp h = listed Kind.Gtp refl
-  data_rule-kind Kind.Ipoib h = listed Kind.Ipoib refl
-  data_rule-kind Kind.Wireguard h = listed Kind.Wireguard refl
-  data_rule-kind Kind.Xfrm h = listed Kind.Xfrm refl
-  data_rule-kind Kind.MacSec h = listed Kind.MacSec refl
-  data_rule-kind Kind.Hsr h = listed Kind.Hsr refl
-  data_rule-kind Kind.Geneve h = listed Kind.Geneve refl
-  data_rule-kind Kind.Netkit h = listed Kind.Netkit refl
-  data_rule-kind Kind.Vcan h = listed Kind.Vcan refl
-  data_rule-kind Kind.Vxcan h = listed Kind.Vxcan refl
-  data_rule-kind Kind.Amt h = listed Kind.Amt refl
-  data_rule-kind Kind.BatAdv h = listed Kind.BatAdv refl
-  data_rule-kind Kind.BareUdp h = listed Kind.BareUdp refl
-  data_rule-kind Kind.Netdevsim h = listed Kind.Netdevsim refl
-  data_rule-kind Kind.VirtWifi h = listed Kind.VirtWifi refl
-  data_rule-kind Kind.Wwan h = listed Kind.Wwan refl
-  data_rule-kind Kind.Can h = listed Kind.Can refl
-  data_rule-kind Kind.Dsa h = listed Kind.Dsa refl
-  data_rule-kind Kind.Team h = listed Kind.Team refl
-  data_rule-kind Kind.ErSpan h = listed Kind.ErSpan refl
-  data_rule-kind Kind.Ip6ErSpan h = listed Kind.Ip6ErSpan refl
-  data_rule-kind Kind.Pfcp h = listed Kind.Pfcp refl
-  data_rule-kind Kind.RmNet h = listed Kind.RmNet refl
   data_rule-kind (Kind.Other s) h = unlisted.kinds p (string_bytes s) h
+  data_rule-kind k h = listed k refl
 
   listed_port : (k : InfoPortKind) → port_data_payload_of k ≡ payload_at port_kinds (info_port_kind_text k) → port_data_rule_under p (info_port_kind_text k) ≡ port_data_rule_of_under p k
   unfolding port_data_rule_under
@@ -77,11 +32,8 @@ module _ (looked_up : NamesAreLookedUp) (unlisted : UnlistedNamesHoldBytes) (p :
 
   port_data_rule-kind : (k : InfoPortKind) → info_port_kind_is_named k ≡ true → port_data_rule_under p (info_port_kind_text k) ≡ port_data_rule_of_under p k
   unfolding port_data_rule_under
-  port_data_rule-kind PortKind.Bond h = listed_port PortKind.Bond refl
-  port_data_rule-kind PortKind.Bridge h = listed_port PortKind.Bridge refl
-  port_data_rule-kind PortKind.Vrf h = listed_port PortKind.Vrf refl
-  port_data_rule-kind PortKind.Team h = listed_port PortKind.Team refl
   port_data_rule-kind (PortKind.Other s) h = unlisted.port_kinds p (string_bytes s) h
+  port_data_rule-kind k h = listed_port k refl
 
   pub names_determine_rules : (n : List ℕ) (k : InfoKind) → IsNamedBy n k → data_rule_under p n ≡ data_rule_of_under p k
   names_determine_rules n k h = ap (data_rule_under p) (sym h.0) ∙ data_rule-kind k h.1

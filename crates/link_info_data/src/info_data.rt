@@ -21,10 +21,9 @@ use link_info_tunnels::{
     InfoXfrm, parse_ip_tunnel,
 };
 use link_interpreter::{BytesPeer, PeerRule, PeerSet, Ruled, data_error};
+use link_tables::IFLA_INFO_DATA;
 use netlink_packet_core::{DecodeError, Nla, fits_all};
 use std::alloc::Global;
-
-const IFLA_INFO_DATA: u16 = 2;
 
 /// The data of a kind of link: a list of the kind's attributes, or bytes.
 #[derive(Debug, PartialEq, Eq, Drop)]

@@ -11,10 +11,9 @@ use attribute_tables::{parse_bytes, parse_family};
 use link_info_devices::{InfoBondPort, InfoBridgePort, InfoTeamPort, InfoVrf};
 use link_info_kinds::InfoPortKind;
 use link_interpreter::{BytesPeer, accepts_port_data};
+use link_tables::IFLA_INFO_SLAVE_DATA;
 use netlink_packet_core::{DecodeError, Nla, fits_all};
 use std::alloc::Global;
-
-const IFLA_INFO_PORT_DATA: u16 = 5;
 
 /// An attribute of the data of a port of a `vrf`.
 pub type InfoVrfPort = InfoVrf;
@@ -112,7 +111,7 @@ impl Nla for InfoPortData {
     }
 
     fn kind(&self) -> u16 {
-        IFLA_INFO_PORT_DATA
+        IFLA_INFO_SLAVE_DATA
     }
 
     fn emit_value(&self, buffer: &mut [u8]) {

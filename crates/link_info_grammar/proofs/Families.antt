@@ -4,8 +4,7 @@ use Rattle.attribute_tables_grammar.specs.Lists.{any}
 use Rattle.attribute_tables_grammar.specs.LookUps.{link_info_of}
 use Rattle.attribute_tables_grammar.specs.Tables.{Payload.link_info}
 use Rattle.attribute_tables_grammar.proofs.Tables.{lawful, info_lawful}
-use Rattle.link_info_grammar.specs.Families.{kinds, port_kinds}
-use Rattle.link_info_grammar.specs.KindNames.{kind_names, port_kind_names}
+use Rattle.link_info_grammar.specs.Families.{kinds, port_kinds, kind_names, port_kind_names}
 use Rattle.link_info_grammar.specs.LinkInfo.{info_grammar_under, info_rule_under}
 use Rattle.link_info_grammar.specs.Laws.{TablesPass, InfoIsLawful, InfoGrammarIsLawful, TablesAreListed, InfoIsAPayload, UnlistedNamesHoldBytes}
 use Rattle.link_info_grammar.proofs.Names.{named-lacks, lacks_name-unlisted}

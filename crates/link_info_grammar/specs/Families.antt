@@ -353,3 +353,22 @@ abbrev pub port_kinds : Names
 port_kinds =
     each_of (list any untyped) (codes "bond" ∷ codes "bridge" ∷ codes "team" ∷ [])
     (name (codes "vrf") (list any vrf) others)
+
+-- The names of the listed kinds of links.
+abbrev pub kind_names : List (List ℕ)
+kind_names =
+    codes "dummy" ∷ codes "ifb" ∷ codes "bridge" ∷ codes "tun" ∷ codes "nlmon" ∷ codes "vlan" ∷ codes "veth" ∷
+    codes "vxlan" ∷ codes "bond" ∷
+    codes "ipvlan" ∷ codes "ipvtap" ∷ codes "macvlan" ∷ codes "macvtap" ∷ codes "gretap" ∷ codes "ip6gretap" ∷
+    codes "ipip" ∷ codes "ip6tnl" ∷
+    codes "sit" ∷ codes "gre" ∷ codes "ip6gre" ∷ codes "vti" ∷ codes "vti6" ∷ codes "vrf" ∷ codes "gtp" ∷
+    codes "ipoib" ∷ codes "wireguard" ∷
+    codes "xfrm" ∷ codes "macsec" ∷ codes "hsr" ∷ codes "geneve" ∷ codes "netkit" ∷ codes "vcan" ∷ codes "vxcan" ∷
+    codes "amt" ∷ codes "batadv" ∷
+    codes "bareudp" ∷ codes "netdevsim" ∷ codes "virt_wifi" ∷ codes "wwan" ∷ codes "can" ∷ codes "dsa" ∷ codes "team" ∷
+    codes "erspan" ∷
+    codes "ip6erspan" ∷ codes "pfcp" ∷ codes "rmnet" ∷ []
+
+-- The names of the listed kinds of ports.
+abbrev pub port_kind_names : List (List ℕ)
+port_kind_names = codes "bond" ∷ codes "bridge" ∷ codes "vrf" ∷ codes "team" ∷ []

@@ -5,8 +5,8 @@ use Rattle.attribute_tables_grammar.specs.Lists.{ListForm, any, LawfulGrammar}
 use Rattle.attribute_tables_grammar.specs.Peers.{Peer, LawfulPeer}
 use Rattle.attribute_tables_grammar.specs.Tables.{Payload.link_info, payload_bounded, rising, named}
 use Rattle.attribute_tables_grammar.specs.LookUps.{link_info_of}
-use Rattle.link_info_grammar.specs.Families.{kinds, port_kinds}
-use Rattle.link_info_grammar.specs.KindNames.{kind_names, port_kind_names, is_unlisted, are_listed}
+use Rattle.link_info_grammar.specs.Families.{kinds, port_kinds, kind_names, port_kind_names}
+use Rattle.link_info_grammar.specs.KindNames.{is_unlisted, are_listed}
 use Rattle.link_info_grammar.specs.LinkInfo.{info_grammar_under, info_rule_under}
 
 -- No canonical attribute is more than 77 times as long as the attribute, kinds ascend, and no name occurs twice.

@@ -67,64 +67,16 @@ pub kind-found : (n : List ℕ) (k : InfoKind) → named_by info_kind_text liste
 kind-found n k h = found info_kind_text info_kind_is_named listed_kinds n k refl h
 
 kind-finds : (k : InfoKind) → info_kind_is_named k ≡ true → named_by info_kind_text listed_kinds (info_kind_text k) ≡ listed_kind k
-kind-finds Kind.Dummy h = refl
-kind-finds Kind.Ifb h = refl
-kind-finds Kind.Bridge h = refl
-kind-finds Kind.Tun h = refl
-kind-finds Kind.Nlmon h = refl
-kind-finds Kind.Vlan h = refl
-kind-finds Kind.Veth h = refl
-kind-finds Kind.Vxlan h = refl
-kind-finds Kind.Bond h = refl
-kind-finds Kind.IpVlan h = refl
-kind-finds Kind.IpVtap h = refl
-kind-finds Kind.MacVlan h = refl
-kind-finds Kind.MacVtap h = refl
-kind-finds Kind.GreTap h = refl
-kind-finds Kind.GreTap6 h = refl
-kind-finds Kind.IpIp h = refl
-kind-finds Kind.Ip6Tnl h = refl
-kind-finds Kind.SitTun h = refl
-kind-finds Kind.GreTun h = refl
-kind-finds Kind.GreTun6 h = refl
-kind-finds Kind.Vti h = refl
-kind-finds Kind.Vti6 h = refl
-kind-finds Kind.Vrf h = refl
-kind-finds Kind.Gtp h = refl
-kind-finds Kind.Ipoib h = refl
-kind-finds Kind.Wireguard h = refl
-kind-finds Kind.Xfrm h = refl
-kind-finds Kind.MacSec h = refl
-kind-finds Kind.Hsr h = refl
-kind-finds Kind.Geneve h = refl
-kind-finds Kind.Netkit h = refl
-kind-finds Kind.Vcan h = refl
-kind-finds Kind.Vxcan h = refl
-kind-finds Kind.Amt h = refl
-kind-finds Kind.BatAdv h = refl
-kind-finds Kind.BareUdp h = refl
-kind-finds Kind.Netdevsim h = refl
-kind-finds Kind.VirtWifi h = refl
-kind-finds Kind.Wwan h = refl
-kind-finds Kind.Can h = refl
-kind-finds Kind.Dsa h = refl
-kind-finds Kind.Team h = refl
-kind-finds Kind.ErSpan h = refl
-kind-finds Kind.Ip6ErSpan h = refl
-kind-finds Kind.Pfcp h = refl
-kind-finds Kind.RmNet h = refl
 kind-finds (Kind.Other s) h = not_found info_kind_text listed_kinds (string_bytes s) h
+kind-finds k h = refl
 
 -- kinds with one name are the same variant, or both `Other`
 pub names_determine_kinds : NamesDetermineKinds
 names_determine_kinds k m h i e = sym (kind-finds k h) ∙ ap (named_by info_kind_text listed_kinds) e ∙ kind-finds m i
 
 port_kind-finds : (k : InfoPortKind) → info_port_kind_is_named k ≡ true → named_by info_port_kind_text listed_port_kinds (info_port_kind_text k) ≡ listed_port_kind k
-port_kind-finds PortKind.Bond h = refl
-port_kind-finds PortKind.Bridge h = refl
-port_kind-finds PortKind.Vrf h = refl
-port_kind-finds PortKind.Team h = refl
 port_kind-finds (PortKind.Other s) h = not_found info_port_kind_text listed_port_kinds (string_bytes s) h
+port_kind-finds k h = refl
 
 pub names_determine_port_kinds : NamesDeterminePortKinds
 names_determine_port_kinds k m h i e = sym (port_kind-finds k h) ∙ ap (named_by info_port_kind_text listed_port_kinds) e ∙ port_kind-finds m i

@@ -4,7 +4,8 @@ use Rattle.std.specs.Prelude.{None}
 use Rattle.netlink_packet_core.specs.Attributes.{Attribute, proper_kind}
 use Rattle.netlink_packet_core.specs.AttributeViews.{viewed_kind, viewed_payload}
 use Rattle.netlink_packet_core.specs.Texts.{is_text, without_nul}
-use Rattle.link_info_grammar.specs.KindNames.{kind_names, is_unlisted}
+use Rattle.link_info_grammar.specs.Families.{kind_names}
+use Rattle.link_info_grammar.specs.KindNames.{is_unlisted}
 use Rattle.link_info_kinds.specs.declared.info_kind.InfoKind.{InfoKind}
 use Rattle.link_info_kinds.specs.declared.info_kind.InfoKind.TheVariants as Kind
 

@@ -6,7 +6,8 @@ ghost use Rattle.netlink_packet_core.specs.Errors.{is_memory};
 ghost use Rattle.netlink_packet_core.specs.Named.{named_by};
 ghost use Rattle.netlink_packet_core.specs.NlaBuffers.{storage};
 ghost use Rattle.netlink_packet_core.specs.Texts.{without_nul};
-ghost use Rattle.link_info_grammar.specs.KindNames.{kind_names, is_unlisted};
+ghost use Rattle.link_info_grammar.specs.Families.{kind_names};
+ghost use Rattle.link_info_grammar.specs.KindNames.{is_unlisted};
 ghost use Rattle.link_info_kinds.specs.Kinds.{info_kind_accepted, info_kind_allocates, info_kind_entry};
 ghost use Rattle.link_info_kinds.specs.Kinds.{info_kind_text, info_kind_is_named, early_kinds, late_kinds, listed_kinds, IsNamedBy};
 

@@ -1,9 +1,6 @@
 //! Data of the kind `amt` (if_link.h, IFLA_AMT_*). Numbers are little-endian unless noted.
 
-ghost use Rattle.std.specs.Prelude.{refl, IfNone, IfSome, ◌≡◌, ◌≢◌};
-ghost use Rattle.netlink_packet_core.specs.Addresses.{ip_octets, HasAddressLength};
-ghost use Rattle.netlink_packet_core.specs.Numbers.{be2, le4};
-ghost use Rattle.netlink_packet_core.specs.Families.{attribute};
+ghost use Rattle.std.specs.Prelude.{refl};
 ghost use Rattle.link_info_grammar.specs.Families.{amt};
 ghost use Rattle.link_info_tunnels.specs.Amt.{amt_entry, amt_is_row_variant};
 
@@ -72,52 +69,6 @@ impl FieldNla for InfoAmt {
     }
 }
 
-impl InfoAmt {
-    // The attribute of a kind that holds 4 bytes, little-endian. Each payload type has a function
-    // of its own, since the prover's time for one match is its paths times the variants of its
-    // type.
-    fn of_u32(kind: u16, number: u32) -> Option<Self>
-        ensures value { IfSome result (λ v. amt_entry v ≡ attribute kind (le4 number)) }
-        ensures is_row_variant { IfSome result (λ v. amt_is_row_variant v) }
-        ensures none { IfNone result (kind ≢ 1 × kind ≢ 4 × kind ≢ 8) }
-    {
-        match kind {
-            IFLA_AMT_MODE => Some(Self::Mode(AmtMode::from(number))),
-            IFLA_AMT_LINK => Some(Self::Link(number)),
-            IFLA_AMT_MAX_TUNNELS => Some(Self::MaxTunnels(number)),
-            _ => None,
-        }
-    }
-
-    // The attribute of a kind that holds 2 bytes, big-endian.
-    fn of_u16_be(kind: u16, number: u16) -> Option<Self>
-        ensures value { IfSome result (λ v. amt_entry v ≡ attribute kind (be2 number)) }
-        ensures is_row_variant { IfSome result (λ v. amt_is_row_variant v) }
-        ensures none { IfNone result (kind ≢ 2 × kind ≢ 3) }
-    {
-        match kind {
-            IFLA_AMT_RELAY_PORT => Some(Self::RelayPort(number)),
-            IFLA_AMT_GATEWAY_PORT => Some(Self::GatewayPort(number)),
-            _ => None,
-        }
-    }
-
-    // The attribute of a kind that holds an address.
-    fn of_ip(kind: u16, address: IpAddr) -> Option<Self>
-        requires { HasAddressLength address }
-        ensures value { IfSome result (λ v. amt_entry v ≡ attribute kind (ip_octets address)) }
-        ensures is_row_variant { IfSome result (λ v. amt_is_row_variant v) }
-        ensures none { IfNone result (kind ≢ 5 × kind ≢ 6 × kind ≢ 7) }
-    {
-        match kind {
-            IFLA_AMT_LOCAL_IP => Some(Self::LocalIp(address)),
-            IFLA_AMT_REMOTE_IP => Some(Self::RemoteIp(address)),
-            IFLA_AMT_DISCOVERY_IP => Some(Self::DiscoveryIp(address)),
-            _ => None,
-        }
-    }
-}
-
 impl Family for InfoAmt {
     ghost rows = { amt };
 
@@ -125,18 +76,14 @@ impl Family for InfoAmt {
 
     fn read_row(_alloc: Global, kind: u16, payload: &[u8]) -> Result<Option<Self>, DecodeError> {
         match kind {
-            IFLA_AMT_MODE | IFLA_AMT_LINK | IFLA_AMT_MAX_TUNNELS => typed!(
-                of_u32(kind),
-                parse_u32(payload)
-            ),
-            IFLA_AMT_RELAY_PORT | IFLA_AMT_GATEWAY_PORT => typed!(
-                of_u16_be(kind),
-                parse_u16_be(payload)
-            ),
-            IFLA_AMT_LOCAL_IP | IFLA_AMT_REMOTE_IP | IFLA_AMT_DISCOVERY_IP => typed!(
-                of_ip(kind),
-                parse_ip(payload)
-            ),
+            IFLA_AMT_MODE => typed!(Mode, parse_u32(payload), AmtMode),
+            IFLA_AMT_RELAY_PORT => typed!(RelayPort, parse_u16_be(payload)),
+            IFLA_AMT_GATEWAY_PORT => typed!(GatewayPort, parse_u16_be(payload)),
+            IFLA_AMT_LINK => typed!(Link, parse_u32(payload)),
+            IFLA_AMT_LOCAL_IP => typed!(LocalIp, parse_ip(payload)),
+            IFLA_AMT_REMOTE_IP => typed!(RemoteIp, parse_ip(payload)),
+            IFLA_AMT_DISCOVERY_IP => typed!(DiscoveryIp, parse_ip(payload)),
+            IFLA_AMT_MAX_TUNNELS => typed!(MaxTunnels, parse_u32(payload)),
             _ => Ok(None),
         }
     }

@@ -74,7 +74,9 @@ impl FieldNla for InfoGtp {
 }
 
 impl InfoGtp {
-    // The attribute of a kind that holds a number of 4 bytes.
+    // The attribute of a kind that holds a number of 4 bytes. These kinds share an arm of
+    // `read_row`, since the prover's time for one match is its paths times the variants of its
+    // type: with an arm for each kind, both checks take a quarter longer.
     fn of_u32(kind: u16, number: u32) -> Option<Self>
         ensures value { IfSome result (λ v. gtp_entry v ≡ attribute kind (le4 number)) }
         ensures is_row_variant { IfSome result (λ v. gtp_is_row_variant v) }

@@ -16,7 +16,7 @@ use Rattle.link_lines_texts.proofs.CapturesDetermined.{frame_has_lines}
 use Rattle.link_lines.specs.MessageLaws.{Content, Content.Text, Content.Frame, LinesDetermineContents, MessagesUnfold, all_messages, contents}
 use Rattle.link_lines.specs.MessageLines.{faulty_lines, message_lines, refusal_line}
 use Rattle.link_lines.specs.Messages.{Message, Message.Accepted, Message.Faulty, Message.Last}
-use Rattle.link_lines.proofs.AllLines.{all_lines}
+use Rattle.link_lines.proofs.AllLines.{all_are_whole, all_lines}
 use Rattle.link_lines.proofs.FaultyDetermined.{accepted_differs, faulty_determined}
 use Rattle.link_lines.proofs.MessagesDetermined.{DetermineKeys, IsShown, IsText, keys_determined}
 
@@ -35,8 +35,8 @@ content (Faulty offset kind frame) = Frame frame
 content (Last offset kind frame) = Frame []
 
 lines_of : NothingOmittedKeepsAll → (m : Message) → message_lines all_messages m ≡ own_lines m
-lines_of all (Accepted offset text) = all_lines all all_messages (record { link = refl; omitted = refl }) refl refl offset (text_lines everything text)
-lines_of all (Faulty offset kind frame) = all_lines all all_messages (record { link = refl; omitted = refl }) refl refl offset (faulty_lines true kind frame)
+lines_of all (Accepted offset text) = all_lines all all_messages all_are_whole.0 refl refl offset (text_lines everything text)
+lines_of all (Faulty offset kind frame) = all_lines all all_messages all_are_whole.0 refl refl offset (faulty_lines true kind frame)
 lines_of all (Last offset kind frame) = refl
 
 first_content : (limit : ℕ) (m : Message) (more : List Message) → IsShown limit m → contents (m ∷ more) ≡ content m ∷ contents more

@@ -14,7 +14,7 @@ use Rattle.link_lines_texts.specs.Links.{labelled}
 use Rattle.link_lines.specs.MessageLaws.{Content, LinesDetermineOffsets, MessagesUnfold, NothingOmittedKeepsAll, all_messages_with_offsets, placed_contents}
 use Rattle.link_lines.specs.MessageLines.{faulty_lines, located, message_lines}
 use Rattle.link_lines.specs.Messages.{Message, Message.Accepted, Message.Faulty, Message.Last}
-use Rattle.link_lines.proofs.AllLines.{all_selected}
+use Rattle.link_lines.proofs.AllLines.{all_are_whole, all_selected}
 use Rattle.link_lines.proofs.ContentsDetermined.{both_determined, content, own_lines, same_lines, starts}
 use Rattle.link_lines.proofs.FirstLines.{HasFirstLine, first_line, located_first, offset_line, offset_line_determined, some_with_offset, starts_with_offset}
 use Rattle.link_lines.proofs.MessagesDetermined.{DetermineKeys, IsShown, keys_determined, offset_of}
@@ -58,8 +58,8 @@ has_first limit (Last offset kind frame) h = absurd h
 
 module _ (all : NothingOmittedKeepsAll) (limit : ℕ) where
   lines_of : (m : Message) → IsShown limit m → message_lines all_messages_with_offsets m ≡ located true (offset_of m) (own_lines m)
-  lines_of (Accepted offset text) h = ap (λ z. located true offset z) (all_selected all all_messages_with_offsets (record { link = refl; omitted = refl }) (text_lines everything text))
-  lines_of (Faulty offset kind frame) h = ap (λ z. located true offset z) (all_selected all all_messages_with_offsets (record { link = refl; omitted = refl }) (faulty_lines true kind frame))
+  lines_of (Accepted offset text) h = ap (λ z. located true offset z) (all_selected all all_messages_with_offsets all_are_whole.1 (text_lines everything text))
+  lines_of (Faulty offset kind frame) h = ap (λ z. located true offset z) (all_selected all all_messages_with_offsets all_are_whole.1 (faulty_lines true kind frame))
   lines_of (Last offset kind frame) h = absurd h
 
   -- The first line has the offset.

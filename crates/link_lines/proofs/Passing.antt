@@ -82,18 +82,8 @@ module _ (o : Selection) (limit start : ℕ) (c : List ℕ) (from len : ℕ) (ol
 
 -- The reason of a fault that isn't one of a message's body doesn't depend on the message.
 no_reason : (kind : FaultKind) (offset : ℕ) (c d : List ℕ) → is_of_body kind ≡ false → frame_reason kind offset c ≡ frame_reason kind offset d
-no_reason Cut offset c d e = refl
-no_reason ShortLength offset c d e = refl
-no_reason OverLimit offset c d e = refl
 no_reason Refused offset c d e = absurd (cc)
-no_reason EmptyPorts offset c d e = refl
-no_reason Unfit offset c d e = refl
-no_reason TextOverLimit offset c d e = refl
-no_reason Memory offset c d e = refl
-no_reason Read offset c d e = refl
-no_reason Write offset c d e = refl
-no_reason TooLong offset c d e = refl
-no_reason Failed offset c d e = refl
+no_reason kind offset c d e = refl
 
 -- The messages from there on have no lines, and the fault is reported.
 pub record IsLast (o : Selection) (at : ℕ) (kind : FaultKind) (c : List ℕ) (tail : List Message) : Type 0 where

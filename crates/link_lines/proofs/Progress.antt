@@ -92,18 +92,12 @@ module _ (go : MessagesUnfold) (law : FirstFaultsAreReported) (o : Selection) (l
 
 -- A fault that a frame can have.
 shown_frame : (o : Selection) (E R W : Type 0) (limit : ℕ) (s w : List ℕ) (kind : FaultKind) (at : ℕ) → IsOfFrames kind → first_fault limit s ≡ Some (record { kind = kind; offset = at }) → IsReadThrough (last_fault (messages o.keep_going limit s)) E → w ≡ shown o limit s → ShownAt o E R W limit s w kind at
-shown_frame o E R W limit s w Cut at k f e l = (f, e, l)
-shown_frame o E R W limit s w ShortLength at k f e l = (f, e, l)
-shown_frame o E R W limit s w OverLimit at k f e l = (f, e, l)
-shown_frame o E R W limit s w Refused at k f e l = (f, e, l)
-shown_frame o E R W limit s w EmptyPorts at k f e l = (f, e, l)
-shown_frame o E R W limit s w Unfit at k f e l = (f, e, l)
-shown_frame o E R W limit s w TextOverLimit at k f e l = (f, e, l)
 shown_frame o E R W limit s w Memory at k f e l = absurd k
 shown_frame o E R W limit s w Read at k f e l = absurd k
 shown_frame o E R W limit s w Write at k f e l = absurd k
 shown_frame o E R W limit s w TooLong at k f e l = absurd k
 shown_frame o E R W limit s w Failed at k f e l = absurd k
+shown_frame o E R W limit s w kind at k f e l = (f, e, l)
 
 -- The report of a result in code.
 abbrev reported_by : ShowFault → Report

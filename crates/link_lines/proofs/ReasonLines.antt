@@ -44,19 +44,13 @@ bytes_counted before n following h k = counted_line before n following h (is_lin
 
 words_line : (r : Reason) → IsLine (words r)
 words_line (R.PayloadSize n) = bytes_counted (codes "a payload of ") n (codes " bytes") refl refl
-words_line R.NotUtf8 = is_line_checked (words R.NotUtf8) refl
-words_line R.EmptyList = is_line_checked (words R.EmptyList) refl
-words_line R.NoKind = is_line_checked (words R.NoKind) refl
-words_line R.NoPortKind = is_line_checked (words R.NoPortKind) refl
-words_line R.NoPayload = is_line_checked (words R.NoPayload) refl
 words_line (R.CutHeader n) = bytes_counted (codes "no attribute: ") n (codes " bytes are left") refl refl
 words_line (R.WrongLength n l) =
     let left = codes " bytes are left, and its length is " in
     lines_joined (counted (codes "no attribute: ") n left) (decimal l) (bytes_counted (codes "no attribute: ") n left refl refl) (number_line l)
 words_line (R.CutLink n) = bytes_counted (codes "a header of ") n (codes " bytes") refl refl
-words_line R.EmptyPorts = is_line_checked (words R.EmptyPorts) refl
-words_line R.Unfit = is_line_checked (words R.Unfit) refl
 words_line (R.CutCode n) = bytes_counted (codes "a body of ") n (codes " bytes") refl refl
+words_line r = is_line_checked (words r) refl
 
 -- ---- the names of attributes
 
@@ -117,10 +111,7 @@ first_line (Some f) p h k = h
 
 empty_line : (form : Form) (offset : ℕ) → IsOnALine (empty_refusal form offset)
 empty_line Any offset = tt
-empty_line NonEmpty offset = tt
-empty_line OfKindOne offset = tt
-empty_line Ports offset = tt
-empty_line FirstOnly offset = tt
+empty_line form offset = tt
 
 -- What holds for the lists inside holds for an attribute and for the list that has it.
 module _ (list : ListRefusal) (each : (l : Listing) (offset : ℕ) (bytes : List ℕ) → IsOnALine (list l offset bytes)) where
@@ -179,14 +170,4 @@ refusal_line_by (Some f) h = lines_joined (path_text f.path) (words f.reason) h 
 
 pub reason_line : (kind : FaultKind) (frame : List ℕ) → IsLine (body_reason kind frame)
 reason_line Refused frame = refusal_line_by (frame_refusal 0 frame) (frame_line 0 frame)
-reason_line Cut frame = is_line_checked (body_reason Cut frame) refl
-reason_line ShortLength frame = is_line_checked (body_reason ShortLength frame) refl
-reason_line OverLimit frame = is_line_checked (body_reason OverLimit frame) refl
-reason_line EmptyPorts frame = is_line_checked (body_reason EmptyPorts frame) refl
-reason_line Unfit frame = is_line_checked (body_reason Unfit frame) refl
-reason_line TextOverLimit frame = is_line_checked (body_reason TextOverLimit frame) refl
-reason_line Memory frame = is_line_checked (body_reason Memory frame) refl
-reason_line Read frame = is_line_checked (body_reason Read frame) refl
-reason_line Write frame = is_line_checked (body_reason Write frame) refl
-reason_line TooLong frame = is_line_checked (body_reason TooLong frame) refl
-reason_line Failed frame = is_line_checked (body_reason Failed frame) refl
+reason_line kind frame = is_line_checked (body_reason kind frame) refl

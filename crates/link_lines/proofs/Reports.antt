@@ -15,9 +15,6 @@ at_offset offset c fault = report_of (offset + fault.offset) fault.kind (frame_o
 
 -- The fault of a message is reported, whether or not showing continues.
 last_reported : (k : Bool) (offset : ℕ) (c : List ℕ) (kind : FaultKind) (after : ℕ → List Message) → first_report (next_messages k offset c (Err kind) after) ≡ Some (report_of offset kind (frame_of c))
-last_reported k offset c Cut after = refl
-last_reported k offset c ShortLength after = refl
-last_reported k offset c OverLimit after = refl
 last_reported true offset c Refused after = refl
 last_reported false offset c Refused after = refl
 last_reported true offset c EmptyPorts after = refl
@@ -26,11 +23,7 @@ last_reported true offset c Unfit after = refl
 last_reported false offset c Unfit after = refl
 last_reported true offset c TextOverLimit after = refl
 last_reported false offset c TextOverLimit after = refl
-last_reported k offset c Memory after = refl
-last_reported k offset c Read after = refl
-last_reported k offset c Write after = refl
-last_reported k offset c TooLong after = refl
-last_reported k offset c Failed after = refl
+last_reported k offset c kind after = refl
 
 -- A fault after one more byte.
 one_more : (offset b : ℕ) (c : List ℕ) (o : Option CaptureFault) → option_map (at_offset (offset + 1) c) o ≡ option_map (at_offset offset (b ∷ c)) (shifted 1 o)

@@ -53,8 +53,7 @@ LinesOfMessagesAreOfTexts = (choice : Choice) (limit : ℕ) (c : List ℕ) → l
 
 -- The selection that shows all of each message, also of one with a fault of its body.
 abbrev pub all_messages : Selection
-all_messages =
-    record { choice = everything; link = None; omitted = nothing_omitted; offsets = false; keep_going = true; json = false }
+all_messages = record (plain everything) { keep_going = true }
 
 -- The content of a message: the normal text of an accepted one, or the bytes of one with a fault of its body.
 pub data Content : Type 0 where
@@ -78,8 +77,7 @@ LinesDetermineContents = (limit : ℕ) (c d : List ℕ) → limit < 2 ^ 32 → A
 
 -- The selection that also shows each message's offset.
 abbrev pub all_messages_with_offsets : Selection
-all_messages_with_offsets =
-    record { choice = everything; link = None; omitted = nothing_omitted; offsets = true; keep_going = true; json = false }
+all_messages_with_offsets = record all_messages { offsets = true }
 
 -- The contents of messages in order, each with the message's offset. One at which showing stops has none.
 abbrev pub placed_contents : List Message → List (ℕ × Content)

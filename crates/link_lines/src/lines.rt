@@ -1,32 +1,15 @@
 //! The lines of normal texts.
 
-ghost use Rattle.std.specs.Prelude.{◌≡◌, ◌<◌, ◌≤◌, ◌^◌, ◌++◌, true, false, length, take, drop, OnOk, IfSome, IfNone};
+ghost use Rattle.std.specs.Prelude.{◌≡◌, ◌<◌, ◌≤◌, ◌^◌, ◌++◌, length, drop, OnOk};
 ghost use Rattle.netlink_packet_core_grammar.specs.Attributes.{nla_align};
-ghost use Rattle.netlink_packet_core.specs.Frames.{frame_length, frame_type};
 ghost use Rattle.link_lines.specs.Options.{choice_of};
-ghost use Rattle.link_lines_texts.specs.Captures.{is_frame, shown_lines, text_lines};
+ghost use Rattle.link_lines_texts.specs.Captures.{shown_lines, text_lines};
 
 use crate::options::LineOptions;
 use link_lines_texts::laws::lines_unfold_by_frames;
 use link_lines_texts::push_frame;
-use netlink_packet_core::{NETLINK_HEADER_LEN, NetlinkBuffer, nla_align};
+use netlink_packet_core::{NetlinkBuffer, first_frame_len, nla_align};
 use std::alloc::AllocError;
-
-/// Returns the length of the frame at the start of some bytes, if they hold a whole one.
-fn frame_len(bytes: &[u8]) -> Option<usize>
-    ensures some { IfSome result (λ n. (is_frame bytes.now ≡ true) × (n ≡ frame_length bytes.now)) }
-    ensures none { IfNone result (is_frame bytes.now ≡ false) }
-    ensures bounds { IfSome result (λ n. (16 ≤ n) × (n ≤ length bytes.now) × (n < 2 ^ 32)) }
-{
-    if bytes.len() < NETLINK_HEADER_LEN {
-        return None;
-    }
-    let size = NetlinkBuffer::new(bytes).length() as usize;
-    if size < NETLINK_HEADER_LEN || size > bytes.len() {
-        return None;
-    }
-    Some(size)
-}
 
 /// Returns the bytes after a frame of this length and its padding.
 fn after_padding(bytes: &[u8], size: usize) -> &[u8]
@@ -69,7 +52,7 @@ pub fn push_lines(
 {
     lines_unfold_by_frames();
     let mut rest = texts;
-    while let Some(size) = frame_len(rest) {
+    while let Some(size) = first_frame_len(rest) {
         push_shown(&rest[..size], options, out)?;
         rest = after_padding(rest, size);
     }

@@ -45,23 +45,7 @@ is_header_determined line =
 headers_determined : (h : Header) → is_header_determined (header_line h) ≡ true
 unfolding header_line layout_fields number_texts
 headers_determined H.Timestamp = refl
-headers_determined H.Ifaddrmsg = refl
-headers_determined H.Rtmsg = refl
-headers_determined H.Ndmsg = refl
-headers_determined H.FibRuleHdr = refl
-headers_determined H.Tcmsg = refl
-headers_determined H.TcmsgFilter = refl
-headers_determined H.Tcamsg = refl
-headers_determined H.Prefixmsg = refl
-headers_determined H.Ndtmsg = refl
-headers_determined H.Ifaddrlblmsg = refl
-headers_determined H.Netconfmsg = refl
-headers_determined H.BrPortMsg = refl
-headers_determined H.Rtgenmsg = refl
-headers_determined H.IfStatsMsg = refl
-headers_determined H.Nhmsg = refl
-headers_determined H.BrVlanMsg = refl
-headers_determined H.TunnelMsg = refl
+headers_determined h = refl
 
 record HeaderFacts (line : RecordLine) : Type 0 where
   determined : is_line_determined line ≡ true
@@ -110,23 +94,7 @@ header_at n =
 
 header_again : (h : Header) → header_at (header_index h) ≡ h
 header_again H.Timestamp = refl
-header_again H.Ifaddrmsg = refl
-header_again H.Rtmsg = refl
-header_again H.Ndmsg = refl
-header_again H.FibRuleHdr = refl
-header_again H.Tcmsg = refl
-header_again H.TcmsgFilter = refl
-header_again H.Tcamsg = refl
-header_again H.Prefixmsg = refl
-header_again H.Ndtmsg = refl
-header_again H.Ifaddrlblmsg = refl
-header_again H.Netconfmsg = refl
-header_again H.BrPortMsg = refl
-header_again H.Rtgenmsg = refl
-header_again H.IfStatsMsg = refl
-header_again H.Nhmsg = refl
-header_again H.BrVlanMsg = refl
-header_again H.TunnelMsg = refl
+header_again h = refl
 
 same_header : (g h : Header) → (header_index g == header_index h) ≡ true → g ≡ h
 same_header g h e = sym (header_again g) ∙ ap header_at (eqb-true (header_index g) (header_index h) e) ∙ header_again h

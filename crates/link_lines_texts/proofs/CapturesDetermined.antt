@@ -5,7 +5,7 @@ use Rattle.std.proofs.lemmas.Bool.{cond_both}
 use Rattle.std.proofs.lemmas.List.{take_at, drop_at, length-append, length-drop}
 use Rattle.netlink_packet_core_grammar.specs.Attributes.{nla_align, zeros}
 use Rattle.netlink_packet_core_grammar.specs.Bytes.{AreBytes}
-use Rattle.netlink_packet_core_grammar.specs.Frames.{frame_length, frame_type, frame_body, frame_text}
+use Rattle.netlink_packet_core_grammar.specs.Frames.{frame_length, frame_type, frame_body, frame_text, is_frame}
 use Rattle.netlink_packet_core_grammar.specs.Numbers.{u16_at, le4}
 use Rattle.attribute_tables_grammar.specs.Rules.{Rule, Lawful}
 use Rattle.link_message_grammar.specs.Body.{link_body, link_peer}
@@ -22,7 +22,7 @@ use Rattle.link_capture_numbers.proofs.Steps.{stopped}
 use Rattle.link_capture_numbers.proofs.ClearedCaptures.{following}
 use Rattle.link_lines_texts.specs.Frames.{flag_names, has_request_flag, type_text, numbers_text, header_line, body_lines, frame_lines}
 use Rattle.link_lines_texts.specs.Links.{labelled}
-use Rattle.link_lines_texts.specs.Captures.{Choice, everything, is_frame, lines_after, text_lines, without_numbers}
+use Rattle.link_lines_texts.specs.Captures.{Choice, everything, lines_after, text_lines, without_numbers}
 use Rattle.link_lines_texts.specs.Laws.{LinesDetermineMeanings, LinesDetermineTexts, LinesWithoutNumbersDetermineClearedTexts}
 use Rattle.link_lines_texts.specs.Determination.{IsCanonicalFrame, StartsFrame, NumbersAreKnown}
 use Rattle.link_lines_texts.proofs.FrameUnfolding.{AtStart, at_start, is_at_start}

@@ -5,13 +5,13 @@ use Rattle.std.proofs.lemmas.Bool.{and_from, le-leb}
 use Rattle.std.proofs.lemmas.List.{drop_at, length-append, length-drop, take-append-le}
 use Rattle.netlink_packet_core_grammar.proofs.Numbers.{from_le4}
 use Rattle.netlink_packet_core_grammar.specs.Attributes.{nla_align}
-use Rattle.netlink_packet_core_grammar.specs.Frames.{frame_length, frame_text}
+use Rattle.netlink_packet_core_grammar.specs.Frames.{frame_length, frame_text, is_frame}
 use Rattle.netlink_packet_core_grammar.specs.Numbers.{u32_at, le4}
 use Rattle.link_message_grammar.specs.Body.{link_body}
 use Rattle.link_capture_grammar.specs.Captures.{Judged, first_frame, next_texts, texts_after, texts_after_under}
 use Rattle.link_capture_grammar.proofs.EveryRule.{in_force}
 use Rattle.link_capture_grammar.proofs.Frames.{accepted}
-use Rattle.link_lines_texts.specs.Captures.{Choice, is_frame, lines_after, shown_lines, text_lines}
+use Rattle.link_lines_texts.specs.Captures.{Choice, lines_after, shown_lines, text_lines}
 use Rattle.link_lines_texts.specs.Laws.{LinesUnfoldByFrames, LinesAreJoined}
 use Rattle.link_capture_grammar.proofs.Normal.{text_length, texted}
 use Rattle.link_capture_numbers.proofs.Steps.{length_of}

@@ -3,7 +3,8 @@ use Rattle.std.proofs.Common.{◌≡◌, ℕ, zero, suc, ◌-◌, ◌<◌, ◌�
 use Rattle.std.specs.Prelude.{◌==◌, ◌&&◌, nat_lt}
 use Rattle.std.proofs.lemmas.Bool.{and_parts, eqb-true, le-ltb, lt-ltb}
 use Rattle.link_lines_values.specs.DenseRows.{find}
-use Rattle.link_tables.specs.declared.table.TheConstants.{AMT, LINK_INFO, LINK_UNSPEC}
+use Rattle.link_tables.specs.declared.kinds.TheConstants.{AMT}
+use Rattle.link_tables.specs.declared.table.TheConstants.{LINK_INFO, LINK_UNSPEC}
 use Rattle.link_lines_texts.specs.AttributeNames.{Name, AttributeRow, data_names, first_name, info_attribute_names, joined, link_rows, link_names, nested_names, family_names, attribute_names_of}
 
 abbrev alike : List AttributeRow → List AttributeRow → Bool

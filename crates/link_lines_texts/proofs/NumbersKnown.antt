@@ -5,12 +5,11 @@ use Rattle.std.proofs.lemmas.Bool.{and_from, le-leb}
 use Rattle.std.proofs.lemmas.List.{length-take, length-take-le, length-drop, drop-drop, drop-take, take-take, take_at, drop_at}
 use Rattle.netlink_packet_core_grammar.specs.Attributes.{nla_align, zeros}
 use Rattle.netlink_packet_core_grammar.specs.Bytes.{AreBytes}
-use Rattle.netlink_packet_core_grammar.specs.Frames.{frame_length, frame_type, frame_body}
+use Rattle.netlink_packet_core_grammar.specs.Frames.{frame_length, frame_type, frame_body, is_frame}
 use Rattle.netlink_packet_core_grammar.specs.Numbers.{u16_at, u32_at}
 use Rattle.link_capture_numbers.specs.Cleared.{zeros_at, repeats_request, first_frame_cleared, numbers_cleared}
 use Rattle.link_capture_numbers.proofs.Steps.{length_of, whole, stopped}
 use Rattle.link_capture_numbers.proofs.FirstFrames.{body_cleared, byte_of, length_same, type_same}
-use Rattle.link_lines_texts.specs.Captures.{is_frame}
 use Rattle.link_lines_texts.specs.Determination.{HasNoNumbers, NumbersAreKnown}
 use Rattle.link_lines_texts.proofs.FrameUnfolding.{by_first_frames}
 use Rattle.link_lines_texts.proofs.HeadersDetermined.{u32_after}

@@ -4,7 +4,7 @@ use Rattle.std.specs.Prelude.{◌==◌, ◌&&◌, nat_eq, nat_le, codes, decimal
 use Rattle.std.proofs.lemmas.Bool.{and_from, and_parts, eqb-true, le-leb}
 use Rattle.std.proofs.lemmas.List.{length-take-le, length-drop, drop-drop, drop-take, take-take, take_at}
 use Rattle.netlink_packet_core_grammar.specs.Attributes.{nla_align, zeros}
-use Rattle.netlink_packet_core_grammar.specs.Frames.{frame_length, frame_type, frame_body}
+use Rattle.netlink_packet_core_grammar.specs.Frames.{frame_length, frame_type, frame_body, is_frame}
 use Rattle.netlink_packet_core_grammar.specs.Numbers.{u16_at}
 use Rattle.link_capture_numbers.specs.Cleared.{zeros_at, repeats_request, numbers_cleared}
 use Rattle.link_capture_numbers.proofs.Steps.{length_of, whole, stopped}
@@ -17,7 +17,7 @@ use Rattle.link_lines_values.specs.Values.{value_text}
 use Rattle.link_lines_texts.specs.Frames.{after_code, body_lines, code_lines, flag_names, frame_lines, has_request_flag, header_line, request_line, type_text}
 use Rattle.link_lines_parts.specs.BytesLines.{bytes_line}
 use Rattle.link_lines_texts.specs.Links.{labelled}
-use Rattle.link_lines_texts.specs.Captures.{is_frame, text_lines, without_numbers}
+use Rattle.link_lines_texts.specs.Captures.{text_lines, without_numbers}
 use Rattle.link_lines_texts.proofs.FrameUnfolding as Lines
 use Rattle.link_lines_texts.proofs.FramesDetermined.{code_lines_are}
 

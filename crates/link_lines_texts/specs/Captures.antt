@@ -1,14 +1,10 @@
 -- The lines of a capture: those of its normal text, message by message.
-use Rattle.std.specs.Prelude.{ℕ, zero, suc, ◌-◌, ◌==◌, ◌&&◌, ◌||◌, nat_le, Bool, true, false, cond, List, [], ◌∷◌, ◌++◌}
-use Rattle.std.specs.Prelude.{length, take, Option, Some, None}
+use Rattle.std.specs.Prelude.{ℕ, zero, suc, ◌-◌, ◌==◌, ◌||◌, Bool, true, false, cond, List, [], ◌∷◌, ◌++◌}
+use Rattle.std.specs.Prelude.{take, Option, Some, None}
 use Rattle.netlink_packet_core_grammar.specs.Attributes.{nla_align}
-use Rattle.netlink_packet_core_grammar.specs.Frames.{frame_length, frame_type}
+use Rattle.netlink_packet_core_grammar.specs.Frames.{frame_length, frame_type, is_frame}
 use Rattle.link_capture_grammar.specs.Captures.{texts}
 use Rattle.link_lines_texts.specs.Frames.{frame_lines}
-
--- Whether some bytes begin with a whole frame.
-abbrev pub is_frame : List ℕ → Bool
-is_frame c = nat_le 16 (length c) && (nat_le 16 (frame_length c) && nat_le (frame_length c) (length c))
 
 -- A choice of what is shown: whether sequence and port numbers are, and the types of the shown messages if not all are.
 pub record Choice : Type 0 where

@@ -4,7 +4,7 @@ use Rattle.std.specs.Prelude.{None, Ok}
 use Rattle.std.specs.List.{list_all}
 use Rattle.netlink_packet_core_grammar.specs.Attributes.{Attribute, nla_align, first_attribute}
 use Rattle.netlink_packet_core_grammar.specs.Bytes.{AreBytes}
-use Rattle.netlink_packet_core_grammar.specs.Frames.{frame_length}
+use Rattle.netlink_packet_core_grammar.specs.Frames.{frame_length, is_frame}
 use Rattle.attribute_tables_grammar.specs.Lists.{Context, any, nothing}
 use Rattle.attribute_tables_grammar.specs.Tables.{Payload}
 use Rattle.link_capture_grammar.specs.Captures.{first_frame, IsLegal, texts}
@@ -20,7 +20,7 @@ use Rattle.link_lines_texts.specs.AttributeNames.{attribute_names_of}
 use Rattle.link_tables.specs.declared.table.TheConstants.{LINK_BRIDGE, LINK_INET6, LINK_INFO, LINK_OTHER}
 use Rattle.link_tables.specs.declared.table.TheConstants.{LINK_UNSPEC}
 use Rattle.link_capture_numbers.specs.Cleared.{numbers_cleared}
-use Rattle.link_lines_texts.specs.Captures.{Choice, everything, is_frame, lines, shown_lines, text_lines}
+use Rattle.link_lines_texts.specs.Captures.{Choice, everything, lines, shown_lines, text_lines}
 use Rattle.link_lines_texts.specs.Captures.{without_numbers}
 
 -- The lines of a list are those of its first attribute, of the list in it, and of the rest in the context after that

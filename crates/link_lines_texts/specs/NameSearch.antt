@@ -4,7 +4,8 @@ use Rattle.link_lines_raw.specs.NameSearch.{named_below}
 use Rattle.link_lines_texts.specs.AttributeNames.{AttributeRow, nested_names, family_names, info_attribute_names}
 use Rattle.link_lines_texts.specs.AttributeNames.{data_names, link_rows}
 use Rattle.link_lines_texts.specs.declared.names.TheConstants.{ALL_LINKS}
-use Rattle.link_tables.specs.declared.table.TheConstants.{AMT, LINK_INFO, LINK_UNSPEC}
+use Rattle.link_tables.specs.declared.kinds.TheConstants.{AMT}
+use Rattle.link_tables.specs.declared.table.TheConstants.{LINK_INFO, LINK_UNSPEC}
 
 -- The rows of all tables, by the table's index; at that of links of an address family those that depend on it, and last
 -- those that links of every family have.

@@ -1,18 +1,23 @@
 //! The names of attributes, and how what they hold is shown, by table and kind.
 
 ghost use Rattle.std.specs.Prelude.{◌≡◌, ◌<◌, ◌≤◌, ◌⊎◌, true, [], get_or, option_map};
+ghost use Rattle.std.specs.List.{list_all};
 ghost use Rattle.link_lines_values.specs.DenseRows.{are_dense, find};
 ghost use Rattle.link_lines_texts.specs.AttributeNames.{data_names, info_attribute_names, link_rows, link_names};
 ghost use Rattle.link_lines_texts.specs.AttributeNames.{nested_names, family_names};
 ghost use Rattle.link_tables.specs.declared.table.TheConstants.{LINK_INFO, LINK_UNSPEC};
 ghost use Rattle.link_lines_texts.specs.AttributeNames.{attribute_rows_of, attribute_name_of, attribute_names_of};
-ghost use Rattle.link_lines_texts.specs.AttributeNames.{viewed};
+ghost use Rattle.link_lines_texts.specs.AttributeNames.{tables_of, viewed};
 
+use crate::data_names::DATA_NAMES;
 use crate::format::Format;
-use crate::{data_names, message_names};
+use crate::message_names::{
+    FAMILY_NAMES, INFO_ATTRIBUTE_NAMES, LINK_ATTRIBUTE_NAMES, NESTED_NAMES,
+};
 use link_lines_values::look_up;
 use link_tables::Table;
-use link_tables::table::{AMT, LINK_INFO, LINK_UNSPEC};
+use link_tables::kinds::AMT;
+use link_tables::table::{LINK_INFO, LINK_UNSPEC};
 
 /// The name of an attribute, and how its payload is shown.
 pub type Name = (&'static [u8], Format);
@@ -89,79 +94,46 @@ macro_rules! family_name_row {
     };
 }
 
-/// Returns the names of a nested table, by its number in `link_tables`.
+/// Returns the rows of the table at an index; none if the index is out of range.
+fn table_at(tables: &[&'static [AttributeRow]], index: u8) -> &'static [AttributeRow]
+    requires { list_all (λ b. are_dense b.now) tables.now ≡ true }
+    ensures attribute_names { attribute_rows_of (λ b. b.now) result.now
+        ≡ get_or (tables_of (λ b. b.now) (λ n. n.now) tables.now) index [] }
+    ensures dense { are_dense result.now ≡ true }
+{
+    if (index as usize) < tables.len() {
+        tables[index as usize]
+    } else {
+        &[]
+    }
+}
+
+/// Returns the names of a nested table, by its index.
 #[tactic(auto, unfolding(crate::specs::AttributeNames::nested_names))]
-pub(crate) fn nested_table(table: u8) -> &'static [AttributeRow]
-    ensures attribute_names { attribute_rows_of (λ b. b.now) result.now ≡ get_or nested_names table [] }
+pub(crate) fn nested_names(index: u8) -> &'static [AttributeRow]
+    ensures attribute_names { attribute_rows_of (λ b. b.now) result.now ≡ get_or nested_names index [] }
     ensures dense { are_dense result.now ≡ true }
 {
-    match table {
-        0 => message_names::XDP_ATTRIBUTE_NAMES,
-        1 => message_names::PROPS_ATTRIBUTE_NAMES,
-        2 => message_names::PROTOCOL_DOWN_REASON_ATTRIBUTE_NAMES,
-        3 => message_names::DEVLINK_PORT_ATTRIBUTE_NAMES,
-        4 => message_names::DPLL_PIN_ATTRIBUTE_NAMES,
-        5 => message_names::MCTP_ATTRIBUTE_NAMES,
-        6 => message_names::AF_INET_ATTRIBUTE_NAMES,
-        7 => message_names::AF_INET6_ATTRIBUTE_NAMES,
-        8 => message_names::SPECIFIC_ATTRIBUTE_NAMES,
-        9 => message_names::VF_STATS_ATTRIBUTE_NAMES,
-        10 => message_names::VF_VLANS_ATTRIBUTE_NAMES,
-        11 => message_names::VF_ATTRIBUTE_NAMES,
-        12 => message_names::VF_INFOS_ATTRIBUTE_NAMES,
-        13 => message_names::VF_PORTS_ATTRIBUTE_NAMES,
-        _ => &[],
-    }
+    table_at(&NESTED_NAMES, index)
 }
 
-/// Returns the names of a table of data, by its number from that of `AMT` on.
+/// Returns the names of a table of data, by its index less that of `AMT`.
 #[tactic(auto, unfolding(crate::specs::AttributeNames::data_names))]
-pub(crate) fn data_table(table: u8) -> &'static [AttributeRow]
-    ensures attribute_names { attribute_rows_of (λ b. b.now) result.now ≡ get_or data_names table [] }
+pub(crate) fn data_names(index: u8) -> &'static [AttributeRow]
+    ensures attribute_names { attribute_rows_of (λ b. b.now) result.now ≡ get_or data_names index [] }
     ensures dense { are_dense result.now ≡ true }
 {
-    match table {
-        0 => data_names::AMT_ATTRIBUTE_NAMES,
-        1 => data_names::BAREUDP_ATTRIBUTE_NAMES,
-        2 => data_names::BATADV_ATTRIBUTE_NAMES,
-        3 => data_names::GENEVE_ATTRIBUTE_NAMES,
-        4 => data_names::GRE_ATTRIBUTE_NAMES,
-        5 => data_names::GRE6_ATTRIBUTE_NAMES,
-        6 => data_names::GTP_ATTRIBUTE_NAMES,
-        7 => data_names::IPOIB_ATTRIBUTE_NAMES,
-        8 => data_names::IPVLAN_ATTRIBUTE_NAMES,
-        9 => data_names::IP4_TUNNEL_ATTRIBUTE_NAMES,
-        10 => data_names::IP6_TUNNEL_ATTRIBUTE_NAMES,
-        11 => data_names::MACVLAN_ATTRIBUTE_NAMES,
-        12 => data_names::MACVLAN_ADDRESS_ATTRIBUTE_NAMES,
-        13 => data_names::MACSEC_ATTRIBUTE_NAMES,
-        14 => data_names::NETKIT_ATTRIBUTE_NAMES,
-        15 => data_names::VETH_ATTRIBUTE_NAMES,
-        16 => data_names::RMNET_ATTRIBUTE_NAMES,
-        17 => data_names::VRF_ATTRIBUTE_NAMES,
-        18 => data_names::WWAN_ATTRIBUTE_NAMES,
-        19 => data_names::XFRM_ATTRIBUTE_NAMES,
-        20 => data_names::VTI_ATTRIBUTE_NAMES,
-        21 => data_names::VXLAN_ATTRIBUTE_NAMES,
-        22 => data_names::VXCAN_ATTRIBUTE_NAMES,
-        _ => &[],
-    }
+    table_at(&DATA_NAMES, index)
 }
 
-/// Returns the names of the rows that depend on the address family, by the number of a link's
-/// table.
+/// Returns the names of the rows that depend on the address family, by the index of a link's table
+/// less that of `LINK_UNSPEC`.
 #[tactic(auto, unfolding(crate::specs::AttributeNames::family_names))]
-pub(crate) fn family_names_table(table: u8) -> &'static [AttributeRow]
-    ensures attribute_names { attribute_rows_of (λ b. b.now) result.now ≡ get_or family_names table [] }
+pub(crate) fn family_names(index: u8) -> &'static [AttributeRow]
+    ensures attribute_names { attribute_rows_of (λ b. b.now) result.now ≡ get_or family_names index [] }
     ensures dense { are_dense result.now ≡ true }
 {
-    match table {
-        0 => message_names::UNSPEC_FAMILY_NAMES,
-        1 => message_names::BRIDGE_FAMILY_NAMES,
-        2 => message_names::INET6_FAMILY_NAMES,
-        3 => message_names::OTHER_FAMILY_NAMES,
-        _ => &[],
-    }
+    table_at(&FAMILY_NAMES, index)
 }
 
 /// Returns the names of the rows that links of every address family have. The constant has a
@@ -171,7 +143,7 @@ pub(crate) fn link_rows() -> &'static [AttributeRow]
     ensures attribute_names { attribute_rows_of (λ b. b.now) result.now ≡ link_rows }
     ensures dense { are_dense result.now ≡ true }
 {
-    message_names::LINK_ATTRIBUTE_NAMES
+    LINK_ATTRIBUTE_NAMES
 }
 
 /// Returns the names of the attributes of link info.
@@ -180,7 +152,7 @@ pub(crate) fn info_attribute_names() -> &'static [AttributeRow]
     ensures attribute_names { attribute_rows_of (λ b. b.now) result.now ≡ info_attribute_names }
     ensures dense { are_dense result.now ≡ true }
 {
-    message_names::INFO_ATTRIBUTE_NAMES
+    INFO_ATTRIBUTE_NAMES
 }
 
 /// Returns the name of a kind of a link's attribute: that of the family's row, else that of the row
@@ -190,7 +162,7 @@ fn link_attribute_name(family: u8, kind: u16) -> Option<&'static Name>
     ensures { option_map (λ name. viewed (λ b. b.now) name.now) result
         ≡ find kind (get_or link_names family []) }
 {
-    match look_up(family_names_table(family), kind) {
+    match look_up(family_names(family), kind) {
         Some(name) => Some(name),
         None => look_up(link_rows(), kind),
     }
@@ -204,11 +176,11 @@ fn attribute_names_of(table: Table) -> &'static [AttributeRow]
     ensures dense { are_dense result.now ≡ true }
 {
     if table.0 < LINK_UNSPEC.0 {
-        nested_table(table.0)
+        nested_names(table.0)
     } else if table.is_link_info() {
         info_attribute_names()
     } else {
-        data_table(table.0 - AMT.0)
+        data_names(table.0 - AMT.0)
     }
 }
 

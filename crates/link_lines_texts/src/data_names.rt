@@ -12,54 +12,8 @@ use link_lines_values::{
     MAC_VLAN_MODE, NETKIT_MODE, NETKIT_POLICY, NETKIT_SCRUB, PLAIN, TUNNEL_ENCAP_TYPE, VXLAN_DF,
 };
 use link_tables::Form::Any;
-use link_tables::table::MACVLAN_ADDRESS;
-use link_tables::{
-    amt, bareudp, batadv, geneve, gre, gre6, gtp, ip4_tunnel, ip6_tunnel, ipoib, ipvlan, macsec,
-    macvlan, macvlan_address, netkit, rmnet, veth, vrf, vti, vxcan, vxlan, wwan, xfrm,
-};
+use link_tables::data_tables;
+use link_tables::kinds::{DATA_COUNT, MACVLAN_ADDRESS};
 
-pub const AMT_ATTRIBUTE_NAMES: &[AttributeRow] = &amt!(list_names);
-
-pub const BAREUDP_ATTRIBUTE_NAMES: &[AttributeRow] = &bareudp!(list_names);
-
-pub const BATADV_ATTRIBUTE_NAMES: &[AttributeRow] = &batadv!(list_names);
-
-pub const GENEVE_ATTRIBUTE_NAMES: &[AttributeRow] = &geneve!(list_names);
-
-pub const GRE_ATTRIBUTE_NAMES: &[AttributeRow] = &gre!(list_names);
-
-pub const GRE6_ATTRIBUTE_NAMES: &[AttributeRow] = &gre6!(list_names);
-
-pub const GTP_ATTRIBUTE_NAMES: &[AttributeRow] = &gtp!(list_names);
-
-pub const IPOIB_ATTRIBUTE_NAMES: &[AttributeRow] = &ipoib!(list_names);
-
-pub const IPVLAN_ATTRIBUTE_NAMES: &[AttributeRow] = &ipvlan!(list_names);
-
-pub const IP4_TUNNEL_ATTRIBUTE_NAMES: &[AttributeRow] = &ip4_tunnel!(list_names);
-
-pub const IP6_TUNNEL_ATTRIBUTE_NAMES: &[AttributeRow] = &ip6_tunnel!(list_names);
-
-pub const MACVLAN_ATTRIBUTE_NAMES: &[AttributeRow] = &macvlan!(list_names);
-
-pub const MACVLAN_ADDRESS_ATTRIBUTE_NAMES: &[AttributeRow] = &macvlan_address!(list_names);
-
-pub const MACSEC_ATTRIBUTE_NAMES: &[AttributeRow] = &macsec!(list_names);
-
-pub const NETKIT_ATTRIBUTE_NAMES: &[AttributeRow] = &netkit!(list_names);
-
-pub const VETH_ATTRIBUTE_NAMES: &[AttributeRow] = &veth!(list_names);
-
-pub const RMNET_ATTRIBUTE_NAMES: &[AttributeRow] = &rmnet!(list_names);
-
-pub const VRF_ATTRIBUTE_NAMES: &[AttributeRow] = &vrf!(list_names);
-
-pub const WWAN_ATTRIBUTE_NAMES: &[AttributeRow] = &wwan!(list_names);
-
-pub const XFRM_ATTRIBUTE_NAMES: &[AttributeRow] = &xfrm!(list_names);
-
-pub const VTI_ATTRIBUTE_NAMES: &[AttributeRow] = &vti!(list_names);
-
-pub const VXLAN_ATTRIBUTE_NAMES: &[AttributeRow] = &vxlan!(list_names);
-
-pub const VXCAN_ATTRIBUTE_NAMES: &[AttributeRow] = &vxcan!(list_names);
+/// The names of the attributes of each table of data, by the index of the table less that of `AMT`.
+pub const DATA_NAMES: [&[AttributeRow]; DATA_COUNT] = data_tables!(list_names);

@@ -23,36 +23,23 @@ use link_tables::{
     mctp, props, protocol_down_reason, specific, vf, vf_infos, vf_ports, vf_stats, vf_vlans, xdp,
 };
 
-// The lists that are nested in a link's attributes.
-pub const XDP_ATTRIBUTE_NAMES: &[AttributeRow] = &xdp!(list_names);
-
-pub const PROPS_ATTRIBUTE_NAMES: &[AttributeRow] = &props!(list_names);
-
-pub const PROTOCOL_DOWN_REASON_ATTRIBUTE_NAMES: &[AttributeRow] = &protocol_down_reason!(
-    list_names
-);
-
-pub const DEVLINK_PORT_ATTRIBUTE_NAMES: &[AttributeRow] = &devlink_port!(list_names);
-
-pub const DPLL_PIN_ATTRIBUTE_NAMES: &[AttributeRow] = &dpll_pin!(list_names);
-
-pub const MCTP_ATTRIBUTE_NAMES: &[AttributeRow] = &mctp!(list_names);
-
-pub const AF_INET_ATTRIBUTE_NAMES: &[AttributeRow] = &inet!(setting_names);
-
-pub const AF_INET6_ATTRIBUTE_NAMES: &[AttributeRow] = &inet6!(list_names);
-
-pub const SPECIFIC_ATTRIBUTE_NAMES: &[AttributeRow] = &specific!(list_names);
-
-pub const VF_STATS_ATTRIBUTE_NAMES: &[AttributeRow] = &vf_stats!(list_names);
-
-pub const VF_VLANS_ATTRIBUTE_NAMES: &[AttributeRow] = &vf_vlans!(list_names);
-
-pub const VF_ATTRIBUTE_NAMES: &[AttributeRow] = &vf!(list_names);
-
-pub const VF_INFOS_ATTRIBUTE_NAMES: &[AttributeRow] = &vf_infos!(list_names);
-
-pub const VF_PORTS_ATTRIBUTE_NAMES: &[AttributeRow] = &vf_ports!(list_names);
+/// The names of the attributes of each nested table, by the index of the table.
+pub const NESTED_NAMES: [&[AttributeRow]; 14] = [
+    &xdp!(list_names),
+    &props!(list_names),
+    &protocol_down_reason!(list_names),
+    &devlink_port!(list_names),
+    &dpll_pin!(list_names),
+    &mctp!(list_names),
+    &inet!(setting_names),
+    &inet6!(list_names),
+    &specific!(list_names),
+    &vf_stats!(list_names),
+    &vf_vlans!(list_names),
+    &vf!(list_names),
+    &vf_infos!(list_names),
+    &vf_ports!(list_names),
+];
 
 /// Links of any address family, without the rows that depend on the family.
 pub const LINK_ATTRIBUTE_NAMES: &[AttributeRow] = &link!(
@@ -65,15 +52,14 @@ pub const LINK_ATTRIBUTE_NAMES: &[AttributeRow] = &link!(
     }
 );
 
-// The rows that depend on the family: of links of no family, of bridges, of IPv6, and of every
-// other family.
-pub const UNSPEC_FAMILY_NAMES: &[AttributeRow] = &link_unspec!(family_names);
-
-pub const BRIDGE_FAMILY_NAMES: &[AttributeRow] = &link_bridge!(family_names);
-
-pub const INET6_FAMILY_NAMES: &[AttributeRow] = &link_inet6!(family_names);
-
-pub const OTHER_FAMILY_NAMES: &[AttributeRow] = &link_other!(family_names);
+/// The names of the rows that depend on the address family: of links of no family, of bridges, of
+/// IPv6, and of every other family.
+pub const FAMILY_NAMES: [&[AttributeRow]; 4] = [
+    &link_unspec!(family_names),
+    &link_bridge!(family_names),
+    &link_inet6!(family_names),
+    &link_other!(family_names),
+];
 
 /// IFLA_INFO_* (if_link.h).
 pub const INFO_ATTRIBUTE_NAMES: &[AttributeRow] = &[

@@ -6,13 +6,13 @@ ghost use Rattle.link_lines_texts.specs.AttributeNames.{attribute_rows_of};
 ghost use Rattle.link_lines_texts.specs.NameSearch.{rows_at, text_name};
 
 use crate::attribute_names::{
-    AttributeRow, Name, data_table, family_names_table, info_attribute_names, link_rows,
-    nested_table,
+    AttributeRow, Name, data_names, family_names, info_attribute_names, link_rows, nested_names,
 };
-use link_tables::table::{AMT, LINK_INFO, LINK_UNSPEC, VXCAN};
+use link_tables::kinds::{AMT, DATA_COUNT};
+use link_tables::table::{LINK_INFO, LINK_UNSPEC};
 
 /// The index of the rows that links of every address family have: it follows those of the tables.
-pub const ALL_LINKS: u8 = VXCAN.0 + 1;
+pub const ALL_LINKS: u8 = AMT.0 + DATA_COUNT as u8;
 
 /// Returns the name of a row, if the word is that name. The case of ASCII letters doesn't count.
 fn name_if(row: &Option<Name>, word: &[u8]) -> Option<&'static [u8]>
@@ -42,13 +42,13 @@ fn rows_at(index: u8) -> &'static [AttributeRow]
     ensures rows { attribute_rows_of (λ b. b.now) result.now ≡ rows_at index }
 {
     if index < LINK_UNSPEC.0 {
-        nested_table(index)
+        nested_names(index)
     } else if index < LINK_INFO.0 {
-        family_names_table(index - LINK_UNSPEC.0)
+        family_names(index - LINK_UNSPEC.0)
     } else if index < AMT.0 {
         info_attribute_names()
     } else if index < ALL_LINKS {
-        data_table(index - AMT.0)
+        data_names(index - AMT.0)
     } else {
         link_rows()
     }

@@ -5,10 +5,11 @@ ghost use Rattle.link_lines_texts.specs.RawTables.{raw_table, table_in};
 
 use link_lines_raw::{RawTable, raw_tables as raw};
 use link_tables::Table;
+use link_tables::kinds::{GENEVE, GRE, GRE6, NETKIT, XFRM};
 use link_tables::table::{
-    BOND, BOND_PORT, BRIDGE, BRIDGE_PORT, BRIDGE_SPECIFIC, CAN, DEVLINK_PORT, DSA, GENEVE, GRE,
-    GRE6, HSR, INET, INET6, INET6_PROTOCOL, LINK_BRIDGE, LINK_INET6, LINK_OTHER, LINK_UNSPEC, MCTP,
-    NETKIT, PORT, TUN, VF, VLAN, XFRM,
+    BOND, BOND_PORT, BRIDGE, BRIDGE_PORT, BRIDGE_SPECIFIC, CAN, DEVLINK_PORT, DSA, HSR, INET,
+    INET6, INET6_PROTOCOL, LINK_BRIDGE, LINK_INET6, LINK_OTHER, LINK_UNSPEC, MCTP, PORT, TUN, VF,
+    VLAN,
 };
 
 /// The tables whose raw attributes have names, each with the table of those.

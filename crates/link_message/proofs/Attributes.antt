@@ -1,17 +1,19 @@
 -- Attributes of links that are written as equal attributes are equal.
-use Rattle.std.proofs.Common.{◌≡◌, ℕ, List, [], ◌∷◌, ◌++◌, Bool, true, false, cond, None, refl, sym, ap, ◌∙◌, arith, All, String, Global, string_bytes}
-use Rattle.std.specs.Prelude.{◌==◌, ◌&&◌}
-use Rattle.std.proofs.lemmas.Bool.{and_from, eq-eqb}
-use lib.Pointwise.{pointwise, bytes_decides}
+use Rattle.std.proofs.Common.{◌≡◌, ◌<◌, ℕ, List, [], ◌∷◌, take, drop, cond, true, Some, refl, sym, ap, ◌∙◌, arith, append_assoc}
+use Rattle.std.specs.Prelude.{◌==◌, slice_index}
+use lib.Pointwise.{bytes_decides}
 use Rattle.netlink_packet_core.specs.Attributes.{Attribute, proper_kind}
-use Rattle.attribute_tables_grammar.specs.LookUps.{line_at}
+use Rattle.attribute_tables_grammar.specs.LookUps.{Line}
 use Rattle.attribute_tables_grammar.specs.Shapes.{raw}
 use Rattle.attribute_tables_grammar.specs.Tables.{Payload.plain}
-use Rattle.link_message_grammar.specs.LinkMessage.{Family, unspec, bridge, inet_6, family_payload, has_no_link_row, link_line, below_protocol, above_protocol}
-use Rattle.link_message_types.specs.Events.{link_event_number, link_event_of}
-use Rattle.link_message_types.specs.ExtentMasks.{joined_extent_masks, link_extent_masks_of}
-use Rattle.link_message_types.specs.LinkModes.{link_mode_number, link_mode_of}
-use Rattle.link_message_types.specs.LinkStates.{state_number, state_of}
+use Rattle.link_message_grammar.specs.LinkMessage.{Family, unspec, bridge, inet_6, family_payload, link_line}
+use Rattle.link_message_types.specs.declared.phys_id.LinkPhysId.{LinkPhysId}
+use Rattle.link_message_records.specs.Maps.{map_bytes}
+use Rattle.link_message_records.specs.declared.map.Map.{Map}
+use Rattle.link_message_types.specs.Events.{link_event_of}
+use Rattle.link_message_types.specs.ExtentMasks.{link_extent_masks_of}
+use Rattle.link_message_types.specs.LinkModes.{link_mode_of}
+use Rattle.link_message_types.specs.LinkStates.{state_of}
 use Rattle.link_message_types.specs.contracts.ext_mask.LinkExtentMaskPartialEq.TheImpl as mask_equality
 use Rattle.link_message_types.specs.contracts.ext_mask.LinkExtentMaskEq.TheImpl.Laws as mask_laws
 use Rattle.link_message_attributes.specs.declared.attributes.LinkAttribute.{LinkAttribute}
@@ -20,10 +22,10 @@ use Rattle.link_message_attributes.specs.LinkAttributes.{link_attribute_entry, l
 use Rattle.link_message_attributes.specs.contracts.attributes.LinkAttributePartialEq.TheImpl as equality
 use Rattle.link_message_attributes.specs.contracts.attributes.LinkAttributeEq.TheImpl.Laws.{laws-law}
 use Rattle.link_message.specs.Injective.{IsInjective}
-use Rattle.link_message.proofs.Numbers.{byte_equal, le4_injective, signed_injective}
-use Rattle.link_message.proofs.Records.{phys_id_injective, u32_values_injective, u64_values_injective, map_injective, string_same, raw_injective}
+use Rattle.link_message.proofs.Decoders.{Decoders, Otherwise, has_decoder, RoundTripIfDecoded, injective_or, value_of, round_trips, byte_of, le2_of, le4_of, le8_of, signed_of, u32_values_of, u64_values_of}
+use Rattle.link_message.proofs.Records.{le4_injective, string_same, raw_injective}
 use Rattle.link_message.proofs.LinkInfos.{infos_injective}
-use Rattle.link_message.proofs.Lists.{numbered, lists_injective, pointwise_same}
+use Rattle.link_message.proofs.Lists.{lists_injective, pointwise_same}
 use Rattle.link_message.proofs.Xdp.{xdp_injective}
 use Rattle.link_message.proofs.Props.{props_injective}
 use Rattle.link_message.proofs.DownReasons.{downreasons_injective}
@@ -33,174 +35,126 @@ use Rattle.link_message.proofs.Families.{families_injective}
 use Rattle.link_message.proofs.VirtualFunctions.{vf_infos_injective}
 use Rattle.link_message.proofs.Ports.{port_injective, ports_injective, protocol_injective}
 
-abbrev equal : LinkAttribute → LinkAttribute → Bool
-equal = (equality.ghosts).eq
+abbrev phys_id_of : List ℕ → LinkPhysId
+phys_id_of p = record { bytes = p }
 
--- The number of a variant is that of its row.
-abbrev variant : LinkAttribute → ℕ
-variant (Link.VfInfoList a) = 22
-variant (Link.VfPorts a) = 24
-variant (Link.PortSelf a) = 25
-variant (Link.PhysPortId a) = 34
-variant (Link.PhysSwitchId a) = 36
-variant (Link.Xdp a) = 43
-variant (Link.Event a) = 44
-variant (Link.NewNetnsId a) = 45
-variant (Link.IfNetnsId a) = 46
-variant (Link.CarrierUpCount a) = 47
-variant (Link.CarrierDownCount a) = 48
-variant (Link.NewIfIndex a) = 49
-variant (Link.LinkInfo a) = 18
-variant (Link.ProtoInfoBridge a) = 12
-variant (Link.ProtoInfoInet6 a) = 12
-variant (Link.ProtoInfoUnknown a) = 12
-variant (Link.PropList a) = 52
-variant (Link.ProtoDownReason a) = 55
-variant (Link.Address a) = 1
-variant (Link.Broadcast a) = 2
-variant (Link.PermAddress a) = 54
-variant (Link.IfName a) = 3
-variant (Link.Qdisc a) = 6
-variant (Link.IfAlias a) = 20
-variant (Link.PhysPortName a) = 38
-variant (Link.Mode a) = 17
-variant (Link.Carrier a) = 33
-variant (Link.ProtoDown a) = 39
-variant (Link.Mtu a) = 4
-variant (Link.Link a) = 5
-variant (Link.Controller a) = 10
-variant (Link.TxQueueLen a) = 13
-variant (Link.NetNsPid a) = 19
-variant (Link.NumVf a) = 21
-variant (Link.Group a) = 27
-variant (Link.NetNsFd a) = 28
-variant (Link.ExtMask a) = 29
-variant (Link.Promiscuity a) = 30
-variant (Link.NumTxQueues a) = 31
-variant (Link.NumRxQueues a) = 32
-variant (Link.CarrierChanges a) = 35
-variant (Link.GsoMaxSegs a) = 40
-variant (Link.GsoMaxSize a) = 41
-variant (Link.MinMtu a) = 50
-variant (Link.MaxMtu a) = 51
-variant (Link.LinkNetnsId a) = 37
-variant (Link.OperState a) = 16
-variant (Link.Stats a) = 7
-variant (Link.Stats64 a) = 23
-variant (Link.Map a) = 14
-variant (Link.AfSpecUnspec a) = 26
-variant (Link.AfSpecBridge a) = 26
-variant (Link.AfSpecUnknown a) = 26
-variant (Link.ParentDevName a) = 56
-variant (Link.ParentDevBusName a) = 57
-variant (Link.GroMaxSize a) = 58
-variant (Link.TsoMaxSize a) = 59
-variant (Link.TsoMaxSegs a) = 60
-variant (Link.AllMulti a) = 61
-variant (Link.DevlinkPort a) = 62
-variant (Link.GsoIpv4MaxSize a) = 63
-variant (Link.GroIpv4MaxSize a) = 64
-variant (Link.DpllPin a) = 65
-variant (Link.Other a) = 0
+map_of : List ℕ → Map
+map_of p =
+    let rest = drop 8 (drop 8 (drop 8 p)) in
+    record { memory_start = le8_of (take 8 p); memory_end = le8_of (take 8 (drop 8 p)); base_address = le8_of (take 8 (drop 8 (drop 8 p))); irq = le2_of (take 2 rest); dma = slice_index (drop 2 rest) 0; port = slice_index (drop 2 rest) 1 }
 
-abbrev numbered_in : Family → Bool → ℕ → ℕ
-numbered_in f is_protocol k = cond is_protocol 12 (numbered (line_at (below_protocol (above_protocol f)) k) k)
-
-abbrev row_number : Family → Attribute → ℕ
-row_number f a = numbered_in f (proper_kind a.kind == 12) (proper_kind a.kind)
-
-variant_number : (f : Family) (v : LinkAttribute) → link_attribute_names_row f v → variant v ≡ row_number f (link_attribute_entry v)
-variant_number f (Link.ProtoInfoUnknown a) h = rw h.0 refl
-variant_number f (Link.Other a) h = let n : cond (proper_kind a.kind == 12) _ _ ≡ None = h.1 in rw (h.0, rw h.0 at n) refl
-variant_number f v h = refl
-
-payload_equal : (v w : LinkAttribute) → link_attribute_entry v ≡ link_attribute_entry w → (link_attribute_entry v).payload ≡ (link_attribute_entry w).payload
-payload_equal v w e = ap (λ (a : Attribute). a.payload) e
-
-same : (v w : LinkAttribute) → v ≡ w → equal v w ≡ true
-same v w e = ap (equal v) (sym e) ∙ laws-law.refl v
+map_round_trip : (m : Map) → map_of (map_bytes m) ≡ m
+unfolding map_of
+map_round_trip m = simp (append_assoc, round_trips)
 
 mask_refl : (m : _) → (mask_equality.ghosts).eq m m ≡ true
 mask_refl m = mask_laws.laws-law.refl m
 
-by_variant : (f : Family) (v w : LinkAttribute) → variant v ≡ variant w → link_attribute_names_row f v → link_attribute_names_row f w → link_attribute_entry v ≡ link_attribute_entry w → equal v w ≡ true
-by_variant f (Link.VfInfoList x) (Link.VfInfoList y) i p q e = lists_injective _ _ _ vf_infos_injective _ _ p q (payload_equal (Link.VfInfoList x) (Link.VfInfoList y) e)
-by_variant f (Link.VfPorts x) (Link.VfPorts y) i p q e = lists_injective _ _ _ ports_injective _ _ (λ _ _ _. tt) (λ _ _ _. tt) (payload_equal (Link.VfPorts x) (Link.VfPorts y) e)
-by_variant f (Link.PortSelf x) (Link.PortSelf y) i p q e = lists_injective _ _ _ port_injective _ _ (λ _ _ _. tt) (λ _ _ _. tt) (payload_equal (Link.PortSelf x) (Link.PortSelf y) e)
-by_variant f (Link.PhysPortId x) (Link.PhysPortId y) i p q e = same (Link.PhysPortId x) (Link.PhysPortId y) (ap Link.PhysPortId (phys_id_injective x y (payload_equal (Link.PhysPortId x) (Link.PhysPortId y) e)))
-by_variant f (Link.PhysSwitchId x) (Link.PhysSwitchId y) i p q e = same (Link.PhysSwitchId x) (Link.PhysSwitchId y) (ap Link.PhysSwitchId (phys_id_injective x y (payload_equal (Link.PhysSwitchId x) (Link.PhysSwitchId y) e)))
-by_variant f (Link.Xdp x) (Link.Xdp y) i p q e = lists_injective _ _ _ xdp_injective _ _ p q (payload_equal (Link.Xdp x) (Link.Xdp y) e)
-by_variant f (Link.Event x) (Link.Event y) i p q e = same (Link.Event x) (Link.Event y) (ap Link.Event (p ∙ ap link_event_of (le4_injective _ _ (payload_equal (Link.Event x) (Link.Event y) e)) ∙ sym q))
-by_variant f (Link.NewNetnsId x) (Link.NewNetnsId y) i p q e = same (Link.NewNetnsId x) (Link.NewNetnsId y) (ap Link.NewNetnsId (le4_injective x y (payload_equal (Link.NewNetnsId x) (Link.NewNetnsId y) e)))
-by_variant f (Link.IfNetnsId x) (Link.IfNetnsId y) i p q e = same (Link.IfNetnsId x) (Link.IfNetnsId y) (ap Link.IfNetnsId (le4_injective x y (payload_equal (Link.IfNetnsId x) (Link.IfNetnsId y) e)))
-by_variant f (Link.CarrierUpCount x) (Link.CarrierUpCount y) i p q e = same (Link.CarrierUpCount x) (Link.CarrierUpCount y) (ap Link.CarrierUpCount (le4_injective x y (payload_equal (Link.CarrierUpCount x) (Link.CarrierUpCount y) e)))
-by_variant f (Link.CarrierDownCount x) (Link.CarrierDownCount y) i p q e = same (Link.CarrierDownCount x) (Link.CarrierDownCount y) (ap Link.CarrierDownCount (le4_injective x y (payload_equal (Link.CarrierDownCount x) (Link.CarrierDownCount y) e)))
-by_variant f (Link.NewIfIndex x) (Link.NewIfIndex y) i p q e = same (Link.NewIfIndex x) (Link.NewIfIndex y) (ap Link.NewIfIndex (le4_injective x y (payload_equal (Link.NewIfIndex x) (Link.NewIfIndex y) e)))
-by_variant f (Link.LinkInfo x) (Link.LinkInfo y) i p q e = infos_injective x.items y.items p q (payload_equal (Link.LinkInfo x) (Link.LinkInfo y) e)
-by_variant f (Link.ProtoInfoBridge x) (Link.ProtoInfoBridge y) i p q e = lists_injective _ _ _ raw_injective _ _ (λ _ _ _. tt) (λ _ _ _. tt) (payload_equal (Link.ProtoInfoBridge x) (Link.ProtoInfoBridge y) e)
-by_variant f (Link.ProtoInfoInet6 x) (Link.ProtoInfoInet6 y) i p q e = lists_injective _ _ _ protocol_injective _ _ (λ _ _ _. tt) (λ _ _ _. tt) (payload_equal (Link.ProtoInfoInet6 x) (Link.ProtoInfoInet6 y) e)
-by_variant f (Link.ProtoInfoUnknown x) (Link.ProtoInfoUnknown y) i p q e = same (Link.ProtoInfoUnknown x) (Link.ProtoInfoUnknown y) (ap Link.ProtoInfoUnknown e)
-by_variant f (Link.PropList x) (Link.PropList y) i p q e = lists_injective _ _ _ props_injective _ _ p q (payload_equal (Link.PropList x) (Link.PropList y) e)
-by_variant f (Link.ProtoDownReason x) (Link.ProtoDownReason y) i p q e = lists_injective _ _ _ downreasons_injective _ _ p q (payload_equal (Link.ProtoDownReason x) (Link.ProtoDownReason y) e)
-by_variant f (Link.Address x) (Link.Address y) i p q e = (bytes_decides x.items y.items).1 (payload_equal (Link.Address x) (Link.Address y) e)
-by_variant f (Link.Broadcast x) (Link.Broadcast y) i p q e = (bytes_decides x.items y.items).1 (payload_equal (Link.Broadcast x) (Link.Broadcast y) e)
-by_variant f (Link.PermAddress x) (Link.PermAddress y) i p q e = (bytes_decides x.items y.items).1 (payload_equal (Link.PermAddress x) (Link.PermAddress y) e)
-by_variant f (Link.IfName x) (Link.IfName y) i p q e = string_same x y (payload_equal (Link.IfName x) (Link.IfName y) e)
-by_variant f (Link.Qdisc x) (Link.Qdisc y) i p q e = string_same x y (payload_equal (Link.Qdisc x) (Link.Qdisc y) e)
-by_variant f (Link.IfAlias x) (Link.IfAlias y) i p q e = string_same x y (payload_equal (Link.IfAlias x) (Link.IfAlias y) e)
-by_variant f (Link.PhysPortName x) (Link.PhysPortName y) i p q e = string_same x y (payload_equal (Link.PhysPortName x) (Link.PhysPortName y) e)
-by_variant f (Link.Mode x) (Link.Mode y) i p q e = same (Link.Mode x) (Link.Mode y) (ap Link.Mode (p ∙ ap link_mode_of (byte_equal _ _ (payload_equal (Link.Mode x) (Link.Mode y) e)) ∙ sym q))
-by_variant f (Link.Carrier x) (Link.Carrier y) i p q e = same (Link.Carrier x) (Link.Carrier y) (ap Link.Carrier (byte_equal x y (payload_equal (Link.Carrier x) (Link.Carrier y) e)))
-by_variant f (Link.ProtoDown x) (Link.ProtoDown y) i p q e = same (Link.ProtoDown x) (Link.ProtoDown y) (ap Link.ProtoDown (byte_equal x y (payload_equal (Link.ProtoDown x) (Link.ProtoDown y) e)))
-by_variant f (Link.Mtu x) (Link.Mtu y) i p q e = same (Link.Mtu x) (Link.Mtu y) (ap Link.Mtu (le4_injective x y (payload_equal (Link.Mtu x) (Link.Mtu y) e)))
-by_variant f (Link.Link x) (Link.Link y) i p q e = same (Link.Link x) (Link.Link y) (ap Link.Link (le4_injective x y (payload_equal (Link.Link x) (Link.Link y) e)))
-by_variant f (Link.Controller x) (Link.Controller y) i p q e = same (Link.Controller x) (Link.Controller y) (ap Link.Controller (le4_injective x y (payload_equal (Link.Controller x) (Link.Controller y) e)))
-by_variant f (Link.TxQueueLen x) (Link.TxQueueLen y) i p q e = same (Link.TxQueueLen x) (Link.TxQueueLen y) (ap Link.TxQueueLen (le4_injective x y (payload_equal (Link.TxQueueLen x) (Link.TxQueueLen y) e)))
-by_variant f (Link.NetNsPid x) (Link.NetNsPid y) i p q e = same (Link.NetNsPid x) (Link.NetNsPid y) (ap Link.NetNsPid (le4_injective x y (payload_equal (Link.NetNsPid x) (Link.NetNsPid y) e)))
-by_variant f (Link.NumVf x) (Link.NumVf y) i p q e = same (Link.NumVf x) (Link.NumVf y) (ap Link.NumVf (le4_injective x y (payload_equal (Link.NumVf x) (Link.NumVf y) e)))
-by_variant f (Link.Group x) (Link.Group y) i p q e = same (Link.Group x) (Link.Group y) (ap Link.Group (le4_injective x y (payload_equal (Link.Group x) (Link.Group y) e)))
-by_variant f (Link.NetNsFd x) (Link.NetNsFd y) i p q e = same (Link.NetNsFd x) (Link.NetNsFd y) (ap Link.NetNsFd (signed_injective x y (le4_injective _ _ (payload_equal (Link.NetNsFd x) (Link.NetNsFd y) e))))
-by_variant f (Link.ExtMask x) (Link.ExtMask y) i p q e = pointwise_same (mask_equality.ghosts).eq mask_refl _ _ (p ∙ ap link_extent_masks_of (le4_injective _ _ (payload_equal (Link.ExtMask x) (Link.ExtMask y) e)) ∙ sym q)
-by_variant f (Link.Promiscuity x) (Link.Promiscuity y) i p q e = same (Link.Promiscuity x) (Link.Promiscuity y) (ap Link.Promiscuity (le4_injective x y (payload_equal (Link.Promiscuity x) (Link.Promiscuity y) e)))
-by_variant f (Link.NumTxQueues x) (Link.NumTxQueues y) i p q e = same (Link.NumTxQueues x) (Link.NumTxQueues y) (ap Link.NumTxQueues (le4_injective x y (payload_equal (Link.NumTxQueues x) (Link.NumTxQueues y) e)))
-by_variant f (Link.NumRxQueues x) (Link.NumRxQueues y) i p q e = same (Link.NumRxQueues x) (Link.NumRxQueues y) (ap Link.NumRxQueues (le4_injective x y (payload_equal (Link.NumRxQueues x) (Link.NumRxQueues y) e)))
-by_variant f (Link.CarrierChanges x) (Link.CarrierChanges y) i p q e = same (Link.CarrierChanges x) (Link.CarrierChanges y) (ap Link.CarrierChanges (le4_injective x y (payload_equal (Link.CarrierChanges x) (Link.CarrierChanges y) e)))
-by_variant f (Link.GsoMaxSegs x) (Link.GsoMaxSegs y) i p q e = same (Link.GsoMaxSegs x) (Link.GsoMaxSegs y) (ap Link.GsoMaxSegs (le4_injective x y (payload_equal (Link.GsoMaxSegs x) (Link.GsoMaxSegs y) e)))
-by_variant f (Link.GsoMaxSize x) (Link.GsoMaxSize y) i p q e = same (Link.GsoMaxSize x) (Link.GsoMaxSize y) (ap Link.GsoMaxSize (le4_injective x y (payload_equal (Link.GsoMaxSize x) (Link.GsoMaxSize y) e)))
-by_variant f (Link.MinMtu x) (Link.MinMtu y) i p q e = same (Link.MinMtu x) (Link.MinMtu y) (ap Link.MinMtu (le4_injective x y (payload_equal (Link.MinMtu x) (Link.MinMtu y) e)))
-by_variant f (Link.MaxMtu x) (Link.MaxMtu y) i p q e = same (Link.MaxMtu x) (Link.MaxMtu y) (ap Link.MaxMtu (le4_injective x y (payload_equal (Link.MaxMtu x) (Link.MaxMtu y) e)))
-by_variant f (Link.LinkNetnsId x) (Link.LinkNetnsId y) i p q e = same (Link.LinkNetnsId x) (Link.LinkNetnsId y) (ap Link.LinkNetnsId (le4_injective x y (payload_equal (Link.LinkNetnsId x) (Link.LinkNetnsId y) e)))
-by_variant f (Link.OperState x) (Link.OperState y) i p q e = same (Link.OperState x) (Link.OperState y) (ap Link.OperState (p ∙ ap state_of (byte_equal _ _ (payload_equal (Link.OperState x) (Link.OperState y) e)) ∙ sym q))
-by_variant f (Link.Stats x) (Link.Stats y) i p q e = same (Link.Stats x) (Link.Stats y) (ap Link.Stats (u32_values_injective x y (payload_equal (Link.Stats x) (Link.Stats y) e)))
-by_variant f (Link.Stats64 x) (Link.Stats64 y) i p q e = same (Link.Stats64 x) (Link.Stats64 y) (ap Link.Stats64 (u64_values_injective x y (payload_equal (Link.Stats64 x) (Link.Stats64 y) e)))
-by_variant f (Link.Map x) (Link.Map y) i p q e = same (Link.Map x) (Link.Map y) (ap Link.Map (map_injective x y (payload_equal (Link.Map x) (Link.Map y) e)))
-by_variant f (Link.AfSpecUnspec x) (Link.AfSpecUnspec y) i p q e = lists_injective _ _ _ families_injective _ _ p.1 q.1 (payload_equal (Link.AfSpecUnspec x) (Link.AfSpecUnspec y) e)
-by_variant f (Link.AfSpecBridge x) (Link.AfSpecBridge y) i p q e = lists_injective _ _ _ raw_injective _ _ (λ _ _ _. tt) (λ _ _ _. tt) (payload_equal (Link.AfSpecBridge x) (Link.AfSpecBridge y) e)
-by_variant f (Link.AfSpecUnknown x) (Link.AfSpecUnknown y) i p q e = (bytes_decides x.items y.items).1 (payload_equal (Link.AfSpecUnknown x) (Link.AfSpecUnknown y) e)
-by_variant f (Link.ParentDevName x) (Link.ParentDevName y) i p q e = string_same x y (payload_equal (Link.ParentDevName x) (Link.ParentDevName y) e)
-by_variant f (Link.ParentDevBusName x) (Link.ParentDevBusName y) i p q e = string_same x y (payload_equal (Link.ParentDevBusName x) (Link.ParentDevBusName y) e)
-by_variant f (Link.GroMaxSize x) (Link.GroMaxSize y) i p q e = same (Link.GroMaxSize x) (Link.GroMaxSize y) (ap Link.GroMaxSize (le4_injective x y (payload_equal (Link.GroMaxSize x) (Link.GroMaxSize y) e)))
-by_variant f (Link.TsoMaxSize x) (Link.TsoMaxSize y) i p q e = same (Link.TsoMaxSize x) (Link.TsoMaxSize y) (ap Link.TsoMaxSize (le4_injective x y (payload_equal (Link.TsoMaxSize x) (Link.TsoMaxSize y) e)))
-by_variant f (Link.TsoMaxSegs x) (Link.TsoMaxSegs y) i p q e = same (Link.TsoMaxSegs x) (Link.TsoMaxSegs y) (ap Link.TsoMaxSegs (le4_injective x y (payload_equal (Link.TsoMaxSegs x) (Link.TsoMaxSegs y) e)))
-by_variant f (Link.AllMulti x) (Link.AllMulti y) i p q e = same (Link.AllMulti x) (Link.AllMulti y) (ap Link.AllMulti (le4_injective x y (payload_equal (Link.AllMulti x) (Link.AllMulti y) e)))
-by_variant f (Link.DevlinkPort x) (Link.DevlinkPort y) i p q e = lists_injective _ _ _ devlink_injective _ _ p q (payload_equal (Link.DevlinkPort x) (Link.DevlinkPort y) e)
-by_variant f (Link.GsoIpv4MaxSize x) (Link.GsoIpv4MaxSize y) i p q e = same (Link.GsoIpv4MaxSize x) (Link.GsoIpv4MaxSize y) (ap Link.GsoIpv4MaxSize (le4_injective x y (payload_equal (Link.GsoIpv4MaxSize x) (Link.GsoIpv4MaxSize y) e)))
-by_variant f (Link.GroIpv4MaxSize x) (Link.GroIpv4MaxSize y) i p q e = same (Link.GroIpv4MaxSize x) (Link.GroIpv4MaxSize y) (ap Link.GroIpv4MaxSize (le4_injective x y (payload_equal (Link.GroIpv4MaxSize x) (Link.GroIpv4MaxSize y) e)))
-by_variant f (Link.DpllPin x) (Link.DpllPin y) i p q e = lists_injective _ _ _ dpll_injective _ _ p q (payload_equal (Link.DpllPin x) (Link.DpllPin y) e)
-by_variant f (Link.Other x) (Link.Other y) i p q e = same (Link.Other x) (Link.Other y) (ap Link.Other e)
-by_variant f (Link.ProtoInfoBridge x) (Link.ProtoInfoInet6 y) i p q e = let h : bridge ≡ inet_6 = sym p ∙ q in absurd cc
-by_variant f (Link.ProtoInfoInet6 x) (Link.ProtoInfoBridge y) i p q e = let h : bridge ≡ inet_6 = sym q ∙ p in absurd cc
-by_variant f (Link.ProtoInfoBridge x) (Link.ProtoInfoUnknown y) i p q e = let h : link_line bridge 12 ≡ None = sym (λ j. link_line (p j) (q.0 j)) ∙ q.1 in absurd cc
-by_variant f (Link.ProtoInfoUnknown x) (Link.ProtoInfoBridge y) i p q e = let h : link_line bridge 12 ≡ None = sym (λ j. link_line (q j) (p.0 j)) ∙ p.1 in absurd cc
-by_variant f (Link.ProtoInfoInet6 x) (Link.ProtoInfoUnknown y) i p q e = let h : link_line inet_6 12 ≡ None = sym (λ j. link_line (p j) (q.0 j)) ∙ q.1 in absurd cc
-by_variant f (Link.ProtoInfoUnknown x) (Link.ProtoInfoInet6 y) i p q e = let h : link_line inet_6 12 ≡ None = sym (λ j. link_line (q j) (p.0 j)) ∙ p.1 in absurd cc
-by_variant f (Link.AfSpecUnspec x) (Link.AfSpecBridge y) i p q e = let h : unspec ≡ bridge = sym p.0 ∙ q in absurd cc
-by_variant f (Link.AfSpecBridge x) (Link.AfSpecUnspec y) i p q e = let h : unspec ≡ bridge = sym q.0 ∙ p in absurd cc
-by_variant f (Link.AfSpecUnspec x) (Link.AfSpecUnknown y) i p q e = let h : family_payload unspec ≡ plain raw = sym (ap family_payload p.0) ∙ q in absurd cc
-by_variant f (Link.AfSpecUnknown x) (Link.AfSpecUnspec y) i p q e = let h : family_payload unspec ≡ plain raw = sym (ap family_payload q.0) ∙ p in absurd cc
-by_variant f (Link.AfSpecBridge x) (Link.AfSpecUnknown y) i p q e = let h : family_payload bridge ≡ plain raw = sym (ap family_payload p) ∙ q in absurd cc
-by_variant f (Link.AfSpecUnknown x) (Link.AfSpecBridge y) i p q e = let h : family_payload bridge ≡ plain raw = sym (ap family_payload q) ∙ p in absurd cc
-by_variant f v w i p q e = absurd (omega (arith, i))
+-- The decoder of each kind whose value owns neither bytes nor text.
+abbrev decoders : Decoders LinkAttribute
+decoders =
+    (34, λ p. Link.PhysPortId (phys_id_of p)) ∷
+    (36, λ p. Link.PhysSwitchId (phys_id_of p)) ∷
+    (44, λ p. Link.Event (link_event_of (le4_of p))) ∷
+    (45, λ p. Link.NewNetnsId (le4_of p)) ∷
+    (46, λ p. Link.IfNetnsId (le4_of p)) ∷
+    (47, λ p. Link.CarrierUpCount (le4_of p)) ∷
+    (48, λ p. Link.CarrierDownCount (le4_of p)) ∷
+    (49, λ p. Link.NewIfIndex (le4_of p)) ∷
+    (17, λ p. Link.Mode (link_mode_of (byte_of p))) ∷
+    (33, λ p. Link.Carrier (byte_of p)) ∷
+    (39, λ p. Link.ProtoDown (byte_of p)) ∷
+    (4, λ p. Link.Mtu (le4_of p)) ∷
+    (5, λ p. Link.Link (le4_of p)) ∷
+    (10, λ p. Link.Controller (le4_of p)) ∷
+    (13, λ p. Link.TxQueueLen (le4_of p)) ∷
+    (19, λ p. Link.NetNsPid (le4_of p)) ∷
+    (21, λ p. Link.NumVf (le4_of p)) ∷
+    (27, λ p. Link.Group (le4_of p)) ∷
+    (28, λ p. Link.NetNsFd (signed_of p)) ∷
+    (30, λ p. Link.Promiscuity (le4_of p)) ∷
+    (31, λ p. Link.NumTxQueues (le4_of p)) ∷
+    (32, λ p. Link.NumRxQueues (le4_of p)) ∷
+    (35, λ p. Link.CarrierChanges (le4_of p)) ∷
+    (40, λ p. Link.GsoMaxSegs (le4_of p)) ∷
+    (41, λ p. Link.GsoMaxSize (le4_of p)) ∷
+    (50, λ p. Link.MinMtu (le4_of p)) ∷
+    (51, λ p. Link.MaxMtu (le4_of p)) ∷
+    (37, λ p. Link.LinkNetnsId (le4_of p)) ∷
+    (16, λ p. Link.OperState (state_of (byte_of p))) ∷
+    (7, λ p. Link.Stats (u32_values_of p)) ∷
+    (23, λ p. Link.Stats64 (u64_values_of p)) ∷
+    (14, λ p. Link.Map (map_of p)) ∷
+    (58, λ p. Link.GroMaxSize (le4_of p)) ∷
+    (59, λ p. Link.TsoMaxSize (le4_of p)) ∷
+    (60, λ p. Link.TsoMaxSegs (le4_of p)) ∷
+    (61, λ p. Link.AllMulti (le4_of p)) ∷
+    (63, λ p. Link.GsoIpv4MaxSize (le4_of p)) ∷
+    (64, λ p. Link.GroIpv4MaxSize (le4_of p)) ∷ []
 
-pub attribute_injective : (f : Family) → IsInjective equal link_attribute_entry (link_attribute_names_row f)
-attribute_injective f v w p q e = by_variant f v w (variant_number f v p ∙ ap (row_number f) e ∙ sym (variant_number f w q)) p q e
+-- A kind without a row is `Other`, unless it is IFLA_PROTINFO.
+abbrev other : Attribute → LinkAttribute
+other a = cond (proper_kind a.kind == 12) (Link.ProtoInfoUnknown a) (Link.Other a)
+
+round_trip : (f : Family) → RoundTripIfDecoded link_attribute_entry (link_attribute_names_row f) (value_of (link_line f) other decoders)
+round_trip f (Link.ProtoInfoUnknown a) h = rw h.1 (rw h.0 refl)
+round_trip f (Link.ProtoInfoBridge vs) h = rw h (simp round_trips)
+round_trip f (Link.ProtoInfoInet6 vs) h = rw h (simp round_trips)
+round_trip f (Link.Other a) h = rw h.1 (rw h.0 refl)
+round_trip f (Link.PhysPortId i) h = refl
+round_trip f (Link.PhysSwitchId i) h = refl
+round_trip f (Link.Map m) h = ap (λ r. Some (Link.Map r)) (map_round_trip m)
+round_trip f v h = simp round_trips cc
+
+-- 1 if the value has no row, and 0 otherwise: a number, because `omega` decides a pair of variants much faster than `cc`.
+abbrev without_row : LinkAttribute → ℕ
+without_row (Link.ProtoInfoUnknown a) = 1
+without_row (Link.Other a) = 1
+without_row v = 0
+
+with_row : (f : Family) (v : LinkAttribute) (l : Line) → link_line f (proper_kind (link_attribute_entry v).kind) ≡ Some l → link_attribute_names_row f v → without_row v < 1
+with_row f (Link.ProtoInfoUnknown a) l i p = let h = sym i ∙ p.1 in absurd cc
+with_row f (Link.Other a) l i p = let h = sym i ∙ p.1 in absurd cc
+with_row f v l i p = omega arith
+
+by_variant : (f : Family) (v w : LinkAttribute) → without_row v < 1 → without_row w < 1 → has_decoder decoders (proper_kind (link_attribute_entry v).kind) < 1 → link_attribute_names_row f v → link_attribute_names_row f w
+    → (link_attribute_entry v).kind ≡ (link_attribute_entry w).kind → (link_attribute_entry v).payload ≡ (link_attribute_entry w).payload → (equality.ghosts).eq v w ≡ true
+by_variant f (Link.VfInfoList x) (Link.VfInfoList y) a b d p q k e = lists_injective _ _ _ vf_infos_injective _ _ p q e
+by_variant f (Link.VfPorts x) (Link.VfPorts y) a b d p q k e = lists_injective _ _ _ ports_injective _ _ (λ _ _ _. tt) (λ _ _ _. tt) e
+by_variant f (Link.PortSelf x) (Link.PortSelf y) a b d p q k e = lists_injective _ _ _ port_injective _ _ (λ _ _ _. tt) (λ _ _ _. tt) e
+by_variant f (Link.Xdp x) (Link.Xdp y) a b d p q k e = lists_injective _ _ _ xdp_injective _ _ p q e
+by_variant f (Link.LinkInfo x) (Link.LinkInfo y) a b d p q k e = infos_injective x.items y.items p q e
+by_variant f (Link.ProtoInfoBridge x) (Link.ProtoInfoBridge y) a b d p q k e = lists_injective _ _ _ raw_injective _ _ (λ _ _ _. tt) (λ _ _ _. tt) e
+by_variant f (Link.ProtoInfoInet6 x) (Link.ProtoInfoInet6 y) a b d p q k e = lists_injective _ _ _ protocol_injective _ _ (λ _ _ _. tt) (λ _ _ _. tt) e
+by_variant f (Link.PropList x) (Link.PropList y) a b d p q k e = lists_injective _ _ _ props_injective _ _ p q e
+by_variant f (Link.ProtoDownReason x) (Link.ProtoDownReason y) a b d p q k e = lists_injective _ _ _ downreasons_injective _ _ p q e
+by_variant f (Link.Address x) (Link.Address y) a b d p q k e = (bytes_decides x.items y.items).1 e
+by_variant f (Link.Broadcast x) (Link.Broadcast y) a b d p q k e = (bytes_decides x.items y.items).1 e
+by_variant f (Link.PermAddress x) (Link.PermAddress y) a b d p q k e = (bytes_decides x.items y.items).1 e
+by_variant f (Link.IfName x) (Link.IfName y) a b d p q k e = string_same x y e
+by_variant f (Link.Qdisc x) (Link.Qdisc y) a b d p q k e = string_same x y e
+by_variant f (Link.IfAlias x) (Link.IfAlias y) a b d p q k e = string_same x y e
+by_variant f (Link.PhysPortName x) (Link.PhysPortName y) a b d p q k e = string_same x y e
+by_variant f (Link.ExtMask x) (Link.ExtMask y) a b d p q k e = pointwise_same (mask_equality.ghosts).eq mask_refl _ _ (p ∙ ap link_extent_masks_of (le4_injective _ _ e) ∙ sym q)
+by_variant f (Link.AfSpecUnspec x) (Link.AfSpecUnspec y) a b d p q k e = lists_injective _ _ _ families_injective _ _ p.1 q.1 e
+by_variant f (Link.AfSpecBridge x) (Link.AfSpecBridge y) a b d p q k e = lists_injective _ _ _ raw_injective _ _ (λ _ _ _. tt) (λ _ _ _. tt) e
+by_variant f (Link.AfSpecUnknown x) (Link.AfSpecUnknown y) a b d p q k e = (bytes_decides x.items y.items).1 e
+by_variant f (Link.ParentDevName x) (Link.ParentDevName y) a b d p q k e = string_same x y e
+by_variant f (Link.ParentDevBusName x) (Link.ParentDevBusName y) a b d p q k e = string_same x y e
+by_variant f (Link.DevlinkPort x) (Link.DevlinkPort y) a b d p q k e = lists_injective _ _ _ devlink_injective _ _ p q e
+by_variant f (Link.DpllPin x) (Link.DpllPin y) a b d p q k e = lists_injective _ _ _ dpll_injective _ _ p q e
+by_variant f (Link.ProtoInfoBridge x) (Link.ProtoInfoInet6 y) a b d p q k e = let h : bridge ≡ inet_6 = sym p ∙ q in absurd cc
+by_variant f (Link.ProtoInfoInet6 x) (Link.ProtoInfoBridge y) a b d p q k e = let h : bridge ≡ inet_6 = sym q ∙ p in absurd cc
+by_variant f (Link.AfSpecUnspec x) (Link.AfSpecBridge y) a b d p q k e = let h : unspec ≡ bridge = sym p.0 ∙ q in absurd cc
+by_variant f (Link.AfSpecBridge x) (Link.AfSpecUnspec y) a b d p q k e = let h : unspec ≡ bridge = sym q.0 ∙ p in absurd cc
+by_variant f (Link.AfSpecUnspec x) (Link.AfSpecUnknown y) a b d p q k e = let h : family_payload unspec ≡ plain raw = sym (ap family_payload p.0) ∙ q in absurd cc
+by_variant f (Link.AfSpecUnknown x) (Link.AfSpecUnspec y) a b d p q k e = let h : family_payload unspec ≡ plain raw = sym (ap family_payload q.0) ∙ p in absurd cc
+by_variant f (Link.AfSpecBridge x) (Link.AfSpecUnknown y) a b d p q k e = let h : family_payload bridge ≡ plain raw = sym (ap family_payload p) ∙ q in absurd cc
+by_variant f (Link.AfSpecUnknown x) (Link.AfSpecBridge y) a b d p q k e = let h : family_payload bridge ≡ plain raw = sym (ap family_payload q) ∙ p in absurd cc
+by_variant f v w a b d _ _ k _ = absurd (omega arith)
+
+otherwise : (f : Family) → Otherwise (equality.ghosts).eq link_attribute_entry (link_attribute_names_row f) (link_line f) decoders
+otherwise f v w l m i j d p q k e = by_variant f v w (with_row f v l i p) (with_row f w m j q) d p q k e
+
+pub attribute_injective : (f : Family) → IsInjective (equality.ghosts).eq link_attribute_entry (link_attribute_names_row f)
+attribute_injective f = injective_or _ laws-law.refl _ _ (link_line f) other decoders (round_trip f) (otherwise f)

@@ -1,5 +1,5 @@
 -- Kinds of links, and of ports, of equal name are equal.
-use Rattle.std.proofs.Common.{◌≡◌, ℕ, Bool, true, List, Option, Some, None, refl, sym, ap, ◌∙◌, String, Global, string_bytes}
+use Rattle.std.proofs.Common.{◌≡◌, Bool, true, Some, sym, ap, ◌∙◌, String, Global, string_bytes}
 use Rattle.std.specs.Prelude.{string_eq}
 use lib.Pointwise.{bytes_decides}
 use Rattle.link_info_kinds.specs.Kinds.{info_kind_text, info_kind_is_named, listed_kind}
@@ -33,17 +33,13 @@ pub listed_is : (k n : InfoKind) → listed_kind k ≡ Some n → k ≡ n
 listed_is (Kind.Other s) n h = absurd cc
 listed_is k n h = some_equal k n h
 
-unlisted_equal : (k m : InfoKind) → listed_kind k ≡ None → listed_kind m ≡ None → info_kind_text k ≡ info_kind_text m → equal k m ≡ true
-unlisted_equal (Kind.Other s) (Kind.Other t) h i e = strings_equal s t e
-unlisted_equal (Kind.Other s) m h i e = absurd cc
-unlisted_equal k m h i e = absurd cc
-
-by_listing : (k m : InfoKind) (o : Option InfoKind) → listed_kind k ≡ o → listed_kind m ≡ o → info_kind_text k ≡ info_kind_text m → equal k m ≡ true
-by_listing k m None h i e = unlisted_equal k m h i e
-by_listing k m (Some n) h i e = ap (equal k) (listed_is m n i ∙ sym (listed_is k n h)) ∙ laws.laws-law.refl k
+by_listing : (k m : InfoKind) → listed_kind k ≡ listed_kind m → info_kind_text k ≡ info_kind_text m → equal k m ≡ true
+by_listing (Kind.Other s) (Kind.Other t) l e = strings_equal s t e
+by_listing (Kind.Other s) m l e = absurd cc
+by_listing k m l e = ap (equal k) (listed_is m k (sym l)) ∙ laws.laws-law.refl k
 
 pub kinds_equal : (k m : InfoKind) → info_kind_is_named k ≡ true → info_kind_is_named m ≡ true → info_kind_text k ≡ info_kind_text m → equal k m ≡ true
-kinds_equal k m p q e = by_listing k m (listed_kind k) refl (sym (names_determine_kinds k m p q e)) e
+kinds_equal k m p q e = by_listing k m (names_determine_kinds k m p q e) e
 
 -- ---- kinds of ports
 
@@ -51,14 +47,10 @@ listed_port_is : (k n : InfoPortKind) → listed_port_kind k ≡ Some n → k �
 listed_port_is (PortKind.Other s) n h = absurd cc
 listed_port_is k n h = some_equal k n h
 
-unlisted_ports_equal : (k m : InfoPortKind) → listed_port_kind k ≡ None → listed_port_kind m ≡ None → info_port_kind_text k ≡ info_port_kind_text m → equal_ports k m ≡ true
-unlisted_ports_equal (PortKind.Other s) (PortKind.Other t) h i e = strings_equal s t e
-unlisted_ports_equal (PortKind.Other s) m h i e = absurd cc
-unlisted_ports_equal k m h i e = absurd cc
-
-by_port_listing : (k m : InfoPortKind) (o : Option InfoPortKind) → listed_port_kind k ≡ o → listed_port_kind m ≡ o → info_port_kind_text k ≡ info_port_kind_text m → equal_ports k m ≡ true
-by_port_listing k m None h i e = unlisted_ports_equal k m h i e
-by_port_listing k m (Some n) h i e = ap (equal_ports k) (listed_port_is m n i ∙ sym (listed_port_is k n h)) ∙ port_laws.laws-law.refl k
+by_port_listing : (k m : InfoPortKind) → listed_port_kind k ≡ listed_port_kind m → info_port_kind_text k ≡ info_port_kind_text m → equal_ports k m ≡ true
+by_port_listing (PortKind.Other s) (PortKind.Other t) l e = strings_equal s t e
+by_port_listing (PortKind.Other s) m l e = absurd cc
+by_port_listing k m l e = ap (equal_ports k) (listed_port_is m k (sym l)) ∙ port_laws.laws-law.refl k
 
 pub port_kinds_equal : (k m : InfoPortKind) → info_port_kind_is_named k ≡ true → info_port_kind_is_named m ≡ true → info_port_kind_text k ≡ info_port_kind_text m → equal_ports k m ≡ true
-port_kinds_equal k m p q e = by_port_listing k m (listed_port_kind k) refl (sym (names_determine_port_kinds k m p q e)) e
+port_kinds_equal k m p q e = by_port_listing k m (names_determine_port_kinds k m p q e) e

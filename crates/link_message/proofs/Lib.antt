@@ -1,29 +1,8 @@
 mod Bodies
 mod Texts
-pub mod Numbers
+pub mod Decoders
 pub mod Lists
 pub mod Records
-pub mod Amt
-pub mod Bareudp
-pub mod Geneve
-pub mod Gre
-pub mod Gre6
-pub mod Gtp
-pub mod IpTunnel
-pub mod Vti
-pub mod Vxlan
-pub mod Xfrm
-pub mod Batadv
-pub mod Ipoib
-pub mod Ipvlan
-pub mod MacVlan
-pub mod Macsec
-pub mod Netkit
-pub mod RawData
-pub mod Rmnet
-pub mod Veth
-pub mod Vrf
-pub mod Wwan
 pub mod InfoKinds
 pub mod InfoData
 pub mod InfoPortData

@@ -1,18 +1,11 @@
 -- Lists of values with equal texts are equal.
-use Rattle.std.proofs.Common.{◌≡◌, ℕ, List, [], ◌∷◌, map, Bool, true, false, Option, Some, None, refl, sym, ap, ◌∙◌, subst, suc, arith, All, append-nil}
+use Rattle.std.proofs.Common.{◌≡◌, List, [], ◌∷◌, map, Bool, true, Some, refl, sym, ap, ◌∙◌, subst, suc, arith, All, append-nil}
 use lib.Pointwise.{pointwise}
 use Rattle.std.proofs.lemmas.Bool.{and_from}
 use Rattle.netlink_packet_core.specs.Attributes.{Attribute, attribute_text, attributes_of, list_text}
 use Rattle.netlink_packet_core.specs.Lists.{text_by}
 use Rattle.netlink_packet_core_grammar.proofs.Attributes.{attributes_of_text}
-use Rattle.attribute_tables_grammar.specs.LookUps.{Line, line_at}
-use Rattle.attribute_tables_grammar.specs.Tables.{Table}
 use Rattle.link_message.specs.Injective.{IsInjective}
-
--- The number of a row: its kind, or 0 if there is none.
-abbrev pub numbered : Option Line → ℕ → ℕ
-numbered None k = 0
-numbered (Some l) k = k
 
 some_equal : {A : Type 0} (x y : A) → Some x ≡ Some y → x ≡ y
 some_equal x y e = cc

@@ -1,8 +1,6 @@
 -- Messages of one address family with equal texts are equal.
-use Rattle.std.proofs.Common.{◌≡◌, ℕ, List, [], ◌∷◌, ◌++◌, take, drop, Bool, true, refl, sym, ap, ◌∙◌, subst, All}
+use Rattle.std.proofs.Common.{◌≡◌, ℕ, List, ◌∷◌, ◌++◌, drop, refl, sym, ap, ◌∙◌, subst, All}
 use Rattle.std.proofs.lemmas.Bool.{and_from}
-use lib.Pointwise.{pointwise}
-use Rattle.netlink_packet_core.specs.Lists.{text_by}
 use Rattle.netlink_packet_core_grammar.specs.Numbers.{le2, le4}
 use Rattle.link_message_types.specs.AddressFamilies.{address_family_number, table_family}
 use Rattle.link_message_types.specs.Headers.{link_header_bytes}
@@ -14,10 +12,7 @@ use Rattle.link_message_types.specs.declared.link_flag.LinkFlags.{LinkFlags}
 use Rattle.link_message_types.specs.contracts.header.LinkHeaderPartialEq.TheImpl as header_equality
 use Rattle.link_message_types.specs.contracts.header.LinkHeaderEq.TheImpl.Laws as header_laws
 use Rattle.link_message_attributes.specs.LinkAttributes.{link_attribute_entry, link_attribute_names_row}
-use Rattle.link_message.specs.declared.message.LinkMessage.{LinkMessage}
-use Rattle.link_message.specs.LinkMessages.{link_message_text, link_message_names_row}
 use Rattle.link_message.specs.EqualTexts.{EqualTextsMeanEqualMessages}
-use Rattle.link_message.proofs.Numbers.{le2_injective, le4_injective}
 use Rattle.link_message.proofs.Records.{number_4_equal, after_4_equal, number_2_equal, after_2_equal}
 use Rattle.link_message.proofs.Lists.{lists_injective}
 use Rattle.link_message.proofs.Attributes.{attribute_injective}

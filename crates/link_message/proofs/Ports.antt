@@ -1,12 +1,9 @@
 -- Ports of virtual functions, and information of protocols, with equal attributes are equal.
-use Rattle.std.proofs.Common.{◌≡◌, ℕ, List, Bool, true, refl, sym, ap, ◌∙◌}
+use Rattle.std.proofs.Common.{sym, ap, ◌∙◌}
 use Rattle.netlink_packet_core.specs.Attributes.{Attribute}
 use Rattle.link_message_nested.specs.ProtocolInfos.{link_proto_info_inet_6_entry}
 use Rattle.link_message_nested.specs.VfPorts.{vf_port_entry, link_vf_port_entry}
-use Rattle.link_message_nested.specs.declared.proto_info.LinkProtoInfoInet6.{LinkProtoInfoInet6}
 use Rattle.link_message_nested.specs.declared.proto_info.LinkProtoInfoInet6.TheVariants as Protocol
-use Rattle.link_message_nested.specs.declared.vf_port.LinkVfPort.{LinkVfPort}
-use Rattle.link_message_nested.specs.declared.vf_port.VfPort.{VfPort}
 use Rattle.link_message_nested.specs.declared.vf_port.VfPort.TheVariants as Port
 use Rattle.link_message_nested.specs.contracts.proto_info.LinkProtoInfoInet6PartialEq.TheImpl as protocol_equality
 use Rattle.link_message_nested.specs.contracts.proto_info.LinkProtoInfoInet6Eq.TheImpl.Laws as protocol_laws

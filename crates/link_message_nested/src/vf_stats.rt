@@ -69,7 +69,9 @@ impl FieldNla for VfStats {
 }
 
 impl VfStats {
-    // Returns the statistic of a kind; `None` if the kind has no row.
+    // Returns the statistic of a kind; `None` if the kind has no row. These kinds share an arm of
+    // `read_row`, since the prover's time for one match is its paths times the variants of its
+    // type.
     fn of_u64(kind: u16, number: u64) -> Option<Self>
         ensures value { IfSome result (λ v. vf_stats_entry v ≡ attribute kind (le8 number)) }
         ensures is_row_variant { IfSome result (λ v. vf_stats_names_row v) }

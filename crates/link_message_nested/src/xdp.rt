@@ -74,6 +74,8 @@ impl FieldNla for LinkXdp {
 
 impl LinkXdp {
     // Returns the attribute of a kind that holds 4 bytes without a sign; `None` for any other kind.
+    // These kinds share an arm of `read_row`, since the prover's time for one match is its paths
+    // times the variants of its type.
     fn of_u32(kind: u16, number: u32) -> Option<Self>
         ensures value { IfSome result (λ v. link_xdp_entry v ≡ attribute kind (le4 number)) }
         ensures is_row_variant { IfSome result (λ v. link_xdp_names_row v) }

@@ -1,4 +1,3 @@
 pub mod Pairs
-pub mod RecordSizes
 pub mod BooleanBytes
 pub mod Filled

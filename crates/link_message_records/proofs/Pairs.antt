@@ -1,9 +1,10 @@
 -- Fields, one after the other, read and written.
-use Rattle.std.proofs.Common.{◌≡◌, ℕ, ◌+◌, List, ◌++◌, length, take, drop, sym, ap, ◌∙◌, arith, append_assoc, length-append, length-drop, append-nil}
+use Rattle.std.proofs.Common.{◌≡◌, ℕ, zero, suc, refl, ◌+◌, List, ◌++◌, length, take, drop, sym, ap, ◌∙◌, arith, append_assoc, length-append, length-drop, append-nil}
 use Rattle.std.proofs.Math.ListN.{drop_of_length-le}
 use Rattle.std.proofs.Math.Seq.{take-add}
 use Rattle.std.proofs.lemmas.List.{drop-drop, take_at, drop_at}
 use Rattle.netlink_packet_core_grammar.specs.Attributes.{zeros}
+use Rattle.link_message_records.specs.Records.{with_zeros}
 
 pub read_both : (m n : ℕ) (prefix a b rest : List ℕ) → a ≡ take m prefix → rest ≡ drop m prefix → b ≡ take n rest → a ++ b ≡ take (m + n) prefix
 read_both m n prefix a b rest p q r = ap (λ x. x ++ b) p ∙ ap (λ x. take m prefix ++ x) (r ∙ ap (take n) q) ∙ sym (take-add m n prefix)
@@ -23,6 +24,12 @@ padded x f w r0 r1 z t m p n k e a l h q r s u g =
     let back : r1 ≡ drop m f = s ∙ ap (λ i. drop i w) q ∙ ap (drop m) h ∙ drop_at x (drop m f) m e in
     let many : length r1 ≡ p = omega (arith, ap length back, length-drop m f) in
     ap (λ i. i ++ z) prefix ∙ ap (λ i. x ++ i) (u ∙ ap zeros many) ∙ sym g
+
+pub padding_is : (n : ℕ) (x : List ℕ) → with_zeros n x ≡ x ++ zeros n
+padding_is zero x = sym (append-nil x)
+padding_is (suc n) x = refl
+
+pub ruleset paddings = (padding_is)
 
 pub both_sizes : (a b : List ℕ) → length (a ++ b) ≡ length a + length b
 both_sizes a b = length-append a b

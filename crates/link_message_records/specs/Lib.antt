@@ -4,3 +4,4 @@ pub mod Maps
 pub mod CacheInfos
 pub mod VfSettings
 pub mod ValueRecords
+pub mod Records

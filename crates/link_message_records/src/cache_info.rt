@@ -1,7 +1,6 @@
 //! The IPv6 timers of a link.
 
 ghost use Rattle.std.specs.Prelude.{◌≡◌, ⊤, refl};
-ghost use Rattle.std.proofs.Common.{append-nil, sym};
 ghost use Rattle.link_message_records.specs.CacheInfos.{inet_6_cache_info_bytes};
 
 use super::record::{FieldRecord, bytes_of, write_record};
@@ -23,17 +22,16 @@ pub struct Inet6CacheInfo {
     pub retrans_time: u32,
 }
 
+#[tactic(auto, using(netlink_packet_core_grammar::proofs::Sizes::sizes))]
 impl Emitable for Inet6CacheInfo {
     ghost text = { inet_6_cache_info_bytes };
 
     ghost can_emit = { λ _. ⊤ };
 
-    #[tactic(auto, using(netlink_packet_core_grammar::proofs::Sizes::sizes))]
     fn buffer_len(&self) -> usize {
         16
     }
 
-    #[tactic(auto, using(netlink_packet_core_grammar::proofs::Sizes::sizes))]
     fn emit(&self, buffer: &mut [u8]) {
         write_record(self, buffer);
     }
@@ -49,12 +47,6 @@ impl FieldRecord<16> for Inet6CacheInfo {
     type Fields = (u32, (u32, (u32, u32)));
 
     ghost fields_of = { λ v. (v.max_reasm_len, (v.tstamp, (v.reachable_time, v.retrans_time))) };
-
-    ghost padding = { 0 };
-
-    ghost record_text = { inet_6_cache_info_bytes };
-
-    ghost is_named = { λ _. ⊤ };
 
     fn from_fields(
         (max_reasm_len, (tstamp, (reachable_time, retrans_time))): Self::Fields,
@@ -75,8 +67,6 @@ impl FieldRecord<16> for Inet6CacheInfo {
     }
 
     ghost fills_record = { refl };
-
-    ghost is_text = { λ v. sym (append-nil (inet_6_cache_info_bytes v)) };
 }
 
 /// The 16 bytes of a `Inet6CacheInfo`.

@@ -26,17 +26,16 @@ pub struct Map {
     pub port: u8,
 }
 
+#[tactic(auto, using(netlink_packet_core_grammar::proofs::Sizes::sizes, crate::proofs::Pairs::pairs))]
 impl Emitable for Map {
     ghost text = { map_bytes };
 
     ghost can_emit = { λ _. ⊤ };
 
-    #[tactic(auto, using(crate::proofs::RecordSizes::record_sizes))]
     fn buffer_len(&self) -> usize {
         32
     }
 
-    #[tactic(auto, using(crate::proofs::RecordSizes::record_sizes))]
     fn emit(&self, buffer: &mut [u8]) {
         write_record(self, buffer);
     }
@@ -53,12 +52,6 @@ impl FieldRecord<32> for Map {
 
     ghost fields_of = { λ v.
         (v.memory_start, (v.memory_end, (v.base_address, (v.irq, (v.dma, v.port))))) };
-
-    ghost padding = { 4 };
-
-    ghost record_text = { map_bytes };
-
-    ghost is_named = { λ _. ⊤ };
 
     fn from_fields(
         (memory_start, (memory_end, (base_address, (irq, (dma, port))))): Self::Fields,
@@ -84,8 +77,6 @@ impl FieldRecord<32> for Map {
     }
 
     ghost fills_record = { refl };
-
-    ghost is_text = { λ _. refl };
 }
 
 /// The 32 bytes of a `Map`.

@@ -1,8 +1,9 @@
 //! Records that consist of fields, one after the other.
 
-ghost use Rattle.std.specs.Prelude.{◌≡◌, ◌↔◌, ◌+◌, ◌++◌, ◌≤◌, ℕ, List, true, false, length, drop, IsOk, IfOk, IfErr};
+ghost use Rattle.std.specs.Prelude.{◌≡◌, ◌↔◌, ◌+◌, ◌-◌, ◌++◌, ◌≤◌, ⊤, true, false, length, drop, IsOk, IfOk, IfErr};
 ghost use Rattle.netlink_packet_core.specs.Attributes.{zeros};
 ghost use Rattle.netlink_packet_core.specs.Errors.{is_memory};
+ghost use Rattle.link_message_records.specs.Records.{with_zeros};
 ghost use Rattle.attribute_tables_grammar.specs.Shapes.{Shape, accepts, meaning, encoding, fixed_record};
 
 use super::fields::Fields;
@@ -16,14 +17,8 @@ pub trait FieldRecord<const N: usize>: Sized {
     /// The fields of a record.
     ghost fields_of: { Self → Self.Fields };
 
-    /// The number of zeros after the fields.
-    ghost padding: { ℕ };
-
-    /// The bytes of a record.
-    ghost record_text: { Self → List ℕ };
-
     /// Each number in the record that has a name is represented by the variant of that name.
-    ghost is_named: { Self → Type 0 };
+    ghost is_named: { Self → Type 0 } = { λ _. ⊤ };
 
     /// Returns the record with these fields.
     fn from_fields(fields: Self::Fields) -> Self
@@ -40,11 +35,12 @@ pub trait FieldRecord<const N: usize>: Sized {
     /// # Errors
     ///
     /// A refusal if the payload is shorter than the fields.
+    #[tactic(auto, using(crate::proofs::Pairs::paddings))]
     fn parse(payload: &[u8]) -> Result<Self, DecodeError>
         ensures size { IsOk result
             ↔ (accepts (fixed_record Self.Fields.size N) payload.now ≡ true) }
         ensures text { IfOk result
-            (λ v. record_text v
+            (λ v. with_zeros (N - Self.Fields.size) (Self.Fields.bytes (fields_of v))
             ≡ encoding (fixed_record Self.Fields.size N)
             (meaning (fixed_record Self.Fields.size N) payload.now)) }
         ensures named { IfOk result (λ v. is_named v) }
@@ -56,18 +52,15 @@ pub trait FieldRecord<const N: usize>: Sized {
         }
     }
 
-    /// The size of the fields and the zeros is that of the record.
-    ghost fills_record: { Self.Fields.size + padding ≡ N };
-
-    /// The bytes of a record are those of its fields, followed by the zeros.
-    ghost is_text: { (v : Self)
-        → record_text v ≡ Self.Fields.bytes (fields_of v) ++ zeros padding };
+    /// The fields are within the record.
+    ghost fills_record: { Self.Fields.size + (N - Self.Fields.size) ≡ N };
 }
 
 /// Writes a record to the start of a buffer, and leaves the rest of the buffer unchanged.
 pub(crate) fn write_record<R: FieldRecord<N>, const N: usize>(value: &R, buffer: &mut [u8])
     requires { N ≤ length buffer.old }
-    ensures { buffer.new ≡ R.record_text value.now ++ drop N buffer.old }
+    ensures { buffer.new
+        ≡ with_zeros (N - R.Fields.size) (R.Fields.bytes (R.fields_of value.now)) ++ drop N buffer.old }
 {
     let (prefix, _) = buffer.split_at_mut(N);
     let size = value.fields().write_prefix(prefix);
@@ -77,7 +70,7 @@ pub(crate) fn write_record<R: FieldRecord<N>, const N: usize>(value: &R, buffer:
 
 /// Returns the bytes of a record.
 pub(crate) fn bytes_of<R: FieldRecord<N>, const N: usize>(value: &R) -> [u8; N]
-    ensures { result ≡ R.record_text value.now }
+    ensures { result ≡ with_zeros (N - R.Fields.size) (R.Fields.bytes (R.fields_of value.now)) }
 {
     let mut bytes = [0; N];
     write_record(value, &mut bytes);

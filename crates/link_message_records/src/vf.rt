@@ -1,7 +1,7 @@
 //! Records of virtual functions.
+#![tactic(auto, using(netlink_packet_core_grammar::proofs::Sizes::sizes))]
 
 ghost use Rattle.std.specs.Prelude.{◌≡◌, ⊤, refl, take, length, ◌++◌};
-ghost use Rattle.std.proofs.Common.{append-nil, sym};
 ghost use Rattle.netlink_packet_core.specs.Attributes.{zeros};
 ghost use Rattle.netlink_packet_core.specs.Numbers.{be2};
 ghost use Rattle.link_message_types.specs.VfTypes.{vf_link_state_number, vf_link_state_of};
@@ -46,12 +46,10 @@ impl Emitable for VfInfoVlan {
 
     ghost can_emit = { λ _. ⊤ };
 
-    #[tactic(auto, using(netlink_packet_core_grammar::proofs::Sizes::sizes))]
     fn buffer_len(&self) -> usize {
         12
     }
 
-    #[tactic(auto, using(netlink_packet_core_grammar::proofs::Sizes::sizes))]
     fn emit(&self, buffer: &mut [u8]) {
         write_record(self, buffer);
     }
@@ -68,18 +66,8 @@ impl FieldRecord<12> for VfInfoVlan {
 
     ghost fields_of = { λ v. (v.vf_id, (v.vlan_id, v.qos)) };
 
-    ghost padding = { 0 };
-
-    ghost record_text = { vf_info_vlan_bytes };
-
-    ghost is_named = { λ _. ⊤ };
-
     fn from_fields((vf_id, (vlan_id, qos)): Self::Fields) -> Self {
-        Self {
-            vf_id,
-            vlan_id,
-            qos,
-        }
+        Self::new(vf_id, vlan_id, qos)
     }
 
     fn fields(&self) -> Self::Fields {
@@ -87,8 +75,6 @@ impl FieldRecord<12> for VfInfoVlan {
     }
 
     ghost fills_record = { refl };
-
-    ghost is_text = { λ v. sym (append-nil (vf_info_vlan_bytes v)) };
 }
 
 /// The 12 bytes of a `VfInfoVlan`.
@@ -119,12 +105,10 @@ impl Emitable for VfInfoTxRate {
 
     ghost can_emit = { λ _. ⊤ };
 
-    #[tactic(auto, using(netlink_packet_core_grammar::proofs::Sizes::sizes))]
     fn buffer_len(&self) -> usize {
         8
     }
 
-    #[tactic(auto, using(netlink_packet_core_grammar::proofs::Sizes::sizes))]
     fn emit(&self, buffer: &mut [u8]) {
         write_record(self, buffer);
     }
@@ -141,12 +125,6 @@ impl FieldRecord<8> for VfInfoTxRate {
 
     ghost fields_of = { λ v. (v.vf_id, v.rate) };
 
-    ghost padding = { 0 };
-
-    ghost record_text = { vf_info_tx_rate_bytes };
-
-    ghost is_named = { λ _. ⊤ };
-
     fn from_fields((vf_id, rate): Self::Fields) -> Self {
         Self { vf_id, rate }
     }
@@ -156,8 +134,6 @@ impl FieldRecord<8> for VfInfoTxRate {
     }
 
     ghost fills_record = { refl };
-
-    ghost is_text = { λ v. sym (append-nil (vf_info_tx_rate_bytes v)) };
 }
 
 /// The 8 bytes of a `VfInfoTxRate`.
@@ -195,12 +171,10 @@ impl Emitable for VfInfoRate {
 
     ghost can_emit = { λ _. ⊤ };
 
-    #[tactic(auto, using(netlink_packet_core_grammar::proofs::Sizes::sizes))]
     fn buffer_len(&self) -> usize {
         12
     }
 
-    #[tactic(auto, using(netlink_packet_core_grammar::proofs::Sizes::sizes))]
     fn emit(&self, buffer: &mut [u8]) {
         write_record(self, buffer);
     }
@@ -217,18 +191,8 @@ impl FieldRecord<12> for VfInfoRate {
 
     ghost fields_of = { λ v. (v.vf_id, (v.min_tx_rate, v.max_tx_rate)) };
 
-    ghost padding = { 0 };
-
-    ghost record_text = { vf_info_rate_bytes };
-
-    ghost is_named = { λ _. ⊤ };
-
     fn from_fields((vf_id, (min_tx_rate, max_tx_rate)): Self::Fields) -> Self {
-        Self {
-            vf_id,
-            min_tx_rate,
-            max_tx_rate,
-        }
+        Self::new(vf_id, min_tx_rate, max_tx_rate)
     }
 
     fn fields(&self) -> Self::Fields {
@@ -236,8 +200,6 @@ impl FieldRecord<12> for VfInfoRate {
     }
 
     ghost fills_record = { refl };
-
-    ghost is_text = { λ v. sym (append-nil (vf_info_rate_bytes v)) };
 }
 
 /// The 12 bytes of a `VfInfoRate`.
@@ -268,12 +230,10 @@ impl Emitable for VfInfoLinkState {
 
     ghost can_emit = { λ _. ⊤ };
 
-    #[tactic(auto, using(netlink_packet_core_grammar::proofs::Sizes::sizes))]
     fn buffer_len(&self) -> usize {
         8
     }
 
-    #[tactic(auto, using(netlink_packet_core_grammar::proofs::Sizes::sizes))]
     fn emit(&self, buffer: &mut [u8]) {
         write_record(self, buffer);
     }
@@ -290,10 +250,6 @@ impl FieldRecord<8> for VfInfoLinkState {
 
     ghost fields_of = { λ v. (v.vf_id, vf_link_state_number v.state) };
 
-    ghost padding = { 0 };
-
-    ghost record_text = { vf_info_link_state_bytes };
-
     ghost is_named = { λ v. v.state ≡ vf_link_state_of (vf_link_state_number v.state) };
 
     fn from_fields((vf_id, state): Self::Fields) -> Self {
@@ -308,8 +264,6 @@ impl FieldRecord<8> for VfInfoLinkState {
     }
 
     ghost fills_record = { refl };
-
-    ghost is_text = { λ v. sym (append-nil (vf_info_link_state_bytes v)) };
 }
 
 /// The 8 bytes of a `VfInfoLinkState`.
@@ -344,12 +298,10 @@ impl Emitable for VfInfoMac {
 
     ghost can_emit = { λ _. ⊤ };
 
-    #[tactic(auto, using(netlink_packet_core_grammar::proofs::Sizes::sizes))]
     fn buffer_len(&self) -> usize {
         4 + self.mac.as_slice().len()
     }
 
-    #[tactic(auto, using(netlink_packet_core_grammar::proofs::Sizes::sizes))]
     fn emit(&self, buffer: &mut [u8]) {
         write_record(self, buffer);
     }
@@ -366,12 +318,6 @@ impl FieldRecord<36> for VfInfoMac {
 
     ghost fields_of = { λ v. (v.vf_id, v.mac) };
 
-    ghost padding = { 0 };
-
-    ghost record_text = { vf_info_mac_bytes };
-
-    ghost is_named = { λ _. ⊤ };
-
     fn from_fields((vf_id, mac): Self::Fields) -> Self {
         Self { vf_id, mac }
     }
@@ -381,8 +327,6 @@ impl FieldRecord<36> for VfInfoMac {
     }
 
     ghost fills_record = { refl };
-
-    ghost is_text = { λ v. sym (append-nil (vf_info_mac_bytes v)) };
 }
 
 /// The 36 bytes of a `VfInfoMac`.
@@ -410,12 +354,10 @@ impl Emitable for VfInfoBroadcast {
 
     ghost can_emit = { λ _. ⊤ };
 
-    #[tactic(auto, using(netlink_packet_core_grammar::proofs::Sizes::sizes))]
     fn buffer_len(&self) -> usize {
         self.addr.as_slice().len()
     }
 
-    #[tactic(auto, using(netlink_packet_core_grammar::proofs::Sizes::sizes))]
     fn emit(&self, buffer: &mut [u8]) {
         write_record(self, buffer);
     }
@@ -432,12 +374,6 @@ impl FieldRecord<32> for VfInfoBroadcast {
 
     ghost fields_of = { λ v. v.addr };
 
-    ghost padding = { 0 };
-
-    ghost record_text = { vf_info_broadcast_bytes };
-
-    ghost is_named = { λ _. ⊤ };
-
     fn from_fields(addr: Self::Fields) -> Self {
         Self { addr }
     }
@@ -447,8 +383,6 @@ impl FieldRecord<32> for VfInfoBroadcast {
     }
 
     ghost fills_record = { refl };
-
-    ghost is_text = { λ v. sym (append-nil (vf_info_broadcast_bytes v)) };
 }
 
 /// The 32 bytes of a `VfInfoBroadcast`.
@@ -486,17 +420,16 @@ impl VfVlanInfo {
     }
 }
 
+#[tactic(auto, using(netlink_packet_core_grammar::proofs::Sizes::sizes, crate::proofs::Pairs::pairs))]
 impl Emitable for VfVlanInfo {
     ghost text = { vf_vlan_info_bytes };
 
     ghost can_emit = { λ _. ⊤ };
 
-    #[tactic(auto, using(crate::proofs::RecordSizes::record_sizes))]
     fn buffer_len(&self) -> usize {
         16
     }
 
-    #[tactic(auto, using(crate::proofs::RecordSizes::record_sizes))]
     fn emit(&self, buffer: &mut [u8]) {
         write_record(self, buffer);
     }
@@ -513,10 +446,6 @@ impl FieldRecord<16> for VfVlanInfo {
 
     ghost fields_of = { λ v.
         (v.vf_id, (v.vlan_id, (v.qos, be2 (vlan_protocol_number v.protocol)))) };
-
-    ghost padding = { 2 };
-
-    ghost record_text = { vf_vlan_info_bytes };
 
     ghost is_named = { λ v. v.protocol ≡ vlan_protocol_of (vlan_protocol_number v.protocol) };
 
@@ -542,8 +471,6 @@ impl FieldRecord<16> for VfVlanInfo {
     }
 
     ghost fills_record = { refl };
-
-    ghost is_text = { λ _. refl };
 }
 
 /// The 16 bytes of a `VfVlanInfo`.

@@ -49,7 +49,7 @@ fn attributes_of_peers_count(rt: HostRuntime) {
             counts(check_list(bytes)),
             counts(check_list_with(bytes, &LinkPeer)),
         ];
-        assert_eq!(rt; (bytes, results), (bytes, [Some(by_bytes), by_body]));
+        assert!(rt; results == [Some(by_bytes), by_body], "{bytes:?}");
     }
 }
 
@@ -65,7 +65,7 @@ fn peers_are_compared_as_bodies(rt: HostRuntime) {
             same_list_with(left, right, &LinkPeer),
             same_list(left, right),
         ];
-        assert_eq!(rt; (left, right, results), (left, right, [is_same, false]));
+        assert!(rt; results == [is_same, false], "{left:?} {right:?}");
     }
 }
 
@@ -86,22 +86,22 @@ fn bytes_under_a_header_are_compared(rt: HostRuntime) {
         (&BODY[..15], &BODY[..16], false),
     ] {
         let results = [LinkPeer.same(left, right), LinkPeer.same(right, left)];
-        assert_eq!(rt; (left, right, results), (left, right, [is_same; 2]));
+        assert!(rt; results == [is_same; 2], "{left:?} {right:?}");
     }
 }
 
 #[test]
 fn peers_are_written_as_bodies(rt: HostRuntime) -> Result<(), Fail> {
     for payload in [BODY, BODY_SHORTER, BODY_PADDED] {
-        assert_eq!(rt;
-            (payload, LinkPeer.canonical(rt.alloc(), payload)?.as_slice()),
-            (payload, BODY)
+        assert!(rt;
+            LinkPeer.canonical(rt.alloc(), payload)?.as_slice() == BODY,
+            "{payload:?}"
         );
     }
     for payload in [EMPTY_PORTS, b"abc".as_slice()] {
-        assert_eq!(rt;
-            (payload, is_refused(LinkPeer.canonical(rt.alloc(), payload))),
-            (payload, true)
+        assert!(rt;
+            is_refused(LinkPeer.canonical(rt.alloc(), payload)),
+            "{payload:?}"
         );
     }
     Ok(())

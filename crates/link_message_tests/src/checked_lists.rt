@@ -21,7 +21,7 @@ fn lists_are_counted(rt: HostRuntime) {
         (name.as_slice(), Some((65536, 1, false))),
         (NO_KIND, None),
     ] {
-        assert_eq!(rt; (bytes, counts(check_list(bytes))), (bytes, results));
+        assert!(rt; counts(check_list(bytes)) == results, "{bytes:?}");
     }
 }
 
@@ -54,13 +54,9 @@ fn lists_are_compared(rt: HostRuntime) {
         (UNLISTED, UNLISTED_NESTED, false),
         (TTL_FLAG, TTL_BYTE, false),
     ] {
-        assert_eq!(rt;
-            (
-                left,
-                right,
-                [same_list(left, right), same_list(right, left)]
-            ),
-            (left, right, [is_same; 2])
+        assert!(rt;
+            [same_list(left, right), same_list(right, left)] == [is_same; 2],
+            "{left:?} {right:?}"
         );
     }
 }

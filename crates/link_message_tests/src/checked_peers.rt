@@ -67,9 +67,9 @@ fn peers_are_counted_by_the_rule(rt: HostRuntime) {
             counts(check_list_with(bytes, &BytesPeer)),
             counts(check_list(bytes)),
         ];
-        assert_eq!(rt;
-            (bytes, results),
-            (bytes, [by_rule, Some(by_bytes), Some(by_bytes)])
+        assert!(rt;
+            results == [by_rule, Some(by_bytes), Some(by_bytes)],
+            "{bytes:?}"
         );
     }
 }
@@ -91,9 +91,9 @@ fn peers_are_compared_by_the_rule(rt: HostRuntime) {
             same_list_with(left, right, &BytesPeer),
             same_list(left, right),
         ];
-        assert_eq!(rt;
-            (left, right, results),
-            (left, right, [by_rule, by_bytes, by_bytes])
+        assert!(rt;
+            results == [by_rule, by_bytes, by_bytes],
+            "{left:?} {right:?}"
         );
     }
 }

@@ -1,6 +1,6 @@
 //! Worked cases of link info. The expected values come from outside this project's code.
 
-mod attributes;
+pub(super) mod attributes;
 mod data;
 mod device_types;
 mod devices;

@@ -8,8 +8,6 @@ mod attributes;
 #[cfg(test)]
 mod checked_bodies;
 #[cfg(test)]
-mod checked_body_peers;
-#[cfg(test)]
 mod checked_link_peers;
 #[cfg(test)]
 mod checked_lists;

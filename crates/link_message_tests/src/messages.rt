@@ -1,7 +1,7 @@
 //! Bodies of link messages, read and written.
 
-use super::values::{is_refused, is_value};
-use link_info::{InfoData, InfoKind, InfoVeth, InfoVxlan, LinkInfo};
+use super::values::is_refused;
+use link_info::{InfoData, InfoKind, LinkInfo};
 use link_message::{
     AddressFamily, LINK_HEADER_LEN, LinkAttribute, LinkExtentMask, LinkHeader, LinkMessage,
     LinkPeer, check, write_canonical,
@@ -15,32 +15,33 @@ const REQUEST: &[u8] = b"\0\0\0\0\0\0\0\0\0\0\0\0\0\0\0\0\
     \x08\0\x1d\0\x09\0\0\0\x07\0\x03\0lo\0\0";
 
 // A VXLAN whose learning is switched on by the byte 5, and whose group policy flag has a byte.
-const VXLAN: &[u8] = b"\x24\0\x12\0\x0a\0\x01\0vxlan\0\0\0\
+pub(crate) const VXLAN: &[u8] = b"\x24\0\x12\0\x0a\0\x01\0vxlan\0\0\0\
     \x14\0\x02\0\x05\0\x07\0\x05\0\0\0\x05\0\x17\0\xaa\0\0\0";
 
 // The canonical text of the VXLAN.
-const VXLAN_TEXT: &[u8] = b"\x20\0\x12\0\x0a\0\x01\0vxlan\0\0\0\
+pub(crate) const VXLAN_TEXT: &[u8] = b"\x20\0\x12\0\x0a\0\x01\0vxlan\0\0\0\
     \x10\0\x02\0\x05\0\x07\0\x01\0\0\0\x04\0\x17\0";
 
 // A veth whose peer has the name `lo` without a NUL.
-const VETH: &[u8] = b"\x2e\0\x12\0\x09\0\x01\0veth\0\0\0\0\x1e\0\x02\0\x1a\0\x01\0\
+pub(crate) const VETH: &[u8] = b"\x2e\0\x12\0\x09\0\x01\0veth\0\0\0\0\x1e\0\x02\0\x1a\0\x01\0\
     \0\0\0\0\0\0\0\0\0\0\0\0\0\0\0\0\x06\0\x03\0lo";
 
 // The canonical text of the veth.
-const VETH_TEXT: &[u8] = b"\x30\0\x12\0\x09\0\x01\0veth\0\0\0\0\x20\0\x02\0\x1c\0\x01\0\
+pub(crate) const VETH_TEXT: &[u8] = b"\x30\0\x12\0\x09\0\x01\0veth\0\0\0\0\x20\0\x02\0\x1c\0\x01\0\
     \0\0\0\0\0\0\0\0\0\0\0\0\0\0\0\0\x07\0\x03\0lo\0\0";
 
 // The peer in it.
 const PEER: &[u8] = b"\0\0\0\0\0\0\0\0\0\0\0\0\0\0\0\0\x07\0\x03\0lo\0\0";
 
 // A veth whose peer is a veth, whose peer has 15 bytes.
-const VETH_TWICE: &[u8] = b"\x4f\0\x12\0\x09\0\x01\0veth\0\0\0\0\x3f\0\x02\0\x3b\0\x01\0\
+pub(crate) const VETH_TWICE: &[u8] = b"\x4f\0\x12\0\x09\0\x01\0veth\0\0\0\0\x3f\0\x02\0\x3b\0\x01\0\
     \0\0\0\0\0\0\0\0\0\0\0\0\0\0\0\0\
     \x27\0\x12\0\x09\0\x01\0veth\0\0\0\0\x17\0\x02\0\x13\0\x01\0\
     \0\0\0\0\0\0\0\0\0\0\0\0\0\0\0";
 
 // The canonical text of this veth.
-const VETH_TWICE_TEXT: &[u8] = b"\x50\0\x12\0\x09\0\x01\0veth\0\0\0\0\x40\0\x02\0\x3c\0\x01\0\
+pub(crate) const VETH_TWICE_TEXT: &[u8] =
+    b"\x50\0\x12\0\x09\0\x01\0veth\0\0\0\0\x40\0\x02\0\x3c\0\x01\0\
     \0\0\0\0\0\0\0\0\0\0\0\0\0\0\0\0\
     \x28\0\x12\0\x09\0\x01\0veth\0\0\0\0\x18\0\x02\0\x13\0\x01\0\
     \0\0\0\0\0\0\0\0\0\0\0\0\0\0\0\0";
@@ -99,8 +100,9 @@ const REWRITTEN: [(&[u8], &[u8]); 18] = [
     ),
 ];
 
-// Headers without attributes, and their canonical text.
-const HEADERS: [(&[u8], &[u8]); 2] = [
+// A request and headers without attributes, and their canonical text.
+const BODIES: [(&[u8], &[u8]); 3] = [
+    (REQUEST, REQUEST),
     // a second byte that isn't 0, and a layer type without a name
     (
         b"\0\x05\x09\0\0\0\0\0\0\0\0\0\0\0\0\0",
@@ -155,7 +157,7 @@ const PORTS: [(&[u8], bool); 5] = [
 ];
 
 /// Returns a body of AF_UNSPEC, about all links.
-fn body(alloc: Global, attributes: &[u8]) -> Result<Vec<u8>, Fail> {
+pub(crate) fn body(alloc: Global, attributes: &[u8]) -> Result<Vec<u8>, Fail> {
     let mut bytes = Vec::from_elem(alloc, 0u8, LINK_HEADER_LEN)?;
     bytes.extend_from_slice(attributes)?;
     Ok(bytes)
@@ -198,23 +200,16 @@ fn has_text(alloc: Global, bytes: &[u8], text: &[u8]) -> Result<bool, Fail> {
     Ok(rewritten(alloc, bytes)?.as_slice() == text && canonical(alloc, bytes)?.as_slice() == text)
 }
 
-/// Returns whether attributes of a body have a list of ports without a port.
-fn have_empty_ports(alloc: Global, attributes: &[u8]) -> Result<bool, Fail> {
-    Ok(LinkMessage::parse(alloc, &body(alloc, attributes)?)?.has_empty_ports())
-}
-
 /// Returns a message of this family about all links, with this attribute.
 fn message_with(
     alloc: Global,
     family: AddressFamily,
     attribute: LinkAttribute,
 ) -> Result<LinkMessage, Fail> {
-    let mut header = LinkHeader::parse(&[0; LINK_HEADER_LEN])?;
+    let attributes = vec![in alloc; attribute]?;
+    let mut header = LinkHeader::default();
     header.interface_family = family;
-    Ok(LinkMessage {
-        header,
-        attributes: vec![in alloc; attribute]?,
-    })
+    Ok(LinkMessage { header, attributes })
 }
 
 /// Returns the bytes of a message of this family, with an MTU of 1500.
@@ -232,64 +227,23 @@ fn size_with_name(alloc: Global, size: usize) -> Result<Option<usize>, Fail> {
     Ok(message.fits().then_some(message.buffer_len()))
 }
 
-/// Returns whether link info is that of a VXLAN with these data.
-fn are_vxlan(infos: &[LinkInfo], data: &[InfoVxlan]) -> bool {
-    match infos {
-        [
-            LinkInfo::Kind(InfoKind::Vxlan),
-            LinkInfo::Data(InfoData::Vxlan(found)),
-        ] => { found.as_slice() == data }
-        _ => false,
-    }
-}
-
-/// Returns whether the data of a link are this peer of a veth.
-fn is_peer(data: &InfoData, peer: &[u8]) -> bool {
-    match data {
-        InfoData::Veth(InfoVeth::Peer(found)) => found.as_slice() == peer,
-        _ => false,
-    }
-}
-
-/// Returns whether link info is that of a veth with this peer.
-fn is_veth(infos: &[LinkInfo], peer: &[u8]) -> bool {
-    match infos {
-        [LinkInfo::Kind(InfoKind::Veth), LinkInfo::Data(data)] => is_peer(data, peer),
-        _ => false,
-    }
-}
-
-/// Returns whether attributes are read as such link info.
-fn are_veth(alloc: Global, attributes: &[u8], peer: &[u8]) -> Result<bool, Fail> {
-    let message = LinkMessage::parse(alloc, &body(alloc, attributes)?)?;
-    match message.attributes.as_slice() {
-        [LinkAttribute::LinkInfo(infos)] => Ok(is_veth(infos, peer)),
-        _ => Ok(false),
-    }
-}
-
-/// Returns whether a list alone is read as such link info, under the rule of peers.
-fn is_list_of_veth(alloc: Global, list: &[u8], peer: &[u8]) -> bool {
-    match LinkInfo::parse_list_with(alloc, list, &LinkPeer) {
-        Ok(infos) => is_veth(&infos, peer),
-        Err(_) => false,
-    }
-}
-
-/// Returns whether a payload alone is read as the data, under the rule of peers.
-fn are_data_of_veth(alloc: Global, payload: &[u8], peer: &[u8]) -> Result<bool, Fail> {
-    let expected_result = InfoData::Veth(InfoVeth::Peer(Vec::from_slice(alloc, peer)?));
-    let data = InfoData::parse_with_peers(alloc, payload, &InfoKind::Veth, &LinkPeer);
-    Ok(is_value(data, expected_result))
-}
-
-/// Returns whether a body is read as a message with only this name.
-fn is_named(alloc: Global, bytes: &[u8], name: &str) -> Result<bool, Fail> {
+/// Returns the Debug text of the family and of the attributes of a body.
+fn values_of(alloc: Global, bytes: &[u8]) -> Result<String, Fail> {
     let message = LinkMessage::parse(alloc, bytes)?;
-    match message.attributes.as_slice() {
-        [LinkAttribute::IfName(found)] => Ok(found.as_str() == name),
-        _ => Ok(false),
-    }
+    let family = message.header.interface_family;
+    Ok(format!(in alloc; "{family:?} {:?}", message.attributes)?)
+}
+
+/// Returns the Debug text of link info that is read alone under the rule of peers.
+fn list_with_peers(alloc: Global, list: &[u8]) -> Result<String, Fail> {
+    let infos = LinkInfo::parse_list_with(alloc, list, &LinkPeer)?;
+    Ok(format!(in alloc; "{infos:?}")?)
+}
+
+/// Returns the Debug text of data of a veth that are read alone under the rule of peers.
+fn data_with_peers(alloc: Global, payload: &[u8]) -> Result<String, Fail> {
+    let data = InfoData::parse_with_peers(alloc, payload, &InfoKind::Veth, &LinkPeer)?;
+    Ok(format!(in alloc; "{data:?}")?)
 }
 
 #[test]
@@ -303,68 +257,67 @@ fn a_request_is_read(rt: HostRuntime) -> Result<(), Fail> {
     let expected_result = [LinkExtentMask::Vf, LinkExtentMask::SkipStats];
     assert!(rt; masks.as_slice() == expected_result.as_slice());
     assert!(rt; name.as_str() == "lo");
-    assert!(rt; written(rt.alloc(), &message)?.as_slice() == REQUEST);
     Ok(())
 }
 
 #[test]
 fn link_info_is_typed(rt: HostRuntime) -> Result<(), Fail> {
-    let message = LinkMessage::parse(rt.alloc(), &body(rt.alloc(), VXLAN)?)?;
-    let [LinkAttribute::LinkInfo(infos)] = message.attributes.as_slice() else {
-        return Err(Fail::from("other attributes"));
-    };
-    assert!(rt; are_vxlan(infos, &[InfoVxlan::Learning(true), InfoVxlan::Gbp]));
+    let values = values_of(rt.alloc(), &body(rt.alloc(), VXLAN)?)?;
+    let expected = "Unspec [LinkInfo([Kind(Vxlan), Data(Vxlan([Learning(true), Gbp]))])]";
+    assert!(rt; values.as_str() == expected);
     Ok(())
 }
 
-/// A peer is held as its canonical text, also if it is read alone under the rule of peers. Read as
-/// a message, it is judged as one, with the peers in it.
+/// Returns whether this is the Debug text of a peer of a veth, between these texts.
+fn is_peer(
+    alloc: Global,
+    text: &str,
+    [before, after]: [&str; 2],
+    peer: &[u8],
+) -> Result<bool, Fail> {
+    Ok(format!(in alloc; "{before}Veth(Peer({peer:?})){after}")?.as_str() == text)
+}
+
+/// Returns whether attributes are read as a link of this peer, which is held as its canonical text,
+/// also if the link info or its data are read alone under the rule of peers.
+fn hold_peer(alloc: Global, attributes: &[u8], peer: &[u8]) -> Result<[bool; 3], Fail> {
+    let list = attributes.get(4..).unwrap_or(b"");
+    let payload = list.get(16..).unwrap_or(b"");
+    let values = values_of(alloc, &body(alloc, attributes)?)?;
+    let infos = list_with_peers(alloc, list)?;
+    let data = data_with_peers(alloc, payload)?;
+    let around = ["Unspec [LinkInfo([Kind(Veth), Data(", ")])]"];
+    Ok([
+        is_peer(alloc, values.as_str(), around, peer)?,
+        is_peer(alloc, infos.as_str(), ["[Kind(Veth), Data(", ")]"], peer)?,
+        is_peer(alloc, data.as_str(), ["", ""], peer)?,
+    ])
+}
+
+/// Read as a message, a peer is judged as one, with the peers in it.
 #[test]
 fn peers_are_messages(rt: HostRuntime) -> Result<(), Fail> {
-    for (attributes, peer, is_message) in PEERS {
-        assert_eq!(rt;
-            (attributes, are_veth(rt.alloc(), attributes, peer)?),
-            (attributes, true)
-        );
-        assert_eq!(rt;
-            (attributes, is_refused(LinkMessage::parse(rt.alloc(), peer))),
-            (attributes, !is_message)
-        );
-        let list = attributes.get(4..).unwrap_or(b"");
-        assert_eq!(rt;
-            (attributes, is_list_of_veth(rt.alloc(), list, peer)),
-            (attributes, true)
-        );
-        let payload = list.get(16..).unwrap_or(b"");
-        assert_eq!(rt;
-            (attributes, are_data_of_veth(rt.alloc(), payload, peer)?),
-            (attributes, true)
-        );
+    for (attributes, peer, is_message) in &PEERS {
+        let are_held = hold_peer(rt.alloc(), attributes, peer)?;
+        assert!(rt; are_held == [true; 3], "{peer:?} {are_held:?}");
+        let is_refused = is_refused(LinkMessage::parse(rt.alloc(), peer));
+        assert!(rt; is_refused != *is_message, "{peer:?}");
     }
-    assert!(rt; is_named(rt.alloc(), PEER, "lo")?);
+    assert!(rt; values_of(rt.alloc(), PEER)?.as_str() == "Unspec [IfName(\"lo\")]");
     Ok(())
 }
 
 #[test]
-fn attributes_are_rewritten(rt: HostRuntime) -> Result<(), Fail> {
-    for (attributes, expected_result) in REWRITTEN {
+fn bodies_are_rewritten(rt: HostRuntime) -> Result<(), Fail> {
+    for (attributes, text) in &REWRITTEN {
         let bytes = body(rt.alloc(), attributes)?;
-        let expected_result = body(rt.alloc(), expected_result)?;
-        assert_eq!(rt;
-            (attributes, has_text(rt.alloc(), &bytes, &expected_result)?),
-            (attributes, true)
-        );
+        let text = body(rt.alloc(), text)?;
+        let is_written = has_text(rt.alloc(), &bytes, &text)?;
+        assert!(rt; is_written, "{attributes:?}");
     }
-    Ok(())
-}
-
-#[test]
-fn headers_are_rewritten(rt: HostRuntime) -> Result<(), Fail> {
-    for (header, expected_result) in HEADERS {
-        assert_eq!(rt;
-            (header, has_text(rt.alloc(), header, expected_result)?),
-            (header, true)
-        );
+    for (bytes, text) in &BODIES {
+        let is_written = has_text(rt.alloc(), bytes, text)?;
+        assert!(rt; is_written, "{bytes:?}");
     }
     Ok(())
 }
@@ -372,20 +325,13 @@ fn headers_are_rewritten(rt: HostRuntime) -> Result<(), Fail> {
 #[test]
 fn other_bodies_are_refused(rt: HostRuntime) -> Result<(), Fail> {
     for bytes in SHORT {
-        assert_eq!(rt;
-            (bytes, is_refused(LinkMessage::parse(rt.alloc(), bytes))),
-            (bytes, true)
-        );
+        let is_refused = is_refused(LinkMessage::parse(rt.alloc(), bytes));
+        assert!(rt; is_refused, "{bytes:?}");
     }
     for attributes in REFUSED {
         let bytes = body(rt.alloc(), attributes)?;
-        assert_eq!(rt;
-            (
-                attributes,
-                is_refused(LinkMessage::parse(rt.alloc(), &bytes))
-            ),
-            (attributes, true)
-        );
+        let is_refused = is_refused(LinkMessage::parse(rt.alloc(), &bytes));
+        assert!(rt; is_refused, "{attributes:?}");
     }
     Ok(())
 }
@@ -393,10 +339,9 @@ fn other_bodies_are_refused(rt: HostRuntime) -> Result<(), Fail> {
 #[test]
 fn lists_without_a_port_are_reported(rt: HostRuntime) -> Result<(), Fail> {
     for (attributes, is_emptied) in PORTS {
-        assert_eq!(rt;
-            (attributes, have_empty_ports(rt.alloc(), attributes)?),
-            (attributes, is_emptied)
-        );
+        let bytes = body(rt.alloc(), attributes)?;
+        let found = LinkMessage::parse(rt.alloc(), &bytes)?.has_empty_ports();
+        assert!(rt; found == is_emptied, "{attributes:?}");
     }
     Ok(())
 }
@@ -413,8 +358,6 @@ fn a_name_of_65530_bytes_fits(rt: HostRuntime) -> Result<(), Fail> {
 #[test]
 fn a_family_is_written_as_its_number(rt: HostRuntime) -> Result<(), Fail> {
     let bytes = written_under(rt.alloc(), AddressFamily::Other(7))?;
-    let value_read_back = LinkMessage::parse(rt.alloc(), &bytes)?;
-    assert!(rt; value_read_back.header.interface_family == AddressFamily::Bridge);
-    assert!(rt; value_read_back.attributes.as_slice() == [LinkAttribute::Mtu(1500)].as_slice());
+    assert!(rt; values_of(rt.alloc(), &bytes)?.as_str() == "Bridge [Mtu(1500)]");
     Ok(())
 }

@@ -71,10 +71,8 @@ fn flags_are_displayed_by_name(rt: HostRuntime) -> Result<(), Fail> {
     ];
     for (bits, text) in texts {
         let flags = LinkFlags::from_bits_retain(bits);
-        assert_eq!(rt;
-            (bits, format!(in rt.alloc(); "{flags}")?.as_str()),
-            (bits, text)
-        );
+        let shown = format!(in rt.alloc(); "{flags}")?;
+        assert!(rt; shown.as_str() == text, "{bits}");
     }
     Ok(())
 }

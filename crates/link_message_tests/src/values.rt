@@ -1,17 +1,24 @@
 //! Questions and values that tests of several files share.
 
 use link_info::ListMeasure;
-use link_message_nested::{AfSpecMctp, AfSpecUnspec, LinkVfInfo, VfInfo, VfVlan};
-use link_message_records::VfVlanInfo;
-use link_message_types::{MctpPhysBinding, VlanProtocol};
+use link_message_nested::{AfSpecMctp, AfSpecUnspec};
+use link_message_types::MctpPhysBinding;
 use netlink_packet_core::DecodeError;
 use std::alloc::Global;
+use std::fmt::Debug;
 use std::test::Fail;
 
-/// Returns whether a result is this value.
-pub(crate) fn is_value<V: PartialEq + Drop>(read: Result<V, DecodeError>, value: V) -> bool {
+/// Returns whether a value was read whose Debug text is this; not if an allocation fails.
+pub(crate) fn is_shown<V: Debug + Drop>(
+    alloc: Global,
+    read: Result<V, DecodeError>,
+    text: &str,
+) -> bool {
     match read {
-        Ok(read) => read == value,
+        Ok(value) => match format!(in alloc; "{value:?}") {
+            Ok(shown) => shown.as_str() == text,
+            Err(_) => false,
+        },
         Err(_) => false,
     }
 }
@@ -31,17 +38,6 @@ pub(crate) fn counts(measure: Result<ListMeasure, DecodeError>) -> Option<(u128,
         Ok(measure) => Some((measure.text_len, measure.attributes, measure.fits)),
         Err(_) => None,
     }
-}
-
-/// Returns a list of one VLAN: the function 0, the VLAN 100, no priority, and 802.1Q.
-pub(crate) fn vlan_list(alloc: Global) -> Result<VfInfo, Fail> {
-    let vlan = VfVlanInfo::new(0, 100, 0, VlanProtocol::Ieee8021Q);
-    Ok(VfInfo::VlanList(vec![in alloc; VfVlan::Info(vlan)]?))
-}
-
-/// Returns a virtual function with that list.
-pub(crate) fn virtual_function(alloc: Global) -> Result<LinkVfInfo, Fail> {
-    Ok(LinkVfInfo(vec![in alloc; vlan_list(alloc)?]?))
 }
 
 /// Returns the attributes of MCTP over USB.

@@ -14,7 +14,7 @@ use Rattle.link_tables.specs.Tables.{all_tables, info_payload, table_of}
 
 -- the constant rows, in the order of the tables
 abbrev pub lists : List (List Row)
-lists = map (λ b. b.now) TABLES
+lists = map (λ b. b.now) TABLES.now
 
 pub dense : (t : ℕ) → are_dense (get_or lists t []) ≡ true
 dense t = all_at are_dense lists t [] refl refl

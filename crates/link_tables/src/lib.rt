@@ -3,8 +3,7 @@
 #![tactic(auto)]
 
 mod info;
-mod info_lists;
-mod kinds;
+pub mod kinds;
 mod message_lists;
 mod names;
 mod rows;

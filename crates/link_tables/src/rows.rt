@@ -101,3 +101,33 @@ pub fn look_up(rows: &[Row], kind: u16) -> Row
         Row::Unlisted(kind)
     }
 }
+
+/// The row of a kind, for the interpreter.
+#[macro_export]
+macro_rules! constant_row {
+    ($kind:literal) => {
+        Unlisted($kind)
+    };
+    ($kind:literal, $shape:expr) => {
+        Listed($kind, false, Plain($shape))
+    };
+    ($kind:literal -> $held:expr) => {
+        Listed($kind, false, $held)
+    };
+    ($kind:literal => $held:expr) => {
+        Listed($kind, true, $held)
+    };
+}
+
+/// The rows of a list, for the interpreter.
+#[macro_export]
+macro_rules! constant_rows {
+    ($(
+        $kind:literal
+        $(-> $held_name:literal, $held:expr)?
+        $(=> $nested_name:literal, $nested:expr)?
+        $(, $name:literal $(, $shape:expr, $shown:expr)?)?;
+    )*) => {
+        [$($crate::constant_row!($kind $(-> $held)? $(=> $nested)? $($(, $shape)?)?),)*]
+    };
+}

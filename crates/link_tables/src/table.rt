@@ -1,4 +1,4 @@
-//! The tables of attributes, each with a constant.
+//! The tables of attributes, each with a constant; those of data are in `kinds`.
 
 ghost use Rattle.std.specs.Prelude.{◌≡◌, ℕ, true, [], get_or};
 ghost use Rattle.attribute_tables_grammar.specs.LookUps.{line_at};
@@ -10,8 +10,8 @@ ghost use Rattle.link_tables.specs.Tables.{family_table, info_payload, is_link_i
 use crate::rows::{Row, look_up};
 use crate::table_rows::TABLES;
 
-/// A table of attributes. Each is named by a constant of this module.
-#[derive(Clone, Copy)]
+/// A table of attributes, by its index. Each is named by a constant of this module or of `kinds`.
+#[derive(Clone, Copy, PartialEq, Eq)]
 pub struct Table(pub u8);
 
 impl Table {
@@ -84,112 +84,43 @@ pub const LINK_OTHER: Table = Table(18);
 /// so there are no rows here: see `info_held`.
 pub const LINK_INFO: Table = Table(19);
 
-/// IFLA_AMT_*.
-pub const AMT: Table = Table(20);
-
-/// IFLA_BAREUDP_*.
-pub const BAREUDP: Table = Table(21);
-
-/// IFLA_BATADV_*.
-pub const BATADV: Table = Table(22);
-
-/// IFLA_GENEVE_*.
-pub const GENEVE: Table = Table(23);
-
-/// IFLA_GRE_* over IPv4.
-pub const GRE: Table = Table(24);
-
-/// IFLA_GRE_* over IPv6.
-pub const GRE6: Table = Table(25);
-
-/// IFLA_GTP_*.
-pub const GTP: Table = Table(26);
-
-/// IFLA_IPOIB_*.
-pub const IPOIB: Table = Table(27);
-
-/// IFLA_IPVLAN_*.
-pub const IPVLAN: Table = Table(28);
-
-/// IFLA_IPTUN_* over IPv4.
-pub const IP4_TUNNEL: Table = Table(29);
-
-/// IFLA_IPTUN_* over IPv6.
-pub const IP6_TUNNEL: Table = Table(30);
-
-/// IFLA_MACVLAN_*.
-pub const MACVLAN: Table = Table(31);
-
-/// IFLA_MACVLAN_MACADDR, the attributes inside IFLA_MACVLAN_MACADDR_DATA.
-pub const MACVLAN_ADDRESS: Table = Table(32);
-
-/// IFLA_MACSEC_*.
-pub const MACSEC: Table = Table(33);
-
-/// IFLA_NETKIT_*.
-pub const NETKIT: Table = Table(34);
-
-/// VETH_INFO_*.
-pub const VETH: Table = Table(35);
-
-/// IFLA_RMNET_*.
-pub const RMNET: Table = Table(36);
-
-/// IFLA_VRF_*, of a link and of its ports.
-pub const VRF: Table = Table(37);
-
-/// IFLA_WWAN_*.
-pub const WWAN: Table = Table(38);
-
-/// IFLA_XFRM_*.
-pub const XFRM: Table = Table(39);
-
-/// IFLA_VTI_*.
-pub const VTI: Table = Table(40);
-
-/// IFLA_VXLAN_*.
-pub const VXLAN: Table = Table(41);
-
-/// VXCAN_INFO_*.
-pub const VXCAN: Table = Table(42);
-
 /// IFLA_VLAN_*. In this table, and each from here on, all attributes are raw: their kinds have
-/// names, but no rows.
-pub const VLAN: Table = Table(43);
+/// names, but no rows. Their indexes begin at 64, so that a further table of data moves none.
+pub const VLAN: Table = Table(64);
 
 /// IFLA_BR_*.
-pub const BRIDGE: Table = Table(44);
+pub const BRIDGE: Table = Table(65);
 
 /// IFLA_BOND_*.
-pub const BOND: Table = Table(45);
+pub const BOND: Table = Table(66);
 
 /// IFLA_TUN_*.
-pub const TUN: Table = Table(46);
+pub const TUN: Table = Table(67);
 
 /// IFLA_CAN_*.
-pub const CAN: Table = Table(47);
+pub const CAN: Table = Table(68);
 
 /// IFLA_HSR_*.
-pub const HSR: Table = Table(48);
+pub const HSR: Table = Table(69);
 
 /// IFLA_DSA_*.
-pub const DSA: Table = Table(49);
+pub const DSA: Table = Table(70);
 
 /// IFLA_BRPORT_*: the port data of `bridge`, and the attributes inside IFLA_PROTINFO under
 /// AF_BRIDGE.
-pub const BRIDGE_PORT: Table = Table(50);
+pub const BRIDGE_PORT: Table = Table(71);
 
 /// IFLA_BOND_SLAVE_*: the port data of `bond`.
-pub const BOND_PORT: Table = Table(51);
+pub const BOND_PORT: Table = Table(72);
 
 /// IFLA_BRIDGE_*, the attributes inside IFLA_AF_SPEC under AF_BRIDGE.
-pub const BRIDGE_SPECIFIC: Table = Table(52);
+pub const BRIDGE_SPECIFIC: Table = Table(73);
 
 /// IFLA_INET6_*, the attributes inside IFLA_PROTINFO under AF_INET6.
-pub const INET6_PROTOCOL: Table = Table(53);
+pub const INET6_PROTOCOL: Table = Table(74);
 
 /// IFLA_PORT_*, the attributes inside IFLA_VF_PORT and IFLA_PORT_SELF.
-pub const PORT: Table = Table(54);
+pub const PORT: Table = Table(75);
 
 /// The length of a link's header, which precedes its attributes (rtnetlink.h, `struct ifinfomsg`).
 pub const LINK_HEADER_LEN: usize = 16;
@@ -232,5 +163,5 @@ pub fn row_of(table: Table, kind: u16) -> Row
     ensures line { row_line result ≡ line_at (table_of table.0) kind }
     ensures bounded { rows_bounded (table_of table.0) ≡ true }
 {
-    look_up(table_at(&TABLES, table), kind)
+    look_up(table_at(TABLES, table), kind)
 }

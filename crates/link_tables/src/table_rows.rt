@@ -1,6 +1,7 @@
 //! The rows of each table, at the table's index.
 
 use crate::constant_rows;
+use crate::kinds::MACVLAN_ADDRESS;
 use crate::rows::Form::{Any, OfKindOne, Ports};
 use crate::rows::Held::{LinkInfo, List, Peer, Plain};
 use crate::rows::Row;
@@ -10,14 +11,14 @@ use crate::rows::Shape::{
     Presence, Raw, Resized, Text,
 };
 use crate::table::{
-    BRIDGE_PORT, BRIDGE_SPECIFIC, DEVLINK_PORT, DPLL_PIN, INET, INET6, INET6_PROTOCOL,
-    MACVLAN_ADDRESS, MCTP, PORT, PROPS, PROTOCOL_DOWN_REASON, SPECIFIC, VF, VF_INFOS, VF_PORTS,
-    VF_STATS, VF_VLANS, XDP,
+    BRIDGE_PORT, BRIDGE_SPECIFIC, DEVLINK_PORT, DPLL_PIN, INET, INET6, INET6_PROTOCOL, MCTP, PORT,
+    PROPS, PROTOCOL_DOWN_REASON, SPECIFIC, VF, VF_INFOS, VF_PORTS, VF_STATS, VF_VLANS, XDP,
 };
 
 /// The rows of all tables up to the last one that has any; tables in between without rows are
 /// empty.
-pub const TABLES: [&[Row]; 43] = [
+pub const TABLES: &[&[Row]] = &crate::data_tables!(
+    constant_rows,
     &crate::xdp!(constant_rows),
     &crate::props!(constant_rows),
     &crate::protocol_down_reason!(constant_rows),
@@ -37,28 +38,5 @@ pub const TABLES: [&[Row]; 43] = [
     &crate::link_bridge!(constant_rows),
     &crate::link_inet6!(constant_rows),
     &crate::link_other!(constant_rows),
-    &[],
-    &crate::amt!(constant_rows),
-    &crate::bareudp!(constant_rows),
-    &crate::batadv!(constant_rows),
-    &crate::geneve!(constant_rows),
-    &crate::gre!(constant_rows),
-    &crate::gre6!(constant_rows),
-    &crate::gtp!(constant_rows),
-    &crate::ipoib!(constant_rows),
-    &crate::ipvlan!(constant_rows),
-    &crate::ip4_tunnel!(constant_rows),
-    &crate::ip6_tunnel!(constant_rows),
-    &crate::macvlan!(constant_rows),
-    &crate::macvlan_address!(constant_rows),
-    &crate::macsec!(constant_rows),
-    &crate::netkit!(constant_rows),
-    &crate::veth!(constant_rows),
-    &crate::rmnet!(constant_rows),
-    &crate::vrf!(constant_rows),
-    &crate::wwan!(constant_rows),
-    &crate::xfrm!(constant_rows),
-    &crate::vti!(constant_rows),
-    &crate::vxlan!(constant_rows),
-    &crate::vxcan!(constant_rows),
-];
+    &[]
+);

@@ -4,14 +4,14 @@ use Rattle.std.specs.Prelude.{◌↔◌, ◌&&◌, nat_le, nat_eq}
 use Rattle.std.proofs.lemmas.Bool.{and_from, cases_lt, eqb-true, le-leb, lt-leb}
 use Rattle.std.proofs.lemmas.List.{length-take-le, length-drop, take_at}
 use Rattle.netlink_packet_core_grammar.specs.Attributes.{nla_align, zeros}
-use Rattle.netlink_packet_core_grammar.specs.Frames.{IsFrame, frame_length, frame_type, frame_body}
+use Rattle.netlink_packet_core_grammar.specs.Frames.{IsFrame, frame_length, frame_type, frame_body, is_frame}
 use Rattle.link_capture_grammar.specs.Body.{link_body}
 use Rattle.link_capture_grammar.specs.Captures.{texts, IsLegal}
 use Rattle.link_capture_grammar.specs.Laws.{LegalFrame, SamenessUnfoldsByFrames, TextsDetermineMeanings}
 use Rattle.link_capture_grammar.specs.Same.{same_body, SameFrame}
 use Rattle.link_capture_checks.proofs.Types.{one_type}
 use Rattle.link_capture_checks.proofs.Steps.{one_further}
-use Rattle.link_capture_numbers.specs.Cleared.{is_frame, zeros_at, numbers_cleared}
+use Rattle.link_capture_numbers.specs.Cleared.{zeros_at, numbers_cleared}
 use Rattle.link_capture_numbers.specs.Laws.{ClearedCapturesHaveClearedTexts}
 use Rattle.link_capture_numbers.proofs.Steps.{whole, stopped}
 use Rattle.link_capture_numbers.proofs.FirstFrames.{Shape, shape, fields}

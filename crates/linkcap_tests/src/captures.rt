@@ -1,7 +1,8 @@
 //! Captures and the results of normalising them.
 
+use super::cases::bytes_of;
 use super::devices::{LimitedReader, Plan};
-use hex::{decode, encode};
+use hex::encode;
 use link_capture::{
     CaptureFault, Measure, ReadSource, VecSink, clear_numbers, measure, normalize, normalize_bytes,
     same,
@@ -18,38 +19,34 @@ fn shown(alloc: Global, texts: &[u8], outcome: Result<(), CaptureFault>) -> Resu
     Ok(text)
 }
 
-/// Returns the result for a capture in hex.
-fn normalized(alloc: Global, capture: &str, limit: u32) -> Result<String, Fail> {
-    let bytes = decode(alloc, capture).map_err(|_| Fail::from("not hex"))?;
+/// Returns the result for a capture.
+fn normalized(alloc: Global, capture: &[u8], limit: u32) -> Result<String, Fail> {
     let mut out = Vec::new(alloc);
-    let outcome = normalize_bytes(bytes.as_slice(), limit.max(16), &mut out);
+    let outcome = normalize_bytes(capture, limit.max(16), &mut out);
     shown(alloc, out.as_slice(), outcome)
 }
 
-/// Returns the result for a capture in hex that is read in pieces of this size.
+/// Returns the result for a capture that is read in pieces of this size.
 fn normalized_in_pieces(
     alloc: Global,
-    capture: &str,
+    capture: &[u8],
     limit: u32,
     size: usize,
 ) -> Result<String, Fail> {
-    let bytes = decode(alloc, capture).map_err(|_| Fail::from("not hex"))?;
+    let plan = Plan::steady(size);
     let mut source = ReadSource::new(LimitedReader {
-        rest: bytes.as_slice(),
-        plan: Plan::steady(size),
+        rest: capture,
+        plan,
     });
     let mut sink = VecSink::new(alloc);
     let outcome = normalize(alloc, &mut source, &mut sink, limit.max(16));
     shown(alloc, sink.bytes(), outcome)
 }
 
-/// A capture in hex, and the expected result.
-struct Case {
-    name: &'static str,
-    capture: &'static str,
-    limit: u32,
-    expected: &'static str,
-}
+/// A request for the link `lo`, which is already canonical.
+const REQUEST: &str =
+    "3000000012000103340ef95a000000000000000000000000000000000000000008001d0009000000\
+    070003006c6f0000";
 
 /// A veth whose peer has the name `lo` without a NUL, and its normal text.
 const VETH: &str =
@@ -71,142 +68,124 @@ const VETH_TWICE_TEXT: &str =
     7665746800000000400002003c000100000000000000000000000000000000002800120009000100\
     7665746800000000180002001300010000000000000000000000000000000000";
 
-/// Cases worked out by hand.
-const WORKED: [Case; 18] = [
-    Case {
-        name: "no bytes are legal and have no text",
-        capture: "",
-        limit: 1000,
-        expected: "",
-    },
-    Case {
-        name: "a canonical request is its own normal text",
-        capture: "3000000012000103340ef95a000000000000000000000000000000000000000008001d0009000000\
-            070003006c6f0000",
-        limit: 1000,
-        expected: "3000000012000103340ef95a000000000000000000000000000000000000000008001d0009000000\
-            070003006c6f0000",
-    },
-    Case {
-        name: "flag bits and padding of a name are renewed",
-        capture: "3000000012000103340ef95a000000000000000000000000000000000000000008001d0009000000\
-            070003806c6f00ff",
-        limit: 1000,
-        expected: "3000000012000103340ef95a000000000000000000000000000000000000000008001d0009000000\
-            070003006c6f0000",
-    },
-    Case {
-        name: "the last padding may be missing",
-        capture: "2e00000012000103340ef95a000000000000000000000000000000000000000008001d0009000000\
-            060003006c6f",
-        limit: 1000,
-        expected: "3000000012000103340ef95a000000000000000000000000000000000000000008001d0009000000\
-            070003006c6f0000",
-    },
-    Case {
-        name: "the body of a noop is dropped",
-        capture: "14000000010000000100000000000000aabbccdd",
-        limit: 1000,
-        expected: "10000000010000000100000000000000",
-    },
-    Case {
-        name: "an empty done gains its code and a short length stops",
-        capture: "1000000003000200010000000000000008000000030000000000000000000000",
-        limit: 1000,
-        expected: "1400000003000200010000000000000000000000 length under 16 at 16",
-    },
-    Case {
-        name: "a text may be over the limit where its frame is not",
-        capture: "10000000030002000100000000000000",
-        limit: 16,
-        expected: " normal text over the limit at 0",
-    },
-    Case {
-        name: "a header over the limit is not cut",
-        capture: "e9030000140000000000000000000000",
-        limit: 1000,
-        expected: " frame over the limit at 0",
-    },
-    Case {
-        name: "a cut frame has no text",
-        capture: "3000000012000103340ef95a000000000000000000000000000000000000",
-        limit: 1000,
-        expected: " cut frame at 0",
-    },
-    Case {
-        name: "an unknown type is kept and padded",
-        capture: "1100000014000000000000000000000061",
-        limit: 1000,
-        expected: "1100000014000000000000000000000061000000",
-    },
-    Case {
-        name: "a raw kind keeps both flag bits",
-        capture: "2800000010000000000000000000000000000000000000000000000000000000050046c001000000",
-        limit: 1000,
-        expected: "2800000010000000000000000000000000000000000000000000000000000000050046c001000000",
-    },
-    Case {
-        name: "the second byte and an unnamed layer type are renewed",
-        capture: "2000000010000000000000000000000000050900000000000000000000000000",
-        limit: 1000,
-        expected: "200000001000000000000000000000000000ffff000000000000000000000000",
-    },
-    Case {
-        name: "a done body of two bytes is refused",
-        capture: "120000000300000000000000000000000000",
-        limit: 1000,
-        expected: " refused body at 0",
-    },
-    Case {
-        name: "a peer is written as a link is",
-        capture: VETH,
-        limit: 1000,
-        expected: VETH_TEXT,
-    },
-    Case {
-        name: "a peer inside a peer is kept as bytes",
-        capture: VETH_TWICE,
-        limit: 1000,
-        expected: VETH_TWICE_TEXT,
-    },
-    Case {
-        name: "a peer of 15 bytes is refused",
-        capture: "47000000100000000000000000000000000000000000000000000000000000002700120009000100\
-            76657468000000001700020013000100000000000000000000000000000000",
-        limit: 1000,
-        expected: " refused body at 0",
-    },
-    Case {
-        name: "a peer with a list of ports that has no port is refused",
-        capture: "50000000100000000000000000000000000000000000000000000000000000003000120009000100\
-            7665746800000000200002001c000100000000000000000000000000000000000800180004000700",
-        limit: 1000,
-        expected: " refused body at 0",
-    },
-    Case {
-        name: "two frames are written one after the other",
-        capture: "3000000012000103340ef95a000000000000000000000000000000000000000008001d0009000000\
-            070003006c6f00003000000012000103340ef95a0000000000000000000000000000000000000000\
-            08001d0009000000070003006c6f0000",
-        limit: 1000,
-        expected: "3000000012000103340ef95a000000000000000000000000000000000000000008001d0009000000\
-            070003006c6f00003000000012000103340ef95a0000000000000000000000000000000000000000\
-            08001d0009000000070003006c6f0000",
-    },
+/// Cases worked out by hand: a capture in hex, its limit, and the expected result.
+const WORKED: [(&str, &str, u32, &str); 18] = [
+    ("no bytes are legal and have no text", "", 1000, ""),
+    (
+        "a canonical request is its own normal text",
+        REQUEST,
+        1000,
+        REQUEST,
+    ),
+    (
+        "flag bits and padding of a name are renewed",
+        "3000000012000103340ef95a000000000000000000000000000000000000000008001d0009000000\
+        070003806c6f00ff",
+        1000,
+        REQUEST,
+    ),
+    (
+        "the last padding may be missing",
+        "2e00000012000103340ef95a000000000000000000000000000000000000000008001d0009000000060003006c6f",
+        1000,
+        REQUEST,
+    ),
+    (
+        "the body of a noop is dropped",
+        "14000000010000000100000000000000aabbccdd",
+        1000,
+        "10000000010000000100000000000000",
+    ),
+    (
+        "an empty done gains its code and a short length stops",
+        "1000000003000200010000000000000008000000030000000000000000000000",
+        1000,
+        "1400000003000200010000000000000000000000 length under 16 at 16",
+    ),
+    (
+        "a text may be over the limit where its frame is not",
+        "10000000030002000100000000000000",
+        16,
+        " normal text over the limit at 0",
+    ),
+    (
+        "a header over the limit is not cut",
+        "e9030000140000000000000000000000",
+        1000,
+        " frame over the limit at 0",
+    ),
+    (
+        "a cut frame has no text",
+        "3000000012000103340ef95a000000000000000000000000000000000000",
+        1000,
+        " cut frame at 0",
+    ),
+    (
+        "an unknown type is kept and padded",
+        "1100000014000000000000000000000061",
+        1000,
+        "1100000014000000000000000000000061000000",
+    ),
+    (
+        "a raw kind keeps both flag bits",
+        "2800000010000000000000000000000000000000000000000000000000000000050046c001000000",
+        1000,
+        "2800000010000000000000000000000000000000000000000000000000000000050046c001000000",
+    ),
+    (
+        "the second byte and an unnamed layer type are renewed",
+        "2000000010000000000000000000000000050900000000000000000000000000",
+        1000,
+        "200000001000000000000000000000000000ffff000000000000000000000000",
+    ),
+    (
+        "a done body of two bytes is refused",
+        "120000000300000000000000000000000000",
+        1000,
+        " refused body at 0",
+    ),
+    ("a peer is written as a link is", VETH, 1000, VETH_TEXT),
+    (
+        "a peer inside a peer is kept as bytes",
+        VETH_TWICE,
+        1000,
+        VETH_TWICE_TEXT,
+    ),
+    (
+        "a peer of 15 bytes is refused",
+        "47000000100000000000000000000000000000000000000000000000000000002700120009000100\
+        76657468000000001700020013000100000000000000000000000000000000",
+        1000,
+        " refused body at 0",
+    ),
+    (
+        "a peer with a list of ports that has no port is refused",
+        "50000000100000000000000000000000000000000000000000000000000000003000120009000100\
+        7665746800000000200002001c000100000000000000000000000000000000000800180004000700",
+        1000,
+        " refused body at 0",
+    ),
+    (
+        "two frames are written one after the other",
+        "3000000012000103340ef95a000000000000000000000000000000000000000008001d0009000000\
+        070003006c6f00003000000012000103340ef95a0000000000000000000000000000000000000000\
+        08001d0009000000070003006c6f0000",
+        1000,
+        "3000000012000103340ef95a000000000000000000000000000000000000000008001d0009000000\
+        070003006c6f00003000000012000103340ef95a0000000000000000000000000000000000000000\
+        08001d0009000000070003006c6f0000",
+    ),
 ];
 
 #[test]
 fn worked_captures(rt: HostRuntime) -> Result<(), Fail> {
-    for case in &WORKED {
-        let text = normalized(rt.alloc(), case.capture, case.limit)?;
-        assert!(rt; text.as_str() == case.expected, "{}", case.name);
+    for (name, capture, limit, expected) in &WORKED {
+        let capture = bytes_of(rt.alloc(), capture)?;
+        let text = normalized(rt.alloc(), &capture, *limit)?;
+        assert!(rt; text.as_str() == *expected, "{name}");
         for size in [1, 7, 100, 65536] {
-            let text = normalized_in_pieces(rt.alloc(), case.capture, case.limit, size)?;
-            assert!(rt;
-                text.as_str() == case.expected,
-                "{} in pieces of {size}",
-                case.name
-            );
+            let text = normalized_in_pieces(rt.alloc(), &capture, *limit, size)?;
+            assert!(rt; text.as_str() == *expected, "{name} in pieces of {size}");
         }
     }
     Ok(())
@@ -219,8 +198,8 @@ fn peers_are_measured_and_compared(rt: HostRuntime) -> Result<(), Fail> {
         (VETH, VETH_TEXT, 5, 80),
         (VETH_TWICE, VETH_TWICE_TEXT, 8, 112),
     ] {
-        let capture = decode(rt.alloc(), capture).map_err(|_| Fail::from("not hex"))?;
-        let text = decode(rt.alloc(), text).map_err(|_| Fail::from("not hex"))?;
+        let capture = bytes_of(rt.alloc(), capture)?;
+        let text = bytes_of(rt.alloc(), text)?;
         let expected = Measure {
             frames: 1,
             attributes,

@@ -71,10 +71,13 @@ pub(crate) fn shown(alloc: Global, outcome: &Result<(), CaptureFault>) -> Result
 
 #[test]
 fn faults_are_displayed(rt: HostRuntime) -> Result<(), Fail> {
-    for (kind, words, offset, text) in TEXTS {
-        let fault = CaptureFault { kind, offset };
-        assert!(rt; is_displayed(rt.alloc(), &kind, words)?);
-        assert!(rt; is_displayed(rt.alloc(), &fault, text)?);
+    for (kind, words, offset, text) in &TEXTS {
+        let fault = CaptureFault {
+            kind: *kind,
+            offset: *offset,
+        };
+        assert!(rt; is_displayed(rt.alloc(), kind, words)?, "{words}");
+        assert!(rt; is_displayed(rt.alloc(), &fault, text)?, "{text}");
     }
     Ok(())
 }

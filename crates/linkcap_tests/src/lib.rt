@@ -6,6 +6,8 @@
 #[cfg(test)]
 mod captures;
 #[cfg(test)]
+mod cases;
+#[cfg(test)]
 mod core_examples;
 #[cfg(test)]
 mod devices;

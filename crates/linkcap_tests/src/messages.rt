@@ -1,9 +1,9 @@
 //! Messages of captures: which are read back equal from what they are written as, and in which
 //! order they come.
 
+use super::cases::bytes_of;
 use super::fault_texts::is_displayed;
 use super::requests::name_of;
-use hex::decode;
 use link_capture::{CaptureFault, Messages, NotReadable, ReadableLink, RouteFault, RouteLink};
 use link_info::{InfoData, InfoKind, InfoVeth, LinkInfo};
 use link_message::{
@@ -166,7 +166,7 @@ fn messages_come_one_after_another(rt: HostRuntime) -> Result<(), Fail> {
             "3000000012000103340ef95a0000000000000000000000000000\
             00000000000008001d0009000000070003806c6f00ff1100000014000000000000000000000061{rest}"
         )?;
-        let bytes = decode(alloc, capture.as_str()).map_err(|_| Fail::from("not hex"))?;
+        let bytes = bytes_of(alloc, capture.as_str())?;
         assert!(rt; message_labels(alloc, bytes.as_slice())?.as_str() == *expected);
     }
     Ok(())

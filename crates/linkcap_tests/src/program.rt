@@ -3,7 +3,7 @@
 ghost use Rattle.std.specs.Prelude.{None};
 
 use super::devices::{LimitedReader, LimitedWriter, Plan};
-use super::program_arguments::strings;
+use super::program_arguments::words_of;
 use super::runs::{CAPTURE, TEXT};
 use link_capture::{DeviceFailed, ReadSource, WriteSink};
 use linkcap_program::{FileSystem, run, run_same};
@@ -57,34 +57,26 @@ const USAGE_LINE: &str = "usage: linkcap norm [LIMIT] or linkcap same FILE FILE 
 
 /// Arguments after the program's name, the output for the capture and these files, and the error
 /// message.
-const ARGUMENTS: [(&[&str], &[u8], &str); 15] = [
-    (&["norm"], &TEXT, ""),
-    (&["norm", "48"], &TEXT, ""),
-    (&["norm", "47"], b"", "frame over the limit at 0\n"),
-    (&["norm", "15"], b"", USAGE_LINE),
-    (&["norm", "48", "48"], b"", USAGE_LINE),
-    (&["same", "capture", "text"], b"same\n", ""),
-    (&["same", "text", "capture", "48"], b"same\n", ""),
-    (&["same", "text", "text"], b"same\n", ""),
-    (&["same", "text", "front"], b"different\n", ""),
+const ARGUMENTS: [(&str, &[u8], &str); 15] = [
+    ("norm", &TEXT, ""),
+    ("norm 48", &TEXT, ""),
+    ("norm 47", b"", "frame over the limit at 0\n"),
+    ("norm 15", b"", USAGE_LINE),
+    ("norm 48 48", b"", USAGE_LINE),
+    ("same capture text", b"same\n", ""),
+    ("same text capture 48", b"same\n", ""),
+    ("same text text", b"same\n", ""),
+    ("same text front", b"different\n", ""),
+    ("same cut missing", b"", "second: read failed at 0\n"),
+    ("same broken missing", b"", "first: read failed at 16\n"),
+    ("same cut text", b"", "first: cut frame at 48\n"),
+    ("same text cut", b"", "second: cut frame at 48\n"),
     (
-        &["same", "cut", "missing"],
-        b"",
-        "second: read failed at 0\n",
-    ),
-    (
-        &["same", "broken", "missing"],
-        b"",
-        "first: read failed at 16\n",
-    ),
-    (&["same", "cut", "text"], b"", "first: cut frame at 48\n"),
-    (&["same", "text", "cut"], b"", "second: cut frame at 48\n"),
-    (
-        &["same", "text", "text", "47"],
+        "same text text 47",
         b"",
         "first: frame over the limit at 0\n",
     ),
-    (&["same", "text"], b"", USAGE_LINE),
+    ("same text", b"", USAGE_LINE),
 ];
 
 /// Returns the output for the capture and these files, and the error message.
@@ -107,12 +99,12 @@ fn run_of_arguments(alloc: Global, arguments: &[String]) -> (Vec<u8>, Vec<u8>) {
 
 #[test]
 fn arguments_are_carried_out(rt: HostRuntime) -> Result<(), Fail> {
-    for (arguments, written, line) in ARGUMENTS {
-        let strings = strings(rt.alloc(), arguments)?;
-        let (text, reported) = run_of_arguments(rt.alloc(), strings.as_slice());
+    for (line, written, error) in &ARGUMENTS {
+        let words = words_of(rt.alloc(), line)?;
+        let (text, reported) = run_of_arguments(rt.alloc(), words.as_slice());
         assert!(rt;
-            text.as_slice() == written && reported.as_slice() == line.as_bytes(),
-            "{arguments:?}"
+            text.as_slice() == *written && reported.as_slice() == error.as_bytes(),
+            "{line}"
         );
     }
     Ok(())

@@ -7,25 +7,22 @@ use std::alloc::Global;
 use std::test::Fail;
 
 /// Arguments after the program's name, and the command that they ask for; None for a usage error.
-const ARGUMENTS: [(&[&str], Option<Command<'static>>); 21] = [
-    (&["norm"], Some(Command::Norm { limit: 1048576 })),
-    (&["norm", "16"], Some(Command::Norm { limit: 16 })),
-    (&["norm", "0016"], Some(Command::Norm { limit: 16 })),
+const ARGUMENTS: [(&str, Option<Command<'static>>); 21] = [
+    ("norm", Some(Command::Norm { limit: 1048576 })),
+    ("norm 16", Some(Command::Norm { limit: 16 })),
+    ("norm 0016", Some(Command::Norm { limit: 16 })),
+    ("norm 4294967295", Some(Command::Norm { limit: 4294967295 })),
+    ("norm 15", None),
+    ("norm 4294967296", None),
+    ("norm ''", None),
+    ("norm +16", None),
+    ("norm -16", None),
+    ("norm 1e3", None),
+    ("norm 16 16", None),
+    ("16 norm", None),
+    ("NORM", None),
     (
-        &["norm", "4294967295"],
-        Some(Command::Norm { limit: 4294967295 }),
-    ),
-    (&["norm", "15"], None),
-    (&["norm", "4294967296"], None),
-    (&["norm", ""], None),
-    (&["norm", "+16"], None),
-    (&["norm", "-16"], None),
-    (&["norm", "1e3"], None),
-    (&["norm", "16", "16"], None),
-    (&["16", "norm"], None),
-    (&["NORM"], None),
-    (
-        &["same", "a", "b"],
+        "same a b",
         Some(Command::Same {
             first: "a",
             second: "b",
@@ -33,35 +30,36 @@ const ARGUMENTS: [(&[&str], Option<Command<'static>>); 21] = [
         }),
     ),
     (
-        &["same", "same", "16", "17"],
+        "same same 16 17",
         Some(Command::Same {
             first: "same",
             second: "16",
             limit: 17,
         }),
     ),
-    (&["same", "a", "b", "15"], None),
-    (&["same", "a", "b", "16", "16"], None),
-    (&["same", "a"], None),
-    (&["norm", "a", "b"], None),
-    (&["same"], None),
-    (&[], None),
+    ("same a b 15", None),
+    ("same a b 16 16", None),
+    ("same a", None),
+    ("norm a b", None),
+    ("same", None),
+    ("", None),
 ];
 
-/// Returns the arguments as the program gets them.
-pub(crate) fn strings(alloc: Global, arguments: &[&str]) -> Result<Vec<String>, Fail> {
-    let mut strings = Vec::new(alloc);
-    for argument in arguments {
-        strings.push(String::from_str(alloc, argument)?)?;
+/// Returns the arguments in a line, in which `''` is an empty one.
+pub(crate) fn words_of(alloc: Global, line: &str) -> Result<Vec<String>, Fail> {
+    let mut words = Vec::new(alloc);
+    for word in line.split_whitespace() {
+        let word = if word == "''" { "" } else { word };
+        words.push(String::from_str(alloc, word)?)?;
     }
-    Ok(strings)
+    Ok(words)
 }
 
 #[test]
 fn arguments_ask_for_commands(rt: HostRuntime) -> Result<(), Fail> {
-    for (arguments, expected) in ARGUMENTS {
-        let strings = strings(rt.alloc(), arguments)?;
-        assert!(rt; read_words(strings.as_slice()) == expected, "{arguments:?}");
+    for (line, expected) in &ARGUMENTS {
+        let words = words_of(rt.alloc(), line)?;
+        assert!(rt; read_words(words.as_slice()) == *expected, "{line}");
     }
     Ok(())
 }

@@ -44,55 +44,34 @@ pub(crate) fn name_of(alloc: Global, size: usize) -> Result<String, Fail> {
 }
 
 #[test]
-fn a_vxlan_is_asked_for(rt: HostRuntime) -> Result<(), Fail> {
-    let bytes = vxlan_request(rt.alloc(), "vxlan7", 42, 1450, 1)?;
-    assert_eq!(rt; bytes.as_slice(), VXLAN.as_slice());
-    Ok(())
-}
-
-#[test]
-fn a_link_is_asked_for(rt: HostRuntime) -> Result<(), Fail> {
-    let alloc = rt.alloc();
-    let attributes = vec![in alloc; LinkAttribute::IfName(name_of(alloc, 2)?)]?;
-    let bytes = new_link_request(alloc, message(attributes)?, 2)?;
-    assert_eq!(rt; bytes.as_slice(), LINK.as_slice());
-    Ok(())
-}
-
-#[test]
 fn links_are_asked_for(rt: HostRuntime) -> Result<(), Fail> {
     let alloc = rt.alloc();
+    let bytes = vxlan_request(alloc, "vxlan7", 42, 1450, 1)?;
+    assert!(rt; bytes.as_slice() == VXLAN.as_slice());
+    let attributes = vec![in alloc; LinkAttribute::IfName(name_of(alloc, 2)?)]?;
+    let bytes = new_link_request(alloc, message(attributes)?, 2)?;
+    assert!(rt; bytes.as_slice() == LINK.as_slice());
     let Ok(link) = ReadableLink::new(alloc, message(Vec::new(alloc))?) else {
         return Err(Fail::from("a header alone is readable"));
     };
     let bytes = request(alloc, RouteLink::GetLink(link), 0x301, 258)?;
-    assert_eq!(rt; bytes.as_slice(), DUMP.as_slice());
+    assert!(rt; bytes.as_slice() == DUMP.as_slice());
     Ok(())
 }
 
+/// Names have at most 65530 bytes, and a message that reads back as another one isn't asked for.
 #[test]
-fn names_have_at_most_65530_bytes(rt: HostRuntime) -> Result<(), Fail> {
+fn other_links_are_not_asked_for(rt: HostRuntime) -> Result<(), Fail> {
     let alloc = rt.alloc();
     let name = name_of(alloc, 65530)?;
     assert!(rt; vxlan_request(alloc, name.as_str(), 42, 1450, 1).is_ok());
     let name = name_of(alloc, 65531)?;
     let outcome = vxlan_request(alloc, name.as_str(), 42, 1450, 1);
     assert!(rt; outcome == Err(RequestFault::Unfit));
-    Ok(())
-}
-
-#[test]
-fn what_reads_otherwise_is_not_asked_for(rt: HostRuntime) -> Result<(), Fail> {
-    let alloc = rt.alloc();
     let attributes = vec![in alloc; LinkAttribute::LinkInfo(Vec::new(alloc))]?;
     let outcome = new_link_request(alloc, message(attributes)?, 1);
     assert!(rt; outcome == Err(RequestFault::ReadsOtherwise));
-    Ok(())
-}
-
-#[test]
-fn faults_have_their_texts(rt: HostRuntime) -> Result<(), Fail> {
-    let cases = [
+    for (fault, words) in &[
         (RequestFault::Unfit, "attribute over 65535"),
         (
             RequestFault::ReadsOtherwise,
@@ -100,9 +79,8 @@ fn faults_have_their_texts(rt: HostRuntime) -> Result<(), Fail> {
         ),
         (RequestFault::TooLong, "frame over 4294967295"),
         (RequestFault::Memory, "no memory"),
-    ];
-    for (fault, words) in &cases {
-        assert!(rt; is_displayed(rt.alloc(), fault, words)?);
+    ] {
+        assert!(rt; is_displayed(alloc, fault, words)?, "{words}");
     }
     Ok(())
 }

@@ -47,6 +47,11 @@ struct Run {
     unread: usize,
 }
 
+/// Returns the plan with these limits.
+fn plan((size, calls, fails): Limits) -> Plan {
+    Plan { size, calls, fails }
+}
+
 /// Returns a run of `normalize` under the limit 1000.
 fn norm_between(alloc: Global, capture: &[u8], reads: Plan, writes: Plan) -> Run {
     let mut reader = LimitedReader {
@@ -68,139 +73,106 @@ fn norm_between(alloc: Global, capture: &[u8], reads: Plan, writes: Plan) -> Run
     }
 }
 
-/// A run and its expected result: `ok` or the display of its fault, and the bytes written.
-struct Case {
-    name: &'static str,
-    capture: &'static [u8],
-    reads: Plan,
-    writes: Plan,
-    expected_text: &'static str,
-    written: &'static [u8],
-}
+/// The size, the calls and the failure of a plan.
+type Limits = (usize, usize, bool);
 
-const STEADY: Plan = Plan {
-    size: 100,
-    calls: 1000,
-    fails: false,
-};
+const STEADY: Limits = (100, 1000, false);
+
+/// A capture, the plans of its reads and writes, the result, `ok` or the display of the fault, and
+/// the bytes written.
+type Case = (
+    &'static str,
+    &'static [u8],
+    Limits,
+    Limits,
+    &'static str,
+    &'static [u8],
+);
 
 const CASES: [Case; 9] = [
-    Case {
-        name: "few bytes a call",
-        capture: &TEXT,
-        reads: STEADY,
-        writes: Plan { size: 5, ..STEADY },
-        expected_text: "ok",
-        written: &TEXT,
-    },
-    Case {
-        name: "a write that fails is told at the bytes taken",
-        capture: &TEXT,
-        reads: STEADY,
-        writes: Plan {
-            size: 5,
-            calls: 4,
-            fails: true,
-        },
-        expected_text: "write failed at 20",
-        written: b"\x30\0\0\0\x12\0\x01\x03\x34\x0e\xf9\x5a\0\0\0\0\0\0\0\0",
-    },
-    Case {
-        name: "a write that takes nothing has failed",
-        capture: &TEXT,
-        reads: STEADY,
-        writes: Plan {
-            size: 5,
-            calls: 4,
-            fails: false,
-        },
-        expected_text: "write failed at 20",
-        written: b"\x30\0\0\0\x12\0\x01\x03\x34\x0e\xf9\x5a\0\0\0\0\0\0\0\0",
-    },
-    Case {
-        name: "a write that fails at once is told at 0",
-        capture: &SHORT,
-        reads: STEADY,
-        writes: Plan {
-            size: 5,
-            calls: 0,
-            fails: true,
-        },
-        expected_text: "write failed at 0",
-        written: b"",
-    },
-    Case {
-        name: "a failed write is told in place of another fault",
-        capture: &SHORT,
-        reads: STEADY,
-        writes: Plan {
-            size: 19,
-            calls: 1,
-            fails: true,
-        },
-        expected_text: "write failed at 19",
-        written: b"\x14\0\0\0\x03\0\x02\0\x01\0\0\0\0\0\0\0\0\0\0",
-    },
-    Case {
-        name: "texts before a fault are written",
-        capture: &SHORT,
-        reads: STEADY,
-        writes: STEADY,
-        expected_text: "length under 16 at 16",
-        written: &SHORT_TEXT,
-    },
-    Case {
-        name: "a read that fails inside the first message leaves nothing written",
-        capture: &TEXT,
-        reads: Plan {
-            size: 30,
-            calls: 1,
-            fails: true,
-        },
-        writes: STEADY,
-        expected_text: "read failed at 30",
-        written: b"",
-    },
-    Case {
-        name: "texts before a failed read are written",
-        capture: &BEGUN,
-        reads: Plan {
-            size: 58,
-            calls: 1,
-            fails: true,
-        },
-        writes: STEADY,
-        expected_text: "read failed at 58",
-        written: b"\x30\0\0\0\x12\0\x01\x03\x34\x0e\xf9\x5a\0\0\0\0\0\0\0\0\0\0\0\0\0\0\0\0\0\0\0\0\
+    (
+        "few bytes a call",
+        &TEXT,
+        STEADY,
+        (5, 1000, false),
+        "ok",
+        &TEXT,
+    ),
+    (
+        "a write that fails is told at the bytes taken",
+        &TEXT,
+        STEADY,
+        (5, 4, true),
+        "write failed at 20",
+        b"\x30\0\0\0\x12\0\x01\x03\x34\x0e\xf9\x5a\0\0\0\0\0\0\0\0",
+    ),
+    (
+        "a write that takes nothing has failed",
+        &TEXT,
+        STEADY,
+        (5, 4, false),
+        "write failed at 20",
+        b"\x30\0\0\0\x12\0\x01\x03\x34\x0e\xf9\x5a\0\0\0\0\0\0\0\0",
+    ),
+    (
+        "a write that fails at once is told at 0",
+        &SHORT,
+        STEADY,
+        (5, 0, true),
+        "write failed at 0",
+        b"",
+    ),
+    (
+        "a failed write is told in place of another fault",
+        &SHORT,
+        STEADY,
+        (19, 1, true),
+        "write failed at 19",
+        b"\x14\0\0\0\x03\0\x02\0\x01\0\0\0\0\0\0\0\0\0\0",
+    ),
+    (
+        "texts before a fault are written",
+        &SHORT,
+        STEADY,
+        STEADY,
+        "length under 16 at 16",
+        &SHORT_TEXT,
+    ),
+    (
+        "a read that fails inside the first message leaves nothing written",
+        &TEXT,
+        (30, 1, true),
+        STEADY,
+        "read failed at 30",
+        b"",
+    ),
+    (
+        "texts before a failed read are written",
+        &BEGUN,
+        (58, 1, true),
+        STEADY,
+        "read failed at 58",
+        b"\x30\0\0\0\x12\0\x01\x03\x34\x0e\xf9\x5a\0\0\0\0\0\0\0\0\0\0\0\0\0\0\0\0\0\0\0\0\
             \x08\0\x1d\0\x09\0\0\0\x07\0\x03\0lo\0\0",
-    },
-    Case {
-        name: "a failed write comes before the next read",
-        capture: &BEGUN,
-        reads: Plan {
-            size: 58,
-            calls: 1,
-            fails: true,
-        },
-        writes: Plan {
-            size: 3,
-            calls: 2,
-            fails: true,
-        },
-        expected_text: "write failed at 6",
-        written: b"\x30\0\0\0\x12\0",
-    },
+    ),
+    (
+        "a failed write comes before the next read",
+        &BEGUN,
+        (58, 1, true),
+        (3, 2, true),
+        "write failed at 6",
+        b"\x30\0\0\0\x12\0",
+    ),
 ];
 
 #[test]
 fn devices_make_the_result(rt: HostRuntime) -> Result<(), Fail> {
-    for case in &CASES {
-        let run = norm_between(rt.alloc(), case.capture, case.reads, case.writes);
-        let expected_text = shown(rt.alloc(), &run.outcome)?;
+    for (name, capture, reads, writes, expected_text, written) in &CASES {
+        let run = norm_between(rt.alloc(), capture, plan(*reads), plan(*writes));
+        let text = shown(rt.alloc(), &run.outcome)?;
         assert!(rt;
-            expected_text.as_str() == case.expected_text && run.taken.as_slice() == case.written,
-            "{}",
-            case.name
+            text.as_str() == *expected_text && run.taken.as_slice() == *written,
+            "{name}"
         );
     }
     Ok(())

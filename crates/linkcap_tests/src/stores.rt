@@ -59,7 +59,7 @@ fn captures_that_mean_the_same_share_a_value(rt: HostRuntime) -> Result<(), Fail
 }
 
 #[test]
-fn a_capture_with_a_fault_is_not_stored(rt: HostRuntime) -> Result<(), Fail> {
+fn captures_with_a_fault_are_not_stored(rt: HostRuntime) -> Result<(), Fail> {
     let alloc = rt.alloc();
     let mut store = Store::new(alloc, 1000);
     let refused = NotStored {
@@ -73,12 +73,7 @@ fn a_capture_with_a_fault_is_not_stored(rt: HostRuntime) -> Result<(), Fail> {
         store.get(alloc, &ASKED) == Ok(Some(&1)),
     ];
     assert_eq!(rt; learned, [true; 4]);
-    Ok(())
-}
-
-#[test]
-fn a_small_limit_leaves_the_empty_capture(rt: HostRuntime) -> Result<(), Fail> {
-    let alloc = rt.alloc();
+    // A limit under 16 leaves only the empty capture.
     let mut store = Store::new(alloc, 15);
     let fault = CaptureFault {
         kind: FaultKind::OverLimit,

@@ -1,5 +1,5 @@
 -- Frames: a header of 16 bytes (netlink.h, struct nlmsghdr), a body, and padding up to a multiple of 4.
-use Rattle.std.specs.Prelude.{ℕ, ◌+◌, ◌-◌, ◌≤◌, List, ◌++◌, length, take, drop}
+use Rattle.std.specs.Prelude.{ℕ, ◌+◌, ◌-◌, ◌≤◌, ◌&&◌, nat_le, Bool, List, ◌++◌, length, take, drop}
 use Rattle.netlink_packet_core_grammar.specs.Attributes.{nla_align, zeros}
 use Rattle.netlink_packet_core_grammar.specs.Numbers.{u16_at, u32_at, le4}
 
@@ -20,6 +20,10 @@ pub record IsFrame (c : List ℕ) : Type 0 where
   pub has_header : 16 ≤ length c
   pub covers_header : 16 ≤ frame_length c
   pub within : frame_length c ≤ length c
+
+-- The decision of `IsFrame`.
+abbrev pub is_frame : List ℕ → Bool
+is_frame c = nat_le 16 (length c) && (nat_le 16 (frame_length c) && nat_le (frame_length c) (length c))
 
 -- The bytes after the first frame and its padding.
 abbrev pub after_frame : List ℕ → List ℕ

@@ -2,8 +2,7 @@
 use Rattle.std.proofs.Common.{◌≡◌, ℕ, true, false, List, arith}
 use Rattle.std.proofs.lemmas.Bool.{and_parts, false_from_ne_true, leb-true}
 use Rattle.std.proofs.lemmas.Bool.Decides.{nat_tests}
-use Rattle.netlink_packet_core_grammar.specs.Frames.{IsFrame}
-use Rattle.netlink_packet_core_messages.specs.Messages.{is_frame}
+use Rattle.netlink_packet_core_grammar.specs.Frames.{IsFrame, is_frame}
 
 pub is_frame-true : (c : List ℕ) → IsFrame c → is_frame c ≡ true
 is_frame-true c h = let h1 = h.has_header in let h2 = h.covers_header in let h3 = h.within in grind (arith, nat_tests)

@@ -2,10 +2,10 @@
 use Rattle.std.proofs.Common.{◌≡◌, ℕ, ◌+◌, ◌-◌, ◌<◌, ◌≤◌, false, List, ◌++◌, length, get_or, take, drop, refl, sym, ap, ◌∙◌, arith, length-append, length-drop, Option, None}
 use Rattle.std.proofs.lemmas.List.{get_or-take, get_or_append_left, drop-append-le, drop-take, take_at, length-take-le}
 use Rattle.netlink_packet_core_grammar.specs.Numbers.{u16_at, u32_at}
-use Rattle.netlink_packet_core_grammar.specs.Frames.{IsFrame, frame_length, frame_type, frame_body}
+use Rattle.netlink_packet_core_grammar.specs.Frames.{IsFrame, frame_length, frame_type, frame_body, is_frame}
 use Rattle.netlink_packet_core_grammar.specs.Laws.{NumbersAreIndependent}
 use Rattle.netlink_packet_core_messages.specs.Headers.{header_of}
-use Rattle.netlink_packet_core_messages.specs.Messages.{read_message, is_frame}
+use Rattle.netlink_packet_core_messages.specs.Messages.{read_message}
 use Rattle.netlink_packet_core_messages.proofs.Frames.{is_frame-true, is_frame-false}
 
 -- two byte strings have the same header

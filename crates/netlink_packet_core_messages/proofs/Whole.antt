@@ -2,14 +2,14 @@
 use Rattle.std.proofs.Common.{◌≡◌, ℕ, ◌+◌, ◌-◌, List, ◌++◌, length, refl, ◌∙◌, arith, append_assoc, length-append, Option, Some, true}
 use Rattle.std.proofs.lemmas.List.{take_at, drop_at}
 use Rattle.netlink_packet_core_grammar.specs.Numbers.{u16_at}
-use Rattle.netlink_packet_core_grammar.specs.Frames.{IsFrame, frame_body}
+use Rattle.netlink_packet_core_grammar.specs.Frames.{IsFrame, frame_body, is_frame}
 use Rattle.netlink_packet_core_messages.specs.declared.message.NetlinkMessage.{NetlinkMessage}
 use Rattle.netlink_packet_core_messages.specs.declared.header.NetlinkHeader.{NetlinkHeader}
 use Rattle.netlink_packet_core_messages.specs.Headers.{header_of, header_text}
 use Rattle.netlink_packet_core_messages.specs.TypedBodies.{TypedBody, IsInner}
 use Rattle.netlink_packet_core_messages.specs.Payloads.{payload_entry, payload_value, OfInner, HasCode, read_payload}
 use Rattle.netlink_packet_core_messages.specs.declared.payload.NetlinkPayload.{NetlinkPayload}
-use Rattle.netlink_packet_core_messages.specs.Messages.{read_message, message_text, message_value, IsFinalized, is_frame}
+use Rattle.netlink_packet_core_messages.specs.Messages.{read_message, message_text, message_value, IsFinalized}
 use Rattle.netlink_packet_core_messages.proofs.Frames.{is_frame-true}
 use Rattle.netlink_packet_core_messages.proofs.Headers.{length_at, type_at, header_at, length-header_text}
 use Rattle.netlink_packet_core_messages.proofs.Payloads.{payload_reads}

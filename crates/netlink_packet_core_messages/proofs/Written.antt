@@ -8,7 +8,7 @@ use Rattle.std.proofs.lemmas.Bool.{and_parts, leb-true}
 use Rattle.std.proofs.lemmas.Bool.Decides.{nat_tests}
 use Rattle.std.proofs.lemmas.Int.{of_z-to_z}
 use Rattle.netlink_packet_core_grammar.specs.Numbers.{u32_at, le4}
-use Rattle.netlink_packet_core_grammar.specs.Frames.{frame_length, frame_type, frame_body, frame_text}
+use Rattle.netlink_packet_core_grammar.specs.Frames.{frame_length, frame_type, frame_body, frame_text, is_frame}
 use Rattle.netlink_packet_core_grammar.specs.Attributes.{nla_align, zeros}
 use Rattle.netlink_packet_core_messages.specs.Codes.{code_of, code_text, raw_code, nonzero_code}
 use Rattle.netlink_packet_core_messages.specs.declared.message.NetlinkMessage.{NetlinkMessage}
@@ -21,7 +21,7 @@ use Rattle.netlink_packet_core_messages.specs.ControlMessages.{done_message_text
 use Rattle.netlink_packet_core_messages.specs.Headers.{header_of, header_text}
 use Rattle.netlink_packet_core_messages.specs.TypedBodies.{TypedBody}
 use Rattle.netlink_packet_core_messages.specs.Payloads.{payload_entry, payload_value, read_payload, written_body}
-use Rattle.netlink_packet_core_messages.specs.Messages.{read_message, message_text, message_value, finalized, is_frame, unpadded_text}
+use Rattle.netlink_packet_core_messages.specs.Messages.{read_message, message_text, message_value, finalized, unpadded_text}
 use Rattle.netlink_packet_core_messages.proofs.HeaderBytes.{AllBytes, written_4_at, header_kept}
 use Rattle.netlink_packet_core_messages.proofs.Payloads.{not_control}
 

@@ -1,16 +1,11 @@
 -- Whole messages: a header and a payload.
-use Rattle.std.specs.Prelude.{◌≡◌, ℕ, ◌+◌, List, ◌++◌, length, take, drop, Option, None, option_map, cond, nat_le, ◌&&◌}
-use Rattle.std.specs.Prelude.{Bool}
+use Rattle.std.specs.Prelude.{◌≡◌, ℕ, ◌+◌, List, ◌++◌, length, take, drop, Option, None, option_map, cond}
 use Rattle.netlink_packet_core_grammar.specs.Numbers.{le4}
-use Rattle.netlink_packet_core_grammar.specs.Frames.{frame_length, frame_type, frame_body}
+use Rattle.netlink_packet_core_grammar.specs.Frames.{frame_length, frame_type, frame_body, is_frame}
 use Rattle.netlink_packet_core_messages.specs.declared.message.NetlinkMessage.{NetlinkMessage}
 use Rattle.netlink_packet_core_messages.specs.Headers.{header_of, header_text}
 use Rattle.netlink_packet_core_messages.specs.Payloads.{payload_value, payload_entry, read_payload}
 use Rattle.netlink_packet_core_messages.specs.TypedBodies.{TypedBody}
-
--- The decision of `IsFrame`: the bytes begin with a whole frame.
-abbrev pub is_frame : List ℕ → Bool
-is_frame c = nat_le 16 (length c) && (nat_le 16 (frame_length c) && nat_le (frame_length c) (length c))
 
 -- The message with the value of its inner message in its stead.
 abbrev pub message_value : {A B : Type 0} → (A → B) → NetlinkMessage A → NetlinkMessage B

@@ -1,5 +1,6 @@
 ghost use Rattle.std.specs.Prelude.{◌≡◌, ◌↔◌, ◌-◌, ◌≤◌, length, false, IfOk, IfErr, IsOk};
 ghost use Rattle.std.specs.Borrow.{Lends, Array, sem, u8};
+ghost use denote.Param.{number};
 ghost use Rattle.netlink_packet_core_grammar.specs.Bytes.{put_at};
 ghost use Rattle.netlink_packet_core_grammar.specs.Frames.{IsFrame, frame_length, frame_type, frame_body};
 ghost use Rattle.netlink_packet_core_grammar.specs.Numbers.{u16_at, u32_at, le2, le4};
@@ -14,21 +15,23 @@ use netlink_packet_core_numbers::error::DecodeError;
 /// The size of a frame's header in bytes.
 pub const NETLINK_HEADER_LEN: usize = 16;
 
-/// The bytes of one frame: a header of 16 bytes (netlink.h, `struct nlmsghdr`) and a body.
-/// Its numbers are little-endian.
+/// The bytes of a frame or of a control message's body, in some storage: `HEADER` bytes, and what
+/// follows them. `TYPE` is the type of the control message, 0 for a frame.
 #[derive(Clone, Copy, Debug, Drop)]
-pub struct NetlinkBuffer<T> {
-    buffer: T,
+pub struct MessageBuffer<T, const HEADER: usize, const TYPE: u16> {
+    pub(crate) buffer: T,
 }
 
-impl<T> NetlinkBuffer<T> {
-    ghost use Rattle.netlink_packet_core_messages.specs.contracts.buffer.NetlinkBuffer.{the_row};
+/// The bytes of one frame: a header of 16 bytes (netlink.h, `struct nlmsghdr`) and a body.
+/// Its numbers are little-endian.
+pub type NetlinkBuffer<T> = MessageBuffer<T, NETLINK_HEADER_LEN, 0>;
 
+impl<T, const HEADER: usize, const TYPE: u16> MessageBuffer<T, HEADER, TYPE> {
     /// Returns a view of some storage, without checking it.
     pub fn new(buffer: T) -> Self
         ensures { storage result ≡ buffer }
     {
-        NetlinkBuffer { buffer }
+        MessageBuffer { buffer }
     }
 
     /// Returns the storage.
@@ -38,9 +41,12 @@ impl<T> NetlinkBuffer<T> {
         self.buffer
     }
 
+    ghost use Rattle.netlink_packet_core_messages.specs.contracts.buffer.MessageBuffer.{the_row};
+
     /// Borrows the storage, for writing.
     pub fn inner_mut(&mut self) -> &mut T
-        ensures* writes_back { sem 𝓛 (Lends (the_row T.row) T.row self.entry result view_of) }
+        ensures* writes_back { sem 𝓛
+            (Lends (the_row T.row HEADER.row TYPE.row) T.row self.entry result view_of) }
         ensures value { result.now ≡ storage self.old }
     {
         &mut self.buffer
@@ -70,7 +76,7 @@ impl<T: ByteView> NetlinkBuffer<T> {
         if length < NETLINK_HEADER_LEN || length > size {
             return Err(DecodeError::invalid_buffer("NetlinkBuffer", size, length));
         }
-        Ok(NetlinkBuffer { buffer })
+        Ok(MessageBuffer { buffer })
     }
 
     /// Returns the length of the frame in bytes, which counts the header (`nlmsg_len`).
@@ -207,13 +213,13 @@ impl<T: ByteViewMut> NetlinkBuffer<T> {
 }
 
 impl<T: ByteLend> NetlinkBuffer<T> {
-    ghost use Rattle.netlink_packet_core_messages.specs.contracts.buffer.NetlinkBuffer.{the_row};
+    ghost use Rattle.netlink_packet_core_messages.specs.contracts.buffer.MessageBuffer.{the_row};
 
     /// Borrows the body, for writing. For a `&mut [u8]` write through `inner_mut` instead.
     pub fn payload_mut(&mut self) -> &mut [u8]
         requires { IsFrame (T.ByteView.bytes (storage self.old)) }
-        ensures* writes_back { sem 𝓛 (Lends (the_row T.row) (Array u8 0) self.entry result
-            (λ w. view_of (T.with_part (storage self.old) 16 w))) }
+        ensures* writes_back { sem 𝓛 (Lends (the_row T.row (number 16) (number 0)) (Array u8 0)
+            self.entry result (λ w. view_of (T.with_part (storage self.old) 16 w))) }
         ensures value { result.now ≡ frame_body (T.ByteView.bytes (storage self.old)) }
     {
         let end = self.length() as usize;

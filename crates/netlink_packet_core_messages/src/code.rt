@@ -1,9 +1,53 @@
-ghost use Rattle.std.specs.Prelude.{◌≡◌, ◌≤◌, length, ◌+◌, ◌++◌, drop};
+ghost use Rattle.std.specs.Prelude.{◌≡◌, ◌↔◌, ◌≤◌, length, ◌+◌, ◌++◌, drop, false, IfOk, IfErr, IsOk};
 ghost use Rattle.netlink_packet_core_messages.specs.Codes.{code_of, code_text};
+ghost use Rattle.netlink_packet_core_messages.specs.NetlinkBuffers.{storage};
 ghost use Rattle.netlink_packet_core_grammar.specs.Bytes.{put_at};
+ghost use Rattle.netlink_packet_core_numbers.specs.Errors.{is_memory};
 
-use netlink_packet_core_attributes::view::{ByteViewMut, write_u32};
+use super::buffer::MessageBuffer;
+use super::payload::NLMSG_DONE;
+use netlink_packet_core_attributes::view::{ByteView, ByteViewMut, write_u32};
+use netlink_packet_core_numbers::error::DecodeError;
 use netlink_packet_core_numbers::payloads::fill_u32;
+
+// What bodies that begin with a code share.
+impl<T: ByteView, const TYPE: u16> MessageBuffer<T, 4, TYPE> {
+    /// Returns a view of bytes that hold a code.
+    ///
+    /// # Errors
+    ///
+    /// [`DecodeError::invalid_buffer`] if there are fewer than 4 bytes. Allocates nothing.
+    pub fn new_checked(buffer: T) -> Result<Self, DecodeError>
+    where
+        T: Drop,
+        ensures whole { IsOk result ↔ (4 ≤ length (T.bytes buffer)) }
+        ensures ok { IfOk result (λ view. storage view ≡ buffer) }
+        ensures err { IfErr result (λ e. is_memory e ≡ false) }
+    {
+        let size = buffer.as_bytes().len();
+        if size < 4 {
+            let name = if TYPE == NLMSG_DONE {
+                "DoneBuffer"
+            } else {
+                "ErrorBuffer"
+            };
+            return Err(DecodeError::invalid_buffer(name, size, 4));
+        }
+        Ok(MessageBuffer { buffer })
+    }
+}
+
+impl<T: ByteViewMut, const TYPE: u16> MessageBuffer<T, 4, TYPE> {
+    /// Sets the code.
+    pub fn set_code(&mut self, value: i32)
+        requires { 4 ≤ length (T.ByteView.bytes (storage self.old)) }
+        ensures bytes { T.ByteView.bytes (storage self.new)
+            ≡ put_at 0 (code_text value) (T.ByteView.bytes (storage self.old)) }
+        ensures same { T.same_storage (storage self.old) (storage self.new) }
+    {
+        write_u32(&mut self.buffer, 0, value.cast_unsigned());
+    }
+}
 
 /// Returns the code at the start of the bytes.
 #[tactic(auto, unfolding(netlink_packet_core_grammar::specs::Numbers::u32_at))]
@@ -12,15 +56,6 @@ pub(crate) fn read_code(bytes: &[u8]) -> i32
     ensures { result ≡ code_of bytes.now }
 {
     i32::from_le_bytes([bytes[0], bytes[1], bytes[2], bytes[3]])
-}
-
-/// Writes a code over the first 4 bytes.
-pub(crate) fn write_code<T: ByteViewMut>(buffer: &mut T, code: i32)
-    requires { 4 ≤ length (T.bytes buffer.old) }
-    ensures bytes { T.bytes buffer.new ≡ put_at 0 (code_text code) (T.bytes buffer.old) }
-    ensures same { T.same_storage buffer.old buffer.new }
-{
-    write_u32(buffer, 0, code.cast_unsigned());
 }
 
 /// Writes a code, followed by `rest`, at the start of a buffer.

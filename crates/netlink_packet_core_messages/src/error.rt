@@ -1,18 +1,20 @@
-ghost use Rattle.std.specs.Prelude.{◌≡◌, ◌↔◌, ◌≤◌, length, drop, false, IfOk, IfErr, IsOk, ◌≢◌};
-ghost use Rattle.std.specs.Prelude.{pos, ◌<◌, ◌++◌, nat_lt, true, ⊤, Some, is_some, nat_abs};
+ghost use Rattle.std.specs.Prelude.{◌≡◌, ◌≤◌, length, drop, IfOk, IfErr, ◌≢◌};
+ghost use Rattle.std.specs.Prelude.{pos, ◌<◌, nat_lt, true, ⊤, Some, is_some, nat_abs};
 ghost use Rattle.std.specs.Borrow.{Lends, Array, sem, u8};
-ghost use Rattle.netlink_packet_core_grammar.specs.Bytes.{put_at};
+ghost use denote.Param.{number};
 ghost use Rattle.netlink_packet_core_numbers.specs.Errors.{is_memory};
-ghost use Rattle.netlink_packet_core_messages.specs.ErrorBuffers.{storage, view_of};
-ghost use Rattle.netlink_packet_core_messages.specs.Codes.{code_of, code_text, nonzero_code, raw_code, IsCode};
+ghost use Rattle.netlink_packet_core_messages.specs.NetlinkBuffers.{storage, view_of};
+ghost use Rattle.netlink_packet_core_messages.specs.Codes.{code_of, nonzero_code, raw_code, IsCode};
 ghost use Rattle.std.specs.Int.{w32};
 ghost use Rattle.std.specs.Int.RustNames.{FitsSigned};
 ghost use Rattle.netlink_packet_core_messages.specs.ControlMessages.{error_message_text, error_of, read_error};
 
+use super::buffer::MessageBuffer;
 use super::byte_vec::ByteVec;
-use super::code::{emit_code, read_code, write_code};
+use super::code::{emit_code, read_code};
+use super::payload::NLMSG_ERROR;
 use netlink_packet_core_attributes::traits::{Emitable, Parseable};
-use netlink_packet_core_attributes::view::{ByteLend, ByteView, ByteViewMut};
+use netlink_packet_core_attributes::view::{ByteLend, ByteView};
 use netlink_packet_core_numbers::error::DecodeError;
 use std::alloc::Global;
 use std::marker::Model;
@@ -59,57 +61,9 @@ impl ErrorCode {
 
 /// The body of an ERROR message (netlink.h, `struct nlmsgerr`): a code of 4 bytes, little-endian,
 /// and the header of the request, with the bytes that the kernel adds.
-#[derive(Clone, Copy, Debug, Drop)]
-pub struct ErrorBuffer<T> {
-    buffer: T,
-}
-
-impl<T> ErrorBuffer<T> {
-    ghost use Rattle.netlink_packet_core_messages.specs.contracts.error.ErrorBuffer.{the_row};
-
-    /// Returns a view of some storage, without checking it.
-    pub fn new(buffer: T) -> Self
-        ensures { storage result ≡ buffer }
-    {
-        ErrorBuffer { buffer }
-    }
-
-    /// Returns the storage.
-    pub fn into_inner(self) -> T
-        ensures { result ≡ storage self }
-    {
-        self.buffer
-    }
-
-    /// Borrows the storage, for writing.
-    pub fn inner_mut(&mut self) -> &mut T
-        ensures* writes_back { sem 𝓛 (Lends (the_row T.row) T.row self.entry result view_of) }
-        ensures value { result.now ≡ storage self.old }
-    {
-        &mut self.buffer
-    }
-}
+pub type ErrorBuffer<T> = MessageBuffer<T, 4, NLMSG_ERROR>;
 
 impl<T: ByteView> ErrorBuffer<T> {
-    /// Returns a view of bytes that hold a code.
-    ///
-    /// # Errors
-    ///
-    /// [`DecodeError::invalid_buffer`] if there are fewer than 4 bytes. Allocates nothing.
-    pub fn new_checked(buffer: T) -> Result<Self, DecodeError>
-    where
-        T: Drop,
-        ensures whole { IsOk result ↔ (4 ≤ length (T.bytes buffer)) }
-        ensures ok { IfOk result (λ view. storage view ≡ buffer) }
-        ensures err { IfErr result (λ e. is_memory e ≡ false) }
-    {
-        let size = buffer.as_bytes().len();
-        if size < 4 {
-            return Err(DecodeError::invalid_buffer("ErrorBuffer", size, 4));
-        }
-        Ok(ErrorBuffer { buffer })
-    }
-
     /// Returns the code, if it isn't 0: an ERROR message with the code 0 is an acknowledgement.
     pub fn code(&self) -> Option<ErrorCode>
         requires { 4 ≤ length (T.bytes (storage self.now)) }
@@ -151,27 +105,15 @@ impl ErrorBuffer<Vec<u8>> {
     }
 }
 
-impl<T: ByteViewMut> ErrorBuffer<T> {
-    /// Sets the code.
-    pub fn set_code(&mut self, value: i32)
-        requires { 4 ≤ length (T.ByteView.bytes (storage self.old)) }
-        ensures bytes { T.ByteView.bytes (storage self.new)
-            ≡ put_at 0 (code_text value) (T.ByteView.bytes (storage self.old)) }
-        ensures same { T.same_storage (storage self.old) (storage self.new) }
-    {
-        write_code(&mut self.buffer, value);
-    }
-}
-
 impl<T: ByteLend> ErrorBuffer<T> {
-    ghost use Rattle.netlink_packet_core_messages.specs.contracts.error.ErrorBuffer.{the_row};
+    ghost use Rattle.netlink_packet_core_messages.specs.contracts.buffer.MessageBuffer.{the_row};
 
     /// Borrows the bytes after the code, for writing. For a `&mut [u8]` write through `inner_mut`
     /// instead.
     pub fn payload_mut(&mut self) -> &mut [u8]
         requires { 4 ≤ length (T.ByteView.bytes (storage self.old)) }
-        ensures* writes_back { sem 𝓛 (Lends (the_row T.row) (Array u8 0) self.entry result
-            (λ w. view_of (T.with_part (storage self.old) 4 w))) }
+        ensures* writes_back { sem 𝓛 (Lends (the_row T.row (number 4) (number 2)) (Array u8 0)
+            self.entry result (λ w. view_of (T.with_part (storage self.old) 4 w))) }
         ensures value { result.now ≡ drop 4 (T.ByteView.bytes (storage self.old)) }
     {
         let end = self.buffer.as_bytes().len();

@@ -43,9 +43,6 @@ fn set_first_of_body(bytes: &mut [u8])
     body[0] = 7;
 }
 
-/// The body of an ERROR message: a code of -2, and three bytes.
-const ERROR: [u8; 7] = [0xfe, 0xff, 0xff, 0xff, 1, 2, 3];
-
 /// Returns a frame of 18 bytes, in a buffer of 20.
 #[tactic(auto, unfolding(netlink_packet_core_grammar::specs::Numbers::u32_at))]
 fn frame() -> [u8; 20]
@@ -76,7 +73,7 @@ fn headers_are_read_at_each_storage(rt: HostRuntime) -> Result<(), Fail> {
 }
 
 #[test]
-fn headers_are_written(rt: HostRuntime) -> Result<(), Fail> {
+fn headers_are_written(rt: HostRuntime) {
     let mut bytes = [9u8; 17];
     let mut view = NetlinkBuffer::new(bytes.as_mut_slice());
     view.set_length(40);
@@ -88,7 +85,6 @@ fn headers_are_written(rt: HostRuntime) -> Result<(), Fail> {
         0x28u8, 0, 0, 0, 0x12, 0, 1, 3, 0x34, 0x0e, 0xf9, 0x5a, 0, 0, 0, 0, 9,
     ];
     assert!(rt; bytes.as_slice() == expected.as_slice());
-    Ok(())
 }
 
 #[test]
@@ -106,29 +102,19 @@ fn bodies_are_written(rt: HostRuntime) -> Result<(), Fail> {
 }
 
 #[test]
-fn done_bodies_are_read_and_written(rt: HostRuntime) -> Result<(), Fail> {
-    let mut view = DoneBuffer::new([5u8, 0, 0, 0, 1, 2, 3].to_vec(rt.alloc())?);
-    assert!(rt; view.code() == 5);
-    view.set_code(-2);
-    view.extended_ack_mut().fill(4);
+fn done_and_error_bodies_are_read_and_written(rt: HostRuntime) -> Result<(), Fail> {
+    let mut done = DoneBuffer::new([5u8, 0, 0, 0, 1, 2, 3].to_vec(rt.alloc())?);
+    assert!(rt; done.code() == 5);
+    done.set_code(-2);
+    done.extended_ack_mut().fill(4);
     let expected = [0xfeu8, 0xff, 0xff, 0xff, 4, 4, 4];
-    assert!(rt; view.into_inner().as_slice() == expected.as_slice());
-    Ok(())
-}
-
-#[test]
-fn error_bodies_are_read(rt: HostRuntime) -> Result<(), Fail> {
-    let view = ErrorBuffer::new(ERROR.to_vec(rt.alloc())?);
-    assert!(rt; view.code() == ErrorCode::new(-2));
-    Ok(())
-}
-
-#[test]
-fn error_bodies_are_written(rt: HostRuntime) -> Result<(), Fail> {
-    let mut view = ErrorBuffer::new(ERROR.to_vec(rt.alloc())?);
-    view.set_code(0);
-    assert!(rt; view.code().is_none());
-    view.payload_mut().fill(4);
-    assert!(rt; view.into_inner().as_slice() == [0u8, 0, 0, 0, 4, 4, 4].as_slice());
+    assert!(rt; done.into_inner().as_slice() == expected.as_slice());
+    // A code of -2, and three bytes.
+    let mut error = ErrorBuffer::new([0xfeu8, 0xff, 0xff, 0xff, 1, 2, 3].to_vec(rt.alloc())?);
+    assert!(rt; error.code() == ErrorCode::new(-2));
+    error.set_code(0);
+    assert!(rt; error.code().is_none());
+    error.payload_mut().fill(4);
+    assert!(rt; error.into_inner().as_slice() == [0u8, 0, 0, 0, 4, 4, 4].as_slice());
     Ok(())
 }

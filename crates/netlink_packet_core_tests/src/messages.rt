@@ -11,7 +11,7 @@ use netlink_packet_core::{
     NLM_F_MULTIPART, NLM_F_NONREC, NLM_F_REPLACE, NLM_F_REQUEST, NLM_F_ROOT, NLMSG_ALIGNTO,
     NLMSG_DONE, NLMSG_ERROR, NLMSG_NOOP, NLMSG_OVERRUN, NetlinkBuffer, NetlinkDeserializable,
     NetlinkHeader, NetlinkMessage, NetlinkPayload, NetlinkProtocol, NetlinkSerializable, Parseable,
-    laws,
+    first_frame_len, laws,
 };
 use std::alloc::{AllocError, Global};
 use std::test::Fail;
@@ -139,16 +139,7 @@ fn headers_are_written_and_read(rt: HostRuntime) {
 }
 
 #[test]
-fn kept_bytes_are_the_same(rt: HostRuntime) -> Result<(), Fail> {
-    let some = ByteVec::from_slice(rt.alloc(), &[1, 2, 3])?;
-    let other = ByteVec::from([1u8, 2, 3].to_vec(rt.alloc())?);
-    assert!(rt; some == other);
-    assert!(rt; other.into_vec().as_slice() == [1u8, 2, 3].as_slice());
-    Ok(())
-}
-
-#[test]
-fn done_messages_are_written_and_read(rt: HostRuntime) -> Result<(), Fail> {
+fn bodies_are_written_and_read(rt: HostRuntime) -> Result<(), Fail> {
     let done = DoneMessage {
         code: 5,
         extended_ack: ByteVec::from_slice(rt.alloc(), &[1, 2, 3])?,
@@ -159,11 +150,6 @@ fn done_messages_are_written_and_read(rt: HostRuntime) -> Result<(), Fail> {
     assert!(rt; DoneMessage::parse(rt.alloc(), &DoneBuffer::new(bytes.as_slice())) == Ok(done));
     let empty = DoneMessage::parse_body(rt.alloc(), &[]);
     assert!(rt; matches!(empty, Ok(DoneMessage { code: 0, .. })));
-    Ok(())
-}
-
-#[test]
-fn error_messages_are_written_and_read(rt: HostRuntime) -> Result<(), Fail> {
     let error = ErrorMessage {
         code: ErrorCode::new(-2),
         header: ByteVec::from_slice(rt.alloc(), &[7])?,
@@ -174,6 +160,11 @@ fn error_messages_are_written_and_read(rt: HostRuntime) -> Result<(), Fail> {
     assert!(rt; ErrorMessage::parse(rt.alloc(), &ErrorBuffer::new(bytes.as_slice())) == Ok(error));
     let acknowledgement = ErrorMessage::parse_body(rt.alloc(), &[0, 0, 0, 0, 7]);
     assert!(rt; matches!(&acknowledgement, Ok(message) if message.errno() == 0));
+    // Kept bytes are the same, by whichever call they are kept.
+    let some = ByteVec::from_slice(rt.alloc(), &[1, 2, 3])?;
+    let other = ByteVec::from([1u8, 2, 3].to_vec(rt.alloc())?);
+    assert!(rt; some == other);
+    assert!(rt; other.into_vec().as_slice() == [1u8, 2, 3].as_slice());
     Ok(())
 }
 
@@ -241,29 +232,29 @@ fn frames_are_written_canonically(rt: HostRuntime) {
         (overrun, overrun),
     ] {
         let written = canonical_frame(rt.alloc(), frame);
-        assert!(rt; matches!(&written, Ok(written) if written.as_slice() == text));
+        assert!(rt;
+            matches!(&written, Ok(written) if written.as_slice() == text),
+            "{frame:?}"
+        );
     }
 }
 
+/// Frames that are refused: a cut header, a short length, a cut body, bodies of DONE and of ERROR
+/// that are too short, no length, and the longest.
+const REFUSED: [&[u8]; 7] = [
+    &[0x28, 0, 0, 0],
+    &[15, 0, 0, 0, 20, 0, 0, 0, 0, 0, 0, 0, 0, 0, 0, 0],
+    &[17, 0, 0, 0, 20, 0, 0, 0, 0, 0, 0, 0, 0, 0, 0, 0],
+    &[18, 0, 0, 0, 3, 0, 0, 0, 0, 0, 0, 0, 0, 0, 0, 0, 0, 0],
+    &[19, 0, 0, 0, 2, 0, 0, 0, 0, 0, 0, 0, 0, 0, 0, 0, 0, 0, 0],
+    &[0, 0, 0, 0, 20, 0, 0, 0, 0, 0, 0, 0, 0, 0, 0, 0],
+    &[255, 255, 255, 255, 20, 0, 0, 0, 0, 0, 0, 0, 0, 0, 0, 0],
+];
+
 #[test]
 fn frames_are_refused(rt: HostRuntime) {
-    let cut_header: &[u8] = &[0x28, 0, 0, 0];
-    let short_length: &[u8] = &[15, 0, 0, 0, 20, 0, 0, 0, 0, 0, 0, 0, 0, 0, 0, 0];
-    let cut_body: &[u8] = &[17, 0, 0, 0, 20, 0, 0, 0, 0, 0, 0, 0, 0, 0, 0, 0];
-    let short_done: &[u8] = &[18, 0, 0, 0, 3, 0, 0, 0, 0, 0, 0, 0, 0, 0, 0, 0, 0, 0];
-    let short_error: &[u8] = &[19, 0, 0, 0, 2, 0, 0, 0, 0, 0, 0, 0, 0, 0, 0, 0, 0, 0, 0];
-    let no_length: &[u8] = &[0, 0, 0, 0, 20, 0, 0, 0, 0, 0, 0, 0, 0, 0, 0, 0];
-    let longest: &[u8] = &[255, 255, 255, 255, 20, 0, 0, 0, 0, 0, 0, 0, 0, 0, 0, 0];
-    for bytes in [
-        cut_header,
-        short_length,
-        cut_body,
-        short_done,
-        short_error,
-        no_length,
-        longest,
-    ] {
-        assert!(rt; is_refused(rt.alloc(), bytes));
+    for bytes in REFUSED {
+        assert!(rt; is_refused(rt.alloc(), bytes), "{bytes:?}");
     }
 }
 
@@ -279,6 +270,15 @@ fn laws_hold_for_a_frame(rt: HostRuntime) {
     laws::bytes_past_a_frame_change_nothing::<KeptMessage>(bytes, &[]);
     laws::cut_frames_are_refused::<KeptMessage>(bytes, 0);
     laws::bodies_end_with_their_frame(bytes, &[]);
+}
+
+#[test]
+fn a_whole_first_frame_has_a_length(rt: HostRuntime) {
+    assert!(rt; first_frame_len(&FRAME) == Some(17));
+    assert!(rt; first_frame_len(&FRAME[..17]) == Some(17));
+    // cut in its body, and in its header
+    assert!(rt; first_frame_len(&FRAME[..16]).is_none());
+    assert!(rt; first_frame_len(&FRAME[..15]).is_none());
 }
 
 #[test]

@@ -2,7 +2,6 @@ use netlink_packet_core::{
     DefaultNla, Nla, NlaBuffer, NlasIterator, Parseable, emit_all, fits_all, len_all, nla_align,
     skip_first,
 };
-use std::alloc::Global;
 use std::test::Fail;
 
 /// Returns the payload of the first attribute of a kind.
@@ -41,24 +40,14 @@ fn with_nested_flag(bytes: &mut [u8; 4]) -> (u16, u16, bool, bool) {
     read
 }
 
-/// Returns an attribute in a vector, of which only the second flag is set.
-fn with_order_flag(alloc: Global) -> Result<Vec<u8>, Fail> {
-    let mut view = NlaBuffer::new([4u8, 0, 0x46, 0xc0].to_vec(alloc)?);
-    view.set_network_byte_order_flag();
-    Ok(view.into_inner())
-}
-
 #[test]
-fn flags_are_read_and_written(rt: HostRuntime) -> Result<(), Fail> {
+fn flags_and_payloads_are_read_and_written(rt: HostRuntime) -> Result<(), Fail> {
     let mut bytes = [4u8, 0, 0x46, 0xc0];
     assert!(rt; with_nested_flag(&mut bytes) == (0xc046, 70, true, true));
     assert!(rt; bytes == [4, 0, 0x46, 0x80]);
-    assert!(rt; with_order_flag(rt.alloc())?.as_slice() == [4u8, 0, 0x46, 0x40].as_slice());
-    Ok(())
-}
-
-#[test]
-fn payloads_are_written_in_place(rt: HostRuntime) -> Result<(), Fail> {
+    let mut view = NlaBuffer::new([4u8, 0, 0x46, 0xc0].to_vec(rt.alloc())?);
+    view.set_network_byte_order_flag();
+    assert!(rt; view.into_inner().as_slice() == [4u8, 0, 0x46, 0x40].as_slice());
     let mut bytes = [5u8, 0, 2, 0, 1].to_vec(rt.alloc())?;
     let mut view = NlaBuffer::new(&mut bytes);
     assert!(rt; view.check_buffer_length().is_ok());

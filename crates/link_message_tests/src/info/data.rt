@@ -77,21 +77,16 @@ fn data_are_read_by_their_kind(rt: HostRuntime) -> Result<(), Fail> {
     assert!(rt; data_of(rt.alloc(), &InfoKind::Dummy, &NUMBER) == Some((true, true)));
     for (name, bytes) in &DATA {
         let kind = InfoKind::from_name(rt.alloc(), name)?;
-        assert_eq!(rt;
-            (name, data_of(rt.alloc(), &kind, bytes)),
-            (name, Some((true, false)))
+        assert!(rt;
+            data_of(rt.alloc(), &kind, bytes) == Some((true, false)),
+            "{name:?}"
         );
     }
-    Ok(())
-}
-
-#[test]
-fn port_data_are_read_by_their_kind(rt: HostRuntime) -> Result<(), Fail> {
     for (name, bytes) in &PORT_DATA {
         let kind = InfoPortKind::from_name(rt.alloc(), name)?;
-        assert_eq!(rt;
-            (name, port_data_of(rt.alloc(), &kind, bytes)),
-            (name, Some((true, false)))
+        assert!(rt;
+            port_data_of(rt.alloc(), &kind, bytes) == Some((true, false)),
+            "{name:?}"
         );
     }
     Ok(())

@@ -5,10 +5,9 @@ use link_info::{
     MacVtapMacAddressMode, MacVtapMode, NetkitMode, NetkitPolicy, NetkitScrub, RmNetFlags,
 };
 use std::str::FromStr;
-use std::test::Fail;
 
 #[test]
-fn numbers_name_values(rt: HostRuntime) {
+fn numbers_and_texts_name_values(rt: HostRuntime) {
     let named = [
         is_numbered(1u16, IpoibMode::Connected),
         is_numbered(2u16, IpVlanMode::L3S),
@@ -23,26 +22,21 @@ fn numbers_name_values(rt: HostRuntime) {
         NetkitScrub::from(2) == NetkitScrub::Default,
     ];
     assert_eq!(rt; named, [true; 11]);
-}
-
-#[test]
-fn texts_name_values(rt: HostRuntime) -> Result<(), Fail> {
     let named = [
-        is_named(rt.alloc(), IpVlanMode::L3S, "l3s")?,
-        is_named(rt.alloc(), MacVlanMode::Passthrough, "passthru")?,
-        is_named(rt.alloc(), NetkitMode::L2, "l2")?,
-        is_named(rt.alloc(), NetkitPolicy::Forward, "forward")?,
-        is_named(rt.alloc(), NetkitScrub::None, "none")?,
-        is_displayed(rt.alloc(), MacVlanMode::Other(3), "3")?,
+        is_named(rt.alloc(), IpVlanMode::L3S, "l3s"),
+        is_named(rt.alloc(), MacVlanMode::Passthrough, "passthru"),
+        is_named(rt.alloc(), NetkitMode::L2, "l2"),
+        is_named(rt.alloc(), NetkitPolicy::Forward, "forward"),
+        is_named(rt.alloc(), NetkitScrub::None, "none"),
+        is_displayed(rt.alloc(), MacVlanMode::Other(3), "3"),
         MacVlanMode::from_str("passthrough").is_err(),
         IpVlanMode::from_str("L3S").is_err(),
     ];
     assert_eq!(rt; named, [true; 8]);
-    Ok(())
 }
 
 #[test]
-fn flags_have_their_bits(rt: HostRuntime) {
+fn flags_have_their_bits_and_taps_the_types_of_vlans(rt: HostRuntime) {
     let held = [
         are_flags(IpVlanFlags::Vepa, 0x2u16, IpVlanFlags::Private),
         are_flags(MacVlanFlags::NoDst, 0x2u16, MacVlanFlags::NoPromisc),
@@ -55,10 +49,6 @@ fn flags_have_their_bits(rt: HostRuntime) {
         IpVlanFlags::default() == IpVlanFlags::empty(),
     ];
     assert_eq!(rt; held, [true; 5]);
-}
-
-#[test]
-fn taps_have_the_types_of_vlans(rt: HostRuntime) {
     let alike = [
         IpVtapMode::L2 == IpVlanMode::L2,
         IpVtapFlags::Vepa == IpVlanFlags::Vepa,

@@ -6,77 +6,47 @@ use link_info::{
 use std::test::Fail;
 
 #[test]
-fn batadv(rt: HostRuntime) -> Result<(), Fail> {
+fn batadv_ipoib_and_ipvlan(rt: HostRuntime) -> Result<(), Fail> {
     let name = String::from_str(rt.alloc(), "BATMAN_V")?;
-    let cases: &[(&[u8], InfoBatAdv)] = &[(
-        b"\x0d\0\x01\0BATMAN_V\0\0\0\0",
+    let batadv = &[(
+        "0d0001004241544d414e5f5600000000",
         InfoBatAdv::AlgoName(name),
     )];
-    assert_eq!(rt; first_wrong(rt.alloc(), cases), None);
-    Ok(())
-}
-
-#[test]
-fn ipoib(rt: HostRuntime) {
-    let cases: &[(&[u8], InfoIpoib)] = &[
-        (&[6, 0, 1, 0, 0xff, 0x7f, 0, 0], InfoIpoib::Pkey(0x7fff)),
+    assert_eq!(rt; first_wrong(rt.alloc(), batadv), None);
+    let ipoib = &[
+        ("06000100ff7f0000", InfoIpoib::Pkey(0x7fff)),
+        ("0600020001000000", InfoIpoib::Mode(IpoibMode::Connected)),
         (
-            &[6, 0, 2, 0, 1, 0, 0, 0],
-            InfoIpoib::Mode(IpoibMode::Connected),
-        ),
-        (
-            &[6, 0, 2, 0, 2, 1, 0, 0],
+            "0600020002010000",
             InfoIpoib::Mode(IpoibMode::Other(0x0102)),
         ),
     ];
-    assert_eq!(rt; first_wrong(rt.alloc(), cases), None);
-}
-
-#[test]
-fn ipvlan(rt: HostRuntime) {
-    let cases: &[(&[u8], InfoIpVlan)] = &[
-        (&[6, 0, 1, 0, 2, 0, 0, 0], InfoIpVlan::Mode(IpVlanMode::L3S)),
-        (
-            &[6, 0, 2, 0, 1, 0x80, 0, 0],
-            InfoIpVlan::Flags(IpVlanFlags::from_bits_retain(0x8001)),
-        ),
+    assert_eq!(rt; first_wrong(rt.alloc(), ipoib), None);
+    let flags = IpVlanFlags::from_bits_retain(0x8001);
+    let ipvlan = &[
+        ("0600010002000000", InfoIpVlan::Mode(IpVlanMode::L3S)),
+        ("0600020001800000", InfoIpVlan::Flags(flags)),
     ];
-    assert_eq!(rt; first_wrong(rt.alloc(), cases), None);
+    assert_eq!(rt; first_wrong(rt.alloc(), ipvlan), None);
+    Ok(())
 }
 
+/// All families without a table share their code, as that of `vlan`.
 #[test]
-fn rmnet(rt: HostRuntime) {
+fn rmnet_vrf_wwan_and_raw_attributes(rt: HostRuntime) {
     let nine_bytes: &[u8] = &[13, 0, 2, 0, 1, 0, 0, 0, 0x3f, 0, 0, 0, 0];
     assert!(rt; is_refused::<InfoRmNet>(rt.alloc(), nine_bytes));
-    let flags = InfoRmNetFlags::new(
-        RmNetFlags::IngressDeaggregation,
-        RmNetFlags::from_bits_retain(0x3f),
-    );
-    let cases: &[(&[u8], InfoRmNet)] = &[
-        (&[6, 0, 1, 0, 5, 0, 0, 0], InfoRmNet::MuxId(5)),
-        (
-            &[12, 0, 2, 0, 1, 0, 0, 0, 0x3f, 0, 0, 0],
-            InfoRmNet::Flags(flags),
-        ),
+    let mask = RmNetFlags::from_bits_retain(0x3f);
+    let flags = InfoRmNetFlags::new(RmNetFlags::IngressDeaggregation, mask);
+    let rmnet = &[
+        ("0600010005000000", InfoRmNet::MuxId(5)),
+        ("0c000200010000003f000000", InfoRmNet::Flags(flags)),
     ];
-    assert_eq!(rt; first_wrong(rt.alloc(), cases), None);
-}
-
-#[test]
-fn vrf(rt: HostRuntime) {
-    let cases: &[(&[u8], InfoVrf)] = &[(&[8, 0, 1, 0, 10, 0, 0, 0], InfoVrf::TableId(10))];
-    assert_eq!(rt; first_wrong(rt.alloc(), cases), None);
-}
-
-#[test]
-fn wwan(rt: HostRuntime) {
-    let cases: &[(&[u8], InfoWwan)] = &[(&[8, 0, 1, 0, 7, 0, 0, 0], InfoWwan::LinkId(7))];
-    assert_eq!(rt; first_wrong(rt.alloc(), cases), None);
-}
-
-/// All families without a table share their code.
-#[test]
-fn raw_attributes(rt: HostRuntime) {
-    let cases: &[(&[u8], InfoVlan)] = &[];
-    assert_eq!(rt; first_wrong(rt.alloc(), cases), None);
+    assert_eq!(rt; first_wrong(rt.alloc(), rmnet), None);
+    let vrf = &[("080001000a000000", InfoVrf::TableId(10))];
+    assert_eq!(rt; first_wrong(rt.alloc(), vrf), None);
+    let wwan = &[("0800010007000000", InfoWwan::LinkId(7))];
+    assert_eq!(rt; first_wrong(rt.alloc(), wwan), None);
+    let none: &[(&str, InfoVlan)] = &[];
+    assert_eq!(rt; first_wrong(rt.alloc(), none), None);
 }

@@ -21,11 +21,6 @@ fn kinds_have_names(rt: HostRuntime) -> Result<(), Fail> {
     assert!(rt; is_named(rt.alloc(), "ip6gretap", &InfoKind::GreTap6)?);
     let unlisted = InfoKind::Other("foo".to_string(rt.alloc())?);
     assert!(rt; is_named(rt.alloc(), "foo", &unlisted)?);
-    Ok(())
-}
-
-#[test]
-fn port_kinds_have_names(rt: HostRuntime) -> Result<(), Fail> {
     assert!(rt; is_port_named(rt.alloc(), "vrf", &InfoPortKind::Vrf)?);
     let unlisted = InfoPortKind::Other("foo".to_string(rt.alloc())?);
     assert!(rt; is_port_named(rt.alloc(), "foo", &unlisted)?);
@@ -42,11 +37,6 @@ fn kinds_are_attributes(rt: HostRuntime) -> Result<(), Fail> {
     let kind = InfoKind::Other("vti\0".to_string(rt.alloc())?);
     assert!(rt; is_written_as(&kind, bytes));
     assert!(rt; InfoKind::parse(rt.alloc(), &buf) == Ok(kind));
-    Ok(())
-}
-
-#[test]
-fn port_kinds_are_attributes(rt: HostRuntime) -> Result<(), Fail> {
     let bytes: &[u8] = b"\x06\0\x04\0fo";
     let Ok(buf) = NlaBuffer::new_checked(bytes) else {
         return Err(Fail::from("cut"));

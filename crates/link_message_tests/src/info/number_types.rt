@@ -5,7 +5,6 @@ use netlink_packet_core::DecodeError;
 use std::alloc::Global;
 use std::fmt::Display;
 use std::str::FromStr;
-use std::test::Fail;
 
 /// Returns whether a number is read as this value, and the value has this number.
 pub fn is_numbered<N, T>(number: N, value: T) -> bool
@@ -16,25 +15,20 @@ where
     T::from(number) == value && N::from(value) == number
 }
 
-/// Returns whether a value is displayed as this text.
-///
-/// # Errors
-///
-/// [`Fail`] if an allocation fails.
-pub fn is_displayed<T: Copy + Display>(alloc: Global, value: T, text: &str) -> Result<bool, Fail> {
-    Ok(format!(in alloc; "{value}")?.as_str() == text)
+/// Returns whether a value is displayed as this text; not if an allocation fails.
+pub fn is_displayed<T: Copy + Display>(alloc: Global, value: T, text: &str) -> bool {
+    match format!(in alloc; "{value}") {
+        Ok(shown) => shown.as_str() == text,
+        Err(_) => false,
+    }
 }
 
 /// Returns whether a value is displayed as this text, and the text names the value.
-///
-/// # Errors
-///
-/// [`Fail`] if an allocation fails.
-pub fn is_named<T>(alloc: Global, value: T, text: &str) -> Result<bool, Fail>
+pub fn is_named<T>(alloc: Global, value: T, text: &str) -> bool
 where
     T: Copy + Display + PartialEq + FromStr<Err = DecodeError>,
 {
-    Ok(T::from_str(text) == Ok(value) && is_displayed(alloc, value, text)?)
+    T::from_str(text) == Ok(value) && is_displayed(alloc, value, text)
 }
 
 /// Returns whether a flag has these bits, another flag has others, and a set keeps the bits of

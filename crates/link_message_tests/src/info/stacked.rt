@@ -11,18 +11,18 @@ const DEPTH: usize = 1000;
 
 #[test]
 fn macsec(rt: HostRuntime) {
-    let cases: &[(&[u8], InfoMacSec)] = &[
+    let cases = &[
         (
-            &[12, 0, 1, 0, 1, 2, 3, 4, 5, 6, 7, 8],
+            "0c0001000102030405060708",
             InfoMacSec::Sci(0x0807060504030201),
         ),
-        (&[6, 0, 2, 0, 0x12, 0x34, 0, 0], InfoMacSec::Port(0x1234)),
+        ("0600020012340000", InfoMacSec::Port(0x1234)),
         (
-            &[12, 0, 4, 0, 4, 0, 0, 1, 0, 0xc2, 0x80, 0],
+            "0c0004000400000100c28000",
             InfoMacSec::CipherSuite(MacSecCipherId::GcmAesXpn256),
         ),
         (
-            &[5, 0, 13, 0, 2, 0, 0, 0],
+            "05000d0002000000",
             InfoMacSec::Validation(MacSecValidate::Strict),
         ),
     ];

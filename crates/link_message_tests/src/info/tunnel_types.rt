@@ -3,10 +3,9 @@ use link_info::{
     AmtMode, ErSpanDir, Flags, GeneveDf, GreEncapFlags, GreEncapType, GreIOFlags, GtpRole,
     Ip6TunnelFlags, IpProtocol, TunnelEncapFlags, TunnelEncapType, VxlanDf,
 };
-use std::test::Fail;
 
 #[test]
-fn numbers_name_values(rt: HostRuntime) {
+fn numbers_and_texts_name_values(rt: HostRuntime) {
     let named = [
         is_numbered(1u32, AmtMode::Relay),
         is_numbered(2u8, GeneveDf::Inherit),
@@ -20,25 +19,20 @@ fn numbers_name_values(rt: HostRuntime) {
         u8::from(&ErSpanDir::Egress) == 1,
     ];
     assert_eq!(rt; named, [true; 10]);
-}
-
-#[test]
-fn values_are_displayed(rt: HostRuntime) -> Result<(), Fail> {
     let displayed = [
-        is_named(rt.alloc(), AmtMode::Gateway, "gateway")?,
-        is_named(rt.alloc(), GeneveDf::Unset, "unset")?,
-        is_displayed(rt.alloc(), VxlanDf::Inherit, "inherit")?,
-        is_displayed(rt.alloc(), GtpRole::Other(2), "unknown(2)")?,
-        is_displayed(rt.alloc(), TunnelEncapType::Other(0xffff), "65535")?,
-        is_displayed(rt.alloc(), GreEncapType::Other(3), "other(3)")?,
-        is_displayed(rt.alloc(), ErSpanDir::Egress, "egress")?,
+        is_named(rt.alloc(), AmtMode::Gateway, "gateway"),
+        is_named(rt.alloc(), GeneveDf::Unset, "unset"),
+        is_displayed(rt.alloc(), VxlanDf::Inherit, "inherit"),
+        is_displayed(rt.alloc(), GtpRole::Other(2), "unknown(2)"),
+        is_displayed(rt.alloc(), TunnelEncapType::Other(0xffff), "65535"),
+        is_displayed(rt.alloc(), GreEncapType::Other(3), "other(3)"),
+        is_displayed(rt.alloc(), ErSpanDir::Egress, "egress"),
     ];
     assert_eq!(rt; displayed, [true; 7]);
-    Ok(())
 }
 
 #[test]
-fn flags_have_their_bits(rt: HostRuntime) {
+fn flags_have_their_bits_and_types_their_defaults(rt: HostRuntime) {
     let held = [
         are_flags(GreIOFlags::Flags, 0x0078u16, GreIOFlags::Version),
         are_flags(
@@ -51,10 +45,6 @@ fn flags_have_their_bits(rt: HostRuntime) {
         Ip6TunnelFlags::from_bits_retain(u32::MAX).bits() == u32::MAX,
     ];
     assert_eq!(rt; held, [true; 5]);
-}
-
-#[test]
-fn defaults_are_returned(rt: HostRuntime) {
     let defaults = [
         GtpRole::default() == GtpRole::Ggsn,
         GreEncapType::default() == GreEncapType::None,

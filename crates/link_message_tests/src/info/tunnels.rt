@@ -1,4 +1,4 @@
-use crate::info::attributes::{first_wrong, is_read_as, is_refused, is_written_as};
+use crate::info::attributes::{first_wrong, is_refused, is_written_as};
 use link_info::{
     ErSpanDir, GreEncapType, GreIOFlags, InfoBareUdp, InfoGre, InfoGre6, InfoIpTunnel, InfoKind,
     InfoVti, InfoXfrm, Ip6TunnelFlags, IpProtocol, parse_ip_tunnel,
@@ -8,83 +8,60 @@ use std::net::{IpAddr, Ipv4Addr, Ipv6Addr};
 use std::test::Fail;
 
 #[test]
-fn vti(rt: HostRuntime) {
-    let cases: &[(&[u8], InfoVti)] = &[
-        (&[8, 0, 1, 0, 3, 0, 0, 0], InfoVti::Link(3)),
-        (&[8, 0, 2, 0, 10, 11, 12, 13], InfoVti::IKey(0x0a0b0c0d)),
+fn vti_xfrm_and_bareudp(rt: HostRuntime) {
+    let xfrm = &[("080002000a000000", InfoXfrm::IfId(10))];
+    assert_eq!(rt; first_wrong(rt.alloc(), xfrm), None);
+    let cases = &[
+        ("0800010003000000", InfoVti::Link(3)),
+        ("080002000a0b0c0d", InfoVti::IKey(0x0a0b0c0d)),
         (
-            &[8, 0, 4, 0, 127, 0, 0, 1],
+            "080004007f000001",
             InfoVti::Local(IpAddr::V4(Ipv4Addr::LOCALHOST)),
         ),
         (
-            &[20, 0, 5, 0, 0, 0, 0, 0, 0, 0, 0, 0, 0, 0, 0, 0, 0, 0, 0, 1],
+            "1400050000000000000000000000000000000001",
             InfoVti::Remote(IpAddr::V6(Ipv6Addr::LOCALHOST)),
         ),
     ];
     assert_eq!(rt; first_wrong(rt.alloc(), cases), None);
-}
-
-#[test]
-fn xfrm(rt: HostRuntime) {
-    let cases: &[(&[u8], InfoXfrm)] = &[(&[8, 0, 2, 0, 10, 0, 0, 0], InfoXfrm::IfId(10))];
-    assert_eq!(rt; first_wrong(rt.alloc(), cases), None);
-}
-
-#[test]
-fn bareudp(rt: HostRuntime) {
     let three_bytes: &[u8] = &[7, 0, 3, 0, 1, 2, 3, 0];
     assert!(rt; is_refused::<InfoBareUdp>(rt.alloc(), three_bytes));
-    let cases: &[(&[u8], InfoBareUdp)] = &[
-        (&[6, 0, 1, 0, 0x19, 0xeb, 0, 0], InfoBareUdp::Port(0x19eb)),
+    let cases = &[
+        ("0600010019eb0000", InfoBareUdp::Port(0x19eb)),
         (
-            &[6, 0, 2, 0, 8, 0, 0, 0],
+            "0600020008000000",
             InfoBareUdp::Ethertype(EthernetProtocol::Ipv4),
         ),
-        (&[6, 0, 3, 0, 1, 2, 0, 0], InfoBareUdp::SrcPortMin(0x0201)),
-        (&[4, 0, 4, 0], InfoBareUdp::MultiprotoMode),
+        ("0600030001020000", InfoBareUdp::SrcPortMin(0x0201)),
+        ("04000400", InfoBareUdp::MultiprotoMode),
     ];
     assert_eq!(rt; first_wrong(rt.alloc(), cases), None);
 }
 
 #[test]
-fn gre(rt: HostRuntime) {
-    let discovery = InfoGre::PathMTUDiscovery(false);
-    assert!(rt; is_read_as(rt.alloc(), &[5, 0, 10, 0, 2, 0, 0, 0], &discovery));
-    assert!(rt; is_written_as(&discovery, &[5, 0, 10, 0, 0, 0, 0, 0]));
-    let cases: &[(&[u8], InfoGre)] = &[
-        (&[6, 0, 2, 0, 32, 0, 0, 0], InfoGre::IFlags(GreIOFlags::Key)),
-        (&[8, 0, 4, 0, 10, 11, 12, 13], InfoGre::IKey(0x0a0b0c0d)),
+fn gre_and_gre6(rt: HostRuntime) -> Result<(), Fail> {
+    let cases = &[
+        ("0600020020000000", InfoGre::IFlags(GreIOFlags::Key)),
+        ("080004000a0b0c0d", InfoGre::IKey(0x0a0b0c0d)),
+        ("080006007f000001", InfoGre::Local(Ipv4Addr::LOCALHOST)),
+        ("06000e0002000000", InfoGre::EncapType(GreEncapType::Gue)),
         (
-            &[8, 0, 6, 0, 127, 0, 0, 1],
-            InfoGre::Local(Ipv4Addr::LOCALHOST),
+            "05000a0002000000 05000a0000000000",
+            InfoGre::PathMTUDiscovery(false),
         ),
-        (
-            &[6, 0, 14, 0, 2, 0, 0, 0],
-            InfoGre::EncapType(GreEncapType::Gue),
-        ),
-        (&[6, 0, 16, 0, 1, 2, 0, 0], InfoGre::SourcePort(0x0102)),
-        (&[4, 0, 18, 0], InfoGre::CollectMetadata),
-        (
-            &[5, 0, 23, 0, 1, 0, 0, 0],
-            InfoGre::ErSpanDir(ErSpanDir::Egress),
-        ),
+        ("0600100001020000", InfoGre::SourcePort(0x0102)),
+        ("04001200", InfoGre::CollectMetadata),
+        ("0500170001000000", InfoGre::ErSpanDir(ErSpanDir::Egress)),
     ];
     assert_eq!(rt; first_wrong(rt.alloc(), cases), None);
-}
-
-#[test]
-fn gre6(rt: HostRuntime) -> Result<(), Fail> {
     let kept = DefaultNla::new(10, [2u8].to_vec(rt.alloc())?);
-    let cases: &[(&[u8], InfoGre6)] = &[
+    let cases = &[
         (
-            &[20, 0, 7, 0, 0, 0, 0, 0, 0, 0, 0, 0, 0, 0, 0, 0, 0, 0, 0, 1],
+            "1400070000000000000000000000000000000001",
             InfoGre6::Remote(Ipv6Addr::LOCALHOST),
         ),
-        (
-            &[8, 0, 12, 0, 0, 15, 255, 255],
-            InfoGre6::FlowLabel(0x000fffff),
-        ),
-        (&[5, 0, 10, 0, 2, 0, 0, 0], InfoGre6::Other(kept)),
+        ("08000c00000fffff", InfoGre6::FlowLabel(0x000fffff)),
+        ("05000a0002000000", InfoGre6::Other(kept)),
     ];
     assert_eq!(rt; first_wrong(rt.alloc(), cases), None);
     Ok(())

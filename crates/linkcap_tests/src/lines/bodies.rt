@@ -1,36 +1,18 @@
 //! Bodies of messages other than links as lines. The expected lines come from an independent
 //! implementation.
 
+use crate::cases::split;
 use link_lines_raw::push_body;
-use std::alloc::{AllocError, Global};
 use std::test::Fail;
 
-/// A test case: the type of a message, whether it is a request, its body, and the body's lines.
-type Case = (u16, bool, &'static [u8], &'static str);
-
-/// Returns the index of the first case that is shown differently. Longer bodies than any case has
-/// are cut, since `push_body` asks for a bound.
-fn first_wrong(alloc: Global, cases: &[Case]) -> Result<Option<usize>, AllocError> {
-    for (index, (message_type, is_request, body, text)) in cases.iter().enumerate() {
-        let mut out = Vec::new(alloc);
-        let body = &body[..body.len().min(100)];
-        let is_shown = push_body(*message_type, *is_request, body, &mut out)?;
-        if is_shown == text.is_empty() || out.as_slice() != text.as_bytes() {
-            return Ok(Some(index));
-        }
-    }
-    Ok(None)
-}
-
-const OBJECTS: [Case; 5] = [
+/// The type of a message, and whether it is a request; and its body in hex, followed by the lines.
+const CASES: [(u16, bool, &str); 16] = [
+    // Objects, by their fields.
     (
         20,
         false,
-        &[
-            2, 24, 128, 0, 2, 0, 0, 0, 8, 0, 2, 0, 192, 0, 2, 1, 7, 0, 3, 0, 108, 111, 0, 0,
-        ],
-        "  ifaddrmsg family 2 (AF_INET) prefixlen 24 flags 0x80 (PERMANENT) scope 0 (universe) \
-        index 2
+        "021880000200000008000200c0000201070003006c6f0000
+  ifaddrmsg family 2 (AF_INET) prefixlen 24 flags 0x80 (PERMANENT) scope 0 (universe) index 2
   IFA_LOCAL 192.0.2.1
   IFA_LABEL \"lo\"
 ",
@@ -38,11 +20,8 @@ const OBJECTS: [Case; 5] = [
     (
         24,
         false,
-        &[
-            2, 24, 0, 0, 254, 3, 0, 1, 0, 0, 0, 0, 8, 0, 1, 0, 192, 0, 2, 0, 8, 0, 4, 0, 2, 0, 0, 0,
-        ],
-        "  rtmsg family 2 (AF_INET) dst_len 24 src_len 0 tos 0 table 254 (main) protocol 3 \
-        (boot) scope 0 (universe) type 1 (unicast) flags 0x0
+        "02180000fe0300010000000008000100c00002000800040002000000
+  rtmsg family 2 (AF_INET) dst_len 24 src_len 0 tos 0 table 254 (main) protocol 3 (boot) scope 0 (universe) type 1 (unicast) flags 0x0
   RTA_DST 192.0.2.0
   RTA_OIF 2
 ",
@@ -50,83 +29,64 @@ const OBJECTS: [Case; 5] = [
     (
         24,
         false,
-        &[
-            129, 24, 0, 0, 254, 3, 0, 1, 0, 0, 0, 0, 12, 0, 23, 0, 9, 0, 0, 0, 0, 0, 0, 0,
-        ],
-        "  rtmsg family 129 (RTNL_FAMILY_IP6MR) dst_len 24 src_len 0 tos 0 table 254 (main) \
-        protocol 3 (boot) scope 0 (universe) type 1 (unicast) flags 0x0
+        "81180000fe030001000000000c0017000900000000000000
+  rtmsg family 129 (RTNL_FAMILY_IP6MR) dst_len 24 src_len 0 tos 0 table 254 (main) protocol 3 (boot) scope 0 (universe) type 1 (unicast) flags 0x0
   RTA_EXPIRES 9
 ",
     ),
     (
         28,
         false,
-        &[2, 0, 0, 0, 3, 0, 0, 0, 2, 0, 0, 1, 8, 0, 1, 0, 192, 0, 2, 9],
-        "  ndmsg family 2 (AF_INET) ifindex 3 state 0x2 (REACHABLE) flags 0x0 type 1 (unicast)
+        "02000000030000000200000108000100c0000209
+  ndmsg family 2 (AF_INET) ifindex 3 state 0x2 (REACHABLE) flags 0x0 type 1 (unicast)
   NDA_DST 192.0.2.9
 ",
     ),
     (
         32,
         false,
-        &[
-            2, 0, 0, 0, 254, 0, 0, 1, 0, 0, 0, 0, 8, 0, 6, 0, 100, 0, 0, 0,
-        ],
-        "  fib_rule_hdr family 2 (AF_INET) dst_len 0 src_len 0 tos 0 table 254 (main) action 1 \
-        (to_tbl) flags 0x0
+        "02000000fe000001000000000800060064000000
+  fib_rule_hdr family 2 (AF_INET) dst_len 0 src_len 0 tos 0 table 254 (main) action 1 (to_tbl) flags 0x0
   FRA_PRIORITY 100
 ",
     ),
-];
-
-#[test]
-fn objects_are_shown_by_their_fields(rt: HostRuntime) -> Result<(), Fail> {
-    assert_eq!(rt; first_wrong(rt.alloc(), &OBJECTS)?, None);
-    Ok(())
-}
-
-const REQUESTS: [Case; 3] = [
-    (26, true, &[2, 0, 0, 0], "  rtgenmsg family 2 (AF_INET)\n"),
+    // Requests, by their fields.
+    (26, true, "02000000\n  rtgenmsg family 2 (AF_INET)\n"),
     (
         22,
         true,
-        &[2, 24, 128, 0, 2, 0, 0, 0],
-        "  ifaddrmsg family 2 (AF_INET) prefixlen 24 flags 0x80 (PERMANENT) scope 0 (universe) \
-        index 2
+        "0218800002000000
+  ifaddrmsg family 2 (AF_INET) prefixlen 24 flags 0x80 (PERMANENT) scope 0 (universe) index 2
 ",
     ),
     (
         86,
         true,
-        &[0, 0, 0, 0, 0, 0, 0, 0],
-        "  br_port_msg family 0 (AF_UNSPEC) ifindex 0\n",
+        "0000000000000000\n  br_port_msg family 0 (AF_UNSPEC) ifindex 0\n",
     ),
+    // Bodies that are not shown.
+    (28, false, "020001000300000002000001\n"),
+    (26, true, "02000001\n"),
+    (24, false, "02000000\n"),
+    (20, false, "0218800002000000070003006c6f0001\n"),
+    (20, false, "0218800002000000040003\n"),
+    (20, false, "02188000020000\n"),
+    (77, false, "0000000000000000\n"),
+    (68, false, "00000000\n"),
 ];
 
+/// Longer bodies than any case has are cut, since `push_body` asks for a bound.
 #[test]
-fn requests_are_shown_by_their_fields(rt: HostRuntime) -> Result<(), Fail> {
-    assert_eq!(rt; first_wrong(rt.alloc(), &REQUESTS)?, None);
-    Ok(())
-}
-
-const OTHER_BODIES: [Case; 8] = [
-    (28, false, &[2, 0, 1, 0, 3, 0, 0, 0, 2, 0, 0, 1], ""),
-    (26, true, &[2, 0, 0, 1], ""),
-    (24, false, &[2, 0, 0, 0], ""),
-    (
-        20,
-        false,
-        &[2, 24, 128, 0, 2, 0, 0, 0, 7, 0, 3, 0, 108, 111, 0, 1],
-        "",
-    ),
-    (20, false, &[2, 24, 128, 0, 2, 0, 0, 0, 4, 0, 3], ""),
-    (20, false, &[2, 24, 128, 0, 2, 0, 0], ""),
-    (77, false, &[0, 0, 0, 0, 0, 0, 0, 0], ""),
-    (68, false, &[0, 0, 0, 0], ""),
-];
-
-#[test]
-fn other_bodies_are_not_shown(rt: HostRuntime) -> Result<(), Fail> {
-    assert_eq!(rt; first_wrong(rt.alloc(), &OTHER_BODIES)?, None);
+fn bodies_are_shown(rt: HostRuntime) -> Result<(), Fail> {
+    for (message_type, is_request, case) in &CASES {
+        let (body, lines) = split(rt.alloc(), case, '\n')?;
+        let body = &body[..body.len().min(100)];
+        let mut out = Vec::new(rt.alloc());
+        let is_shown = push_body(*message_type, *is_request, body, &mut out)?;
+        assert!(rt;
+            is_shown != lines.is_empty() && out.as_slice() == lines.as_bytes(),
+            "{message_type}: {case}"
+        );
+    }
     Ok(())
 }

@@ -2,7 +2,6 @@
 //! link. The lines, and those expected, come from an independent implementation.
 
 use link_lines::{COUNTERS, INDEXES, Omission, is_about, push_remaining, push_with_offset};
-use std::alloc::{AllocError, Global};
 use std::test::Fail;
 
 /// The lines of a link with alternative names.
@@ -57,53 +56,23 @@ const END: &str = "NLMSG_DONE flags 0x2 (MULTI) seq 3 port 30
   code 0
 ";
 
-/// A test case: lines, what is left out, and the lines that remain.
-type RemainingCase = (&'static str, Omission<'static>, &'static str);
+/// Lines; the names of attributes that are left out, whether those that count are, and whether
+/// indexes are; and the lines that remain.
+type RemainingCase = (
+    &'static str,
+    &'static [&'static [u8]],
+    bool,
+    bool,
+    &'static str,
+);
 
-/// Returns the expected lines of the first case of which other lines remain.
-fn first_wrong_rest(
-    alloc: Global,
-    cases: &[RemainingCase],
-) -> Result<Option<&'static str>, AllocError> {
-    for (lines, omission, remaining) in cases {
-        let mut out = Vec::new(alloc);
-        push_remaining(lines.as_bytes(), *omission, &mut out)?;
-        if out.as_slice() != remaining.as_bytes() {
-            return Ok(Some(remaining));
-        }
-    }
-    Ok(None)
-}
-
-/// Nothing is left out.
-const NOTHING: Omission<'static> = Omission {
-    names: &[],
-    counters: false,
-    indexes: false,
-};
-
-/// The attributes that count are left out.
-const ALL_COUNTERS: Omission<'static> = Omission {
-    names: &[],
-    counters: true,
-    indexes: false,
-};
-
-/// Indexes of links and numbers of namespaces are left out.
-const ALL_INDEXES: Omission<'static> = Omission {
-    names: &[],
-    counters: false,
-    indexes: true,
-};
-
-const NAMED: [RemainingCase; 5] = [
+const REMAINING: [RemainingCase; 17] = [
+    // Attributes by name.
     (
         LINK,
-        Omission {
-            names: &[b"IFLA_PROP_LIST"],
-            counters: false,
-            indexes: false,
-        },
+        &[b"IFLA_PROP_LIST"],
+        false,
+        false,
         "RTM_NEWLINK flags 0x0 seq 1 port 0
   ifinfomsg family 0 (AF_UNSPEC) type 1 (ether) index 12 flags 0x0 change 0x0
   IFLA_IFNAME \"v0\"
@@ -113,11 +82,9 @@ const NAMED: [RemainingCase; 5] = [
     ),
     (
         LINK,
-        Omission {
-            names: &[b"IFLA_MTU", b"IFLA_ALT_IFNAME"],
-            counters: false,
-            indexes: false,
-        },
+        &[b"IFLA_MTU", b"IFLA_ALT_IFNAME"],
+        false,
+        false,
         "RTM_NEWLINK flags 0x0 seq 1 port 0
   ifinfomsg family 0 (AF_UNSPEC) type 1 (ether) index 12 flags 0x0 change 0x0
   IFLA_IFNAME \"v0\"
@@ -127,11 +94,9 @@ const NAMED: [RemainingCase; 5] = [
     ),
     (
         ROUTE,
-        Omission {
-            names: &[b"RTA_MULTIPATH"],
-            counters: false,
-            indexes: false,
-        },
+        &[b"RTA_MULTIPATH"],
+        false,
+        false,
         "RTM_NEWROUTE flags 0x605 (REQUEST | ACK | EXCL | CREATE) seq 1795885696 port 0
   rtmsg family 2 (AF_INET) dst_len 24 src_len 0 tos 0 table 254 (main) protocol 3 (boot) scope 0 (universe) type 1 (unicast) flags 0x0
   RTA_DST 198.51.100.0
@@ -139,11 +104,9 @@ const NAMED: [RemainingCase; 5] = [
     ),
     (
         ROUTE,
-        Omission {
-            names: &[b"RTA_GATEWAY"],
-            counters: false,
-            indexes: false,
-        },
+        &[b"RTA_GATEWAY"],
+        false,
+        false,
         "RTM_NEWROUTE flags 0x605 (REQUEST | ACK | EXCL | CREATE) seq 1795885696 port 0
   rtmsg family 2 (AF_INET) dst_len 24 src_len 0 tos 0 table 254 (main) protocol 3 (boot) scope 0 (universe) type 1 (unicast) flags 0x0
   RTA_DST 198.51.100.0
@@ -152,27 +115,13 @@ const NAMED: [RemainingCase; 5] = [
     rtnexthop flags 0x0 hops 9 ifindex 0
 ",
     ),
-    (
-        END,
-        Omission {
-            names: &[b"RTA_GATEWAY"],
-            counters: true,
-            indexes: true,
-        },
-        END,
-    ),
-];
-
-#[test]
-fn named_attributes_are_left_out(rt: HostRuntime) -> Result<(), Fail> {
-    assert_eq!(rt; first_wrong_rest(rt.alloc(), &NAMED)?, None);
-    Ok(())
-}
-
-const COUNTED: [RemainingCase; 3] = [
+    (END, &[b"RTA_GATEWAY"], true, true, END),
+    // Attributes that count.
     (
         NEIGHBOUR,
-        ALL_COUNTERS,
+        &[],
+        true,
+        false,
         "RTM_DELNEIGH flags 0x0 seq 0 port 0
   ndmsg family 10 (AF_INET6) ifindex 2 state 0x40 (NOARP) flags 0x0 type 5 (multicast)
   NDA_DST ff02::2
@@ -181,7 +130,9 @@ const COUNTED: [RemainingCase; 3] = [
     ),
     (
         ADDRESS,
-        ALL_COUNTERS,
+        &[],
+        true,
+        false,
         "RTM_NEWADDR flags 0x5 (REQUEST | ACK) seq 1795830313 port 0
   ifaddrmsg family 10 (AF_INET6) prefixlen 128 flags 0x0 scope 0 (universe) index 5
   IFA_LOCAL fe80::9
@@ -189,19 +140,13 @@ const COUNTED: [RemainingCase; 3] = [
   IFA_PROTO 18
 ",
     ),
-    (LINK, ALL_COUNTERS, LINK),
-];
-
-#[test]
-fn counters_are_left_out(rt: HostRuntime) -> Result<(), Fail> {
-    assert_eq!(rt; first_wrong_rest(rt.alloc(), &COUNTED)?, None);
-    Ok(())
-}
-
-const INDEXED: [RemainingCase; 3] = [
+    (LINK, &[], true, false, LINK),
+    // Indexes of links and numbers of namespaces.
     (
         LINK,
-        ALL_INDEXES,
+        &[],
+        false,
+        true,
         "RTM_NEWLINK flags 0x0 seq 1 port 0
   ifinfomsg family 0 (AF_UNSPEC) type 1 (ether) flags 0x0 change 0x0
   IFLA_IFNAME \"v0\"
@@ -213,7 +158,9 @@ const INDEXED: [RemainingCase; 3] = [
     ),
     (
         ROUTE,
-        ALL_INDEXES,
+        &[],
+        false,
+        true,
         "RTM_NEWROUTE flags 0x605 (REQUEST | ACK | EXCL | CREATE) seq 1795885696 port 0
   rtmsg family 2 (AF_INET) dst_len 24 src_len 0 tos 0 table 254 (main) protocol 3 (boot) scope 0 (universe) type 1 (unicast) flags 0x0
   RTA_DST 198.51.100.0
@@ -226,73 +173,46 @@ const INDEXED: [RemainingCase; 3] = [
     ),
     (
         NEIGHBOUR,
-        Omission {
-            names: &[b"NDA_LLADDR"],
-            counters: true,
-            indexes: true,
-        },
+        &[b"NDA_LLADDR"],
+        true,
+        true,
         "RTM_DELNEIGH flags 0x0 seq 0 port 0
   ndmsg family 10 (AF_INET6) state 0x40 (NOARP) flags 0x0 type 5 (multicast)
   NDA_DST ff02::2
 ",
     ),
+    // Nothing is left out.
+    (LINK, &[], false, false, LINK),
+    (OTHER_LINK, &[], false, false, OTHER_LINK),
+    (ROUTE, &[], false, false, ROUTE),
+    (NEIGHBOUR, &[], false, false, NEIGHBOUR),
+    (ADDRESS, &[], false, false, ADDRESS),
+    (END, &[], false, false, END),
 ];
 
 #[test]
-fn indexes_are_left_out(rt: HostRuntime) -> Result<(), Fail> {
-    assert_eq!(rt; first_wrong_rest(rt.alloc(), &INDEXED)?, None);
-    Ok(())
-}
-
-const WHOLE: [RemainingCase; 6] = [
-    (LINK, NOTHING, LINK),
-    (OTHER_LINK, NOTHING, OTHER_LINK),
-    (ROUTE, NOTHING, ROUTE),
-    (NEIGHBOUR, NOTHING, NEIGHBOUR),
-    (ADDRESS, NOTHING, ADDRESS),
-    (END, NOTHING, END),
-];
-
-#[test]
-fn all_lines_remain(rt: HostRuntime) -> Result<(), Fail> {
-    assert_eq!(rt; first_wrong_rest(rt.alloc(), &WHOLE)?, None);
-    Ok(())
-}
-
-#[test]
-fn omissions_are_empty_or_not(rt: HostRuntime) -> Result<(), Fail> {
-    assert!(rt; NOTHING.is_empty());
-    assert!(rt; !ALL_COUNTERS.is_empty());
-    assert!(rt; !ALL_INDEXES.is_empty());
-    let named = Omission {
-        names: &[b"IFLA_MTU"],
-        ..NOTHING
-    };
-    assert!(rt; !named.is_empty());
-    Ok(())
-}
-
-#[test]
-fn groups_have_all_names(rt: HostRuntime) -> Result<(), Fail> {
-    assert_eq!(rt; COUNTERS.len(), 57);
-    assert_eq!(rt; INDEXES.len(), 43);
-    Ok(())
-}
-
-/// A test case: lines, the name or index of a link, and whether the lines are about it.
-type AboutCase = (&'static str, &'static [u8], bool);
-
-/// Returns the word of the first case that is judged differently.
-fn first_wrong_word(cases: &[AboutCase]) -> Option<&'static [u8]> {
-    for (lines, word, is_expected) in cases {
-        if is_about(lines.as_bytes(), word) != *is_expected {
-            return Some(word);
-        }
+fn attributes_are_left_out(rt: HostRuntime) -> Result<(), Fail> {
+    for (lines, names, counters, indexes, remaining) in &REMAINING {
+        let omission = Omission {
+            names,
+            counters: *counters,
+            indexes: *indexes,
+        };
+        let mut out = Vec::new(rt.alloc());
+        push_remaining(lines.as_bytes(), omission, &mut out)?;
+        assert!(rt;
+            out.as_slice() == remaining.as_bytes(),
+            "{names:?} {remaining}"
+        );
+        let is_empty = names.is_empty() && !*counters && !*indexes;
+        assert!(rt; omission.is_empty() == is_empty, "{names:?} {remaining}");
     }
-    None
+    assert_eq!(rt; (COUNTERS.len(), INDEXES.len()), (57, 43));
+    Ok(())
 }
 
-const ABOUT: [AboutCase; 19] = [
+/// Lines, the name or index of a link, and whether the lines are about it.
+const ABOUT: [(&str, &[u8], bool); 19] = [
     (LINK, b"v0", true),
     (LINK, b"v", false),
     (LINK, b"v00", false),
@@ -315,30 +235,17 @@ const ABOUT: [AboutCase; 19] = [
 ];
 
 #[test]
-fn lines_are_about_a_link_or_not(rt: HostRuntime) -> Result<(), Fail> {
-    assert!(rt; first_wrong_word(&ABOUT).is_none());
-    Ok(())
-}
-
-/// A test case: lines, an offset, and the lines with it.
-type OffsetCase = (&'static str, u64, &'static str);
-
-/// Returns the expected lines of the first case to which the offset is added differently.
-fn first_wrong_offset(
-    alloc: Global,
-    cases: &[OffsetCase],
-) -> Result<Option<&'static str>, AllocError> {
-    for (lines, offset, expected) in cases {
-        let mut out = Vec::new(alloc);
-        push_with_offset(lines.as_bytes(), *offset, &mut out)?;
-        if out.as_slice() != expected.as_bytes() {
-            return Ok(Some(expected));
-        }
+fn lines_are_about_a_link_or_not(rt: HostRuntime) {
+    for (lines, link, is_expected) in &ABOUT {
+        assert!(rt;
+            is_about(lines.as_bytes(), link) == *is_expected,
+            "{link:?} {lines}"
+        );
     }
-    Ok(None)
 }
 
-const OFFSETS: [OffsetCase; 3] = [
+/// Lines, an offset, and the lines with it.
+const OFFSETS: [(&str, u64, &str); 3] = [
     (
         END,
         1580,
@@ -368,6 +275,10 @@ const OFFSETS: [OffsetCase; 3] = [
 
 #[test]
 fn offsets_are_at_the_end_of_the_first_line(rt: HostRuntime) -> Result<(), Fail> {
-    assert_eq!(rt; first_wrong_offset(rt.alloc(), &OFFSETS)?, None);
+    for (lines, offset, expected) in &OFFSETS {
+        let mut out = Vec::new(rt.alloc());
+        push_with_offset(lines.as_bytes(), *offset, &mut out)?;
+        assert!(rt; out.as_slice() == expected.as_bytes(), "{expected}");
+    }
     Ok(())
 }

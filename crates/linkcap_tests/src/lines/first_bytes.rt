@@ -17,10 +17,10 @@ const PCAP: [u8; 6] = [0xd4, 0xc3, 0xb2, 0xa1, 2, 0];
 fn a_source_is_read_and_its_first_bytes_are_kept(rt: HostRuntime) -> Result<(), Fail> {
     let mut first = FirstBytes::new();
     let read = read_all_keeping_first(rt.alloc(), &mut SliceSource::new(&PCAP), &mut first);
-    assert!(rt; read.is_ok_and(|bytes| bytes.as_slice() == PCAP.as_slice()));
+    assert!(rt; matches!(&read, Ok(bytes) if bytes.as_slice() == PCAP.as_slice()));
     assert!(rt; first.as_slice() == [0xd4, 0xc3, 0xb2, 0xa1].as_slice());
     let read = read_all_keeping_first(rt.alloc(), &mut SliceSource::new(&PCAP[4..]), &mut first);
-    assert!(rt; read.is_ok_and(|bytes| bytes.as_slice() == [2, 0].as_slice()));
+    assert!(rt; matches!(&read, Ok(bytes) if bytes.as_slice() == [2, 0].as_slice()));
     assert!(rt; first.as_slice() == [2, 0].as_slice());
     Ok(())
 }

@@ -2,9 +2,10 @@
 //! implementation, `tools/oracle`.
 
 use link_lines::{
-    Buffers, CaptureFault, DEFAULT_LIMIT, FaultKind, LineOptions, Omission, ShowOptions,
+    Buffers, CaptureFault, DEFAULT_LIMIT, FaultKind, Omission, ShowFault, ShowOptions,
     ShownMessage, SliceSource, VecSink, push_selected_message, show, show_selected_bytes,
 };
+use std::alloc::Global;
 use std::test::Fail;
 
 /// An NLMSG_NOOP, an RTM_NEWLINK whose IFLA_MTU has 3 bytes, and an NLMSG_NOOP.
@@ -56,114 +57,85 @@ const LINK_JSON: &[u8] =
 {\"type\": \"NLMSG_NOOP\", \"flags\": {\"value\": 0, \"flags\": []}, \"seq\": 3, \"port\": 0, \"attributes\": []}
 ";
 
-/// IFLA_MTU and indexes are left out.
-const MTU_AND_INDEXES: Omission<'static> = Omission {
-    names: &[b"IFLA_MTU"],
-    counters: false,
-    indexes: true,
-};
-
-/// What remains of `LINK` without them.
+/// What remains of `LINK` without IFLA_MTU and indexes.
 const REMAINING_LINES: &[u8] = b"RTM_NEWLINK flags 0x0 seq 6 port 0
   ifinfomsg family 0 (AF_UNSPEC) type 1 (ether) flags 0x0 change 0x0
   IFLA_IFNAME \"lo\"
 NLMSG_NOOP flags 0x0 seq 3 port 0
 ";
 
-#[test]
-fn messages_after_a_refused_body_are_shown(rt: HostRuntime) -> Result<(), Fail> {
-    let mut options = ShowOptions::from(LineOptions::default());
-    options.keep_going = true;
-    options.offsets = true;
-    let mut lines = VecSink::new(rt.alloc());
-    let shown = show(
-        rt.alloc(),
-        &mut SliceSource::new(&REFUSED),
-        &mut lines,
-        DEFAULT_LIMIT,
-        options,
-    );
+/// Returns whether this is the fault of `REFUSED`, with the reason.
+fn is_first(found: &ShowFault) -> bool {
     let first = CaptureFault {
         kind: FaultKind::Refused,
         offset: 16,
     };
-    assert!(rt; shown.is_err_and(|found| found.fault == first && found.refusal.is_some()));
-    assert!(rt; lines.bytes() == REFUSED_LINES);
-    Ok(())
+    found.fault == first && found.refusal.is_some()
 }
 
-#[test]
-fn messages_become_json(rt: HostRuntime) -> Result<(), Fail> {
-    let cases: [(&[u8], bool, &[u8]); 2] = [
-        (&REFUSED, true, REFUSED_JSON),
-        (&LINK, false, LINK_JSON),
-    ];
-    for (capture, all, expected) in cases {
-        let mut options = ShowOptions::from(LineOptions::default());
-        options.json = true;
-        options.keep_going = all;
-        options.offsets = all;
-        let mut objects = VecSink::new(rt.alloc());
-        let shown = show(
-            rt.alloc(),
-            &mut SliceSource::new(capture),
-            &mut objects,
-            DEFAULT_LIMIT,
-            options,
-        );
-        assert!(rt; shown.is_err() == all);
-        assert!(rt; objects.bytes() == expected);
+/// Returns whether these lines of a capture are shown, and this result is returned: whether there is
+/// a line, or None for the fault of `REFUSED`.
+fn is_shown(
+    alloc: Global,
+    capture: &[u8],
+    options: ShowOptions<'_>,
+    lines: &[u8],
+    expected: Option<bool>,
+) -> bool {
+    let mut sink = VecSink::new(alloc);
+    let mut source = SliceSource::new(capture);
+    let is_expected = match show(alloc, &mut source, &mut sink, DEFAULT_LIMIT, options) {
+        Ok(is_any) => expected == Some(is_any),
+        Err(found) => expected.is_none() && is_first(&found),
+    };
+    is_expected && sink.bytes() == lines
+}
+
+/// Returns the options by which all messages are shown, with their offsets.
+fn of_all() -> ShowOptions<'static> {
+    ShowOptions {
+        keep_going: true,
+        offsets: true,
+        ..ShowOptions::default()
     }
-    Ok(())
 }
 
 #[test]
-fn messages_about_a_link_are_shown(rt: HostRuntime) -> Result<(), Fail> {
-    let cases: [(&[u8], &[u8]); 3] = [(b"lo", LINK_LINES), (b"2", LINK_LINES), (b"3", b"")];
-    for (link, expected) in cases {
-        let mut options = ShowOptions::from(LineOptions::default());
-        options.link = Some(link);
-        let mut lines = VecSink::new(rt.alloc());
-        let shown = show(
-            rt.alloc(),
-            &mut SliceSource::new(&LINK),
-            &mut lines,
-            DEFAULT_LIMIT,
-            options,
-        );
-        assert!(rt; shown == Ok(!expected.is_empty()));
-        assert!(rt; lines.bytes() == expected);
-    }
-    Ok(())
-}
-
-#[test]
-fn lines_without_an_attribute_and_indexes_are_shown(rt: HostRuntime) -> Result<(), Fail> {
-    let mut options = ShowOptions::from(LineOptions::default());
-    options.omission = MTU_AND_INDEXES;
-    let mut lines = VecSink::new(rt.alloc());
-    let shown = show(
-        rt.alloc(),
-        &mut SliceSource::new(&LINK),
-        &mut lines,
-        DEFAULT_LIMIT,
-        options,
-    );
-    assert!(rt; shown == Ok(true));
-    assert!(rt; lines.bytes() == REMAINING_LINES);
-    Ok(())
-}
-
-#[test]
-fn selected_lines_of_bytes_are_appended(rt: HostRuntime) -> Result<(), Fail> {
-    let mut options = ShowOptions::from(LineOptions::default());
-    options.keep_going = true;
-    options.offsets = true;
-    let mut lines = Vec::new(rt.alloc());
-    let shown = show_selected_bytes(rt.alloc(), &REFUSED, DEFAULT_LIMIT, options, &mut lines);
-    assert!(rt; shown.is_err_and(|found| found.fault.offset == 16 && found.refusal.is_some()));
+fn all_messages_are_shown(rt: HostRuntime) -> Result<(), Fail> {
+    let alloc = rt.alloc();
+    assert!(rt; is_shown(alloc, &REFUSED, of_all(), REFUSED_LINES, None));
+    let mut options = of_all();
+    options.json = true;
+    assert!(rt; is_shown(alloc, &REFUSED, options, REFUSED_JSON, None));
+    let mut lines = Vec::new(alloc);
+    let shown = show_selected_bytes(alloc, &REFUSED, DEFAULT_LIMIT, of_all(), &mut lines);
+    assert!(rt; matches!(&shown, Err(found) if is_first(found)));
     assert!(rt; lines.as_slice() == REFUSED_LINES);
     Ok(())
+}
+
+#[test]
+fn messages_about_a_link_are_shown(rt: HostRuntime) {
+    let cases: [(&[u8], &[u8]); 3] = [(b"lo", LINK_LINES), (b"2", LINK_LINES), (b"3", b"")];
+    for (link, lines) in cases {
+        let mut options = ShowOptions::default();
+        options.link = Some(link);
+        let is_any = !lines.is_empty();
+        assert!(rt;
+            is_shown(rt.alloc(), &LINK, options, lines, Some(is_any)),
+            "{link:?}"
+        );
+    }
+    let mut options = ShowOptions::default();
+    options.json = true;
+    assert!(rt; is_shown(rt.alloc(), &LINK, options, LINK_JSON, Some(true)));
+    options.json = false;
+    options.omission = Omission {
+        names: &[b"IFLA_MTU"],
+        counters: false,
+        indexes: true,
+    };
+    assert!(rt; is_shown(rt.alloc(), &LINK, options, REMAINING_LINES, Some(true)));
 }
 
 #[test]
@@ -173,16 +145,15 @@ fn selected_messages_are_appended_one_by_one(rt: HostRuntime) -> Result<(), Fail
         (&REFUSED[16..56], 16, true),
         (&REFUSED[56..], 56, false),
     ];
-    let mut options = ShowOptions::from(LineOptions::default());
-    options.keep_going = true;
-    options.offsets = true;
+    let options = of_all();
     let mut buffers = Buffers::new(rt.alloc());
     let mut lines = Vec::new(rt.alloc());
     for (message, offset, is_refused) in messages {
+        let limit = DEFAULT_LIMIT;
         let shown = push_selected_message(
             message,
             offset,
-            DEFAULT_LIMIT,
+            limit,
             options,
             &mut buffers,
             &mut lines,

@@ -1,5 +1,6 @@
 //! Values as text. The expected texts come from an independent implementation.
 
+use crate::cases::split;
 use link_lines_values::neighbour_texts::NETCONF_IFINDEX;
 use link_lines_values::{
     ADDRESS_FAMILY, ETHERNET_PROTOCOL, ICMP6_STATS, LINK_FLAGS, LINK_LAYER_TYPE, MAC_VLAN_MODE,
@@ -7,233 +8,125 @@ use link_lines_values::{
     VF_BROADCAST, VF_MAC, VF_SETTING, VF_VLAN, VF_VLAN_INFO, push_bytes, push_decimal, push_flags,
     push_four_digits, push_name, push_number, push_value,
 };
-use std::alloc::{AllocError, Global};
 use std::test::Fail;
 
-/// A test case: how a payload is shown, the payload, and its text.
-type Case = (Shown, &'static [u8], &'static str);
-
-/// Returns the expected text of the first case that is shown differently.
-fn first_wrong(alloc: Global, cases: &[Case]) -> Result<Option<&'static str>, AllocError> {
-    for (shown, payload, text) in cases {
-        let mut out = Vec::new(alloc);
-        push_value(*shown, payload, &mut out)?;
-        if out.as_slice() != text.as_bytes() {
-            return Ok(Some(text));
-        }
-    }
-    Ok(None)
-}
-
-const NUMBERS: [Case; 13] = [
-    (ShownBy::Number(STATE), &[6], " 6 (UP)"),
-    (ShownBy::Number(STATE), &[9], " 9"),
-    (ShownBy::Number(PLAIN), &[1, 2], " 513"),
-    (
-        ShownBy::Number(MAC_VLAN_MODE),
-        &[16, 0, 0, 0],
-        " 16 (source)",
-    ),
+/// How a payload is shown; and the payload in hex, a colon, and its text.
+const CASES: [(Shown, &str); 53] = [
+    // Numbers, with their names.
+    (ShownBy::Number(STATE), "06: 6 (UP)"),
+    (ShownBy::Number(STATE), "09: 9"),
+    (ShownBy::Number(PLAIN), "0102: 513"),
+    (ShownBy::Number(MAC_VLAN_MODE), "10000000: 16 (source)"),
     (
         ShownBy::Number(PLAIN),
-        &[254, 255, 255, 255, 255, 255, 255, 255],
-        " 18446744073709551614",
+        "feffffffffffffff: 18446744073709551614",
     ),
     (
         ShownBy::BigEndian(ETHERNET_PROTOCOL),
-        &[136, 168],
-        " 34984 (802.1ad)",
+        "88a8: 34984 (802.1ad)",
     ),
-    (ShownBy::BigEndian(PLAIN), &[0, 0, 1, 2], " 258"),
-    (
-        ShownBy::BigEndian(PLAIN),
-        &[0, 0, 1, 0, 0, 0, 0, 3],
-        " 1099511627779",
-    ),
-    (ShownBy::Signed(PLAIN), &[239, 255, 255, 255], " -17"),
-    (
-        ShownBy::Signed(NETCONF_IFINDEX),
-        &[255, 255, 255, 255],
-        " -1 (all)",
-    ),
-    (ShownBy::Number(PLAIN), &[1, 2, 3], " 197121"),
-    (ShownBy::Signed(PLAIN), &[255, 255, 255, 127], " 2147483647"),
-    (ShownBy::Signed(PLAIN), &[0, 0, 0, 128], " -2147483648"),
-];
-
-#[test]
-fn numbers_are_shown_with_their_names(rt: HostRuntime) -> Result<(), Fail> {
-    assert_eq!(rt; first_wrong(rt.alloc(), &NUMBERS)?, None);
-    Ok(())
-}
-
-const FLAGS_AND_RANGES: [Case; 8] = [
-    (ShownBy::Flags, &[240, 1, 0, 0], " 0x1f0"),
-    (ShownBy::Flags, &[0], " 0x0"),
-    (ShownBy::BigEndianFlags, &[32, 1], " 0x2001"),
-    (ShownBy::Flags, &[1, 239, 205, 171], " 0xabcdef01"),
-    (ShownBy::Flags, &[255, 255, 255, 255], " 0xffffffff (all)"),
+    (ShownBy::BigEndian(PLAIN), "00000102: 258"),
+    (ShownBy::BigEndian(PLAIN), "0000010000000003: 1099511627779"),
+    (ShownBy::Signed(PLAIN), "efffffff: -17"),
+    (ShownBy::Signed(NETCONF_IFINDEX), "ffffffff: -1 (all)"),
+    (ShownBy::Number(PLAIN), "010203: 197121"),
+    (ShownBy::Signed(PLAIN), "ffffff7f: 2147483647"),
+    (ShownBy::Signed(PLAIN), "00000080: -2147483648"),
+    // Flags and ranges.
+    (ShownBy::Flags, "f0010000: 0x1f0"),
+    (ShownBy::Flags, "00: 0x0"),
+    (ShownBy::BigEndianFlags, "2001: 0x2001"),
+    (ShownBy::Flags, "01efcdab: 0xabcdef01"),
+    (ShownBy::Flags, "ffffffff: 0xffffffff (all)"),
     (
         ShownBy::FlagsAndMask(PLAIN),
-        &[1, 0, 0, 0, 255, 0, 0, 0],
-        " 0x1 mask 0xff",
+        "01000000ff000000: 0x1 mask 0xff",
     ),
     (
         ShownBy::FlagsAndMask(LINK_FLAGS),
-        &[1, 0, 0, 0, 255, 255, 255, 255],
-        " 0x1 (Up) mask 0xffffffff (all)",
+        "01000000ffffffff: 0x1 (Up) mask 0xffffffff (all)",
     ),
-    (ShownBy::PortRange, &[128, 0, 238, 72], " 32768 61000"),
-];
-
-#[test]
-fn flags_and_ranges_are_shown(rt: HostRuntime) -> Result<(), Fail> {
-    assert_eq!(rt; first_wrong(rt.alloc(), &FLAGS_AND_RANGES)?, None);
-    Ok(())
-}
-
-const MARKS: [Case; 5] = [
-    (ShownBy::Boolean, &[0], " off"),
-    (ShownBy::Boolean, &[0, 0, 2, 0], " on"),
-    (ShownBy::Presence, &[1, 2], ""),
-    (ShownBy::OptionalByte, &[], ""),
-    (ShownBy::OptionalByte, &[200], " 200"),
-];
-
-#[test]
-fn marks_are_shown(rt: HostRuntime) -> Result<(), Fail> {
-    assert_eq!(rt; first_wrong(rt.alloc(), &MARKS)?, None);
-    Ok(())
-}
-
-const TEXTS_AND_BYTES: [Case; 7] = [
-    (ShownBy::Text, &[101, 116, 104, 48, 0], " \"eth0\""),
-    (ShownBy::Text, &[0], " \"\""),
+    (ShownBy::PortRange, "8000ee48: 32768 61000"),
+    // Booleans and flags without a value.
+    (ShownBy::Boolean, "00: off"),
+    (ShownBy::Boolean, "00000200: on"),
+    (ShownBy::Presence, "0102:"),
+    (ShownBy::OptionalByte, ":"),
+    (ShownBy::OptionalByte, "c8: 200"),
+    // Texts and bytes.
+    (ShownBy::Text, "6574683000: \"eth0\""),
+    (ShownBy::Text, "00: \"\""),
     (
         ShownBy::Text,
-        &[97, 34, 98, 92, 99, 1, 127, 195, 164, 0],
-        " \"a\\\"b\\\\c\\x01\\x7f\\xc3\\xa4\"",
+        "6122625c63017fc3a400: \"a\\\"b\\\\c\\x01\\x7f\\xc3\\xa4\"",
     ),
-    (ShownBy::Bytes, &[0, 10, 255], " 000aff"),
-    (
-        ShownBy::HardwareAddress,
-        &[2, 0, 0, 171, 205, 239],
-        " 02:00:00:ab:cd:ef",
-    ),
-    (ShownBy::HardwareAddress, &[], ""),
-    (ShownBy::Bytes, &[], ""),
-];
-
-#[test]
-fn texts_and_bytes_are_shown(rt: HostRuntime) -> Result<(), Fail> {
-    assert_eq!(rt; first_wrong(rt.alloc(), &TEXTS_AND_BYTES)?, None);
-    Ok(())
-}
-
-const ADDRESSES: [Case; 5] = [
-    (ShownBy::Address, &[192, 0, 2, 1], " 192.0.2.1"),
+    (ShownBy::Bytes, "000aff: 000aff"),
+    (ShownBy::HardwareAddress, "020000abcdef: 02:00:00:ab:cd:ef"),
+    (ShownBy::HardwareAddress, ":"),
+    (ShownBy::Bytes, ":"),
+    // Addresses, as Rust prints them.
+    (ShownBy::Address, "c0000201: 192.0.2.1"),
     (
         ShownBy::Address,
-        &[32, 1, 13, 184, 0, 0, 0, 0, 0, 0, 0, 0, 0, 0, 0, 1],
-        " 2001:db8::1",
+        "20010db8000000000000000000000001: 2001:db8::1",
+    ),
+    (ShownBy::Address, "00000000000000000000000000000000: ::"),
+    (
+        ShownBy::Address,
+        "00000000000000000000ffffc0000207: ::ffff:192.0.2.7",
     ),
     (
         ShownBy::Address,
-        &[0, 0, 0, 0, 0, 0, 0, 0, 0, 0, 0, 0, 0, 0, 0, 0],
-        " ::",
+        "00010000000000020000000000000003: 1:0:0:2::3",
     ),
-    (
-        ShownBy::Address,
-        &[0, 0, 0, 0, 0, 0, 0, 0, 0, 0, 255, 255, 192, 0, 2, 7],
-        " ::ffff:192.0.2.7",
-    ),
-    (
-        ShownBy::Address,
-        &[0, 1, 0, 0, 0, 0, 0, 2, 0, 0, 0, 0, 0, 0, 0, 3],
-        " 1:0:0:2::3",
-    ),
-];
-
-#[test]
-fn addresses_are_shown_as_rust_prints_them(rt: HostRuntime) -> Result<(), Fail> {
-    assert_eq!(rt; first_wrong(rt.alloc(), &ADDRESSES)?, None);
-    Ok(())
-}
-
-#[test]
-fn payloads_of_other_sizes_are_shown_as_bytes(rt: HostRuntime) -> Result<(), Fail> {
-    for shown in [
-        ShownBy::Number(PLAIN),
-        ShownBy::Signed(PLAIN),
-        ShownBy::Flags,
-        ShownBy::Address,
-        ShownBy::PortRange,
-        ShownBy::FlagsAndMask(PLAIN),
-        ShownBy::OptionalByte,
-        ShownBy::Record(VF_VLAN),
-    ] {
-        let mut out = Vec::new(rt.alloc());
-        push_value(shown, &[1, 2, 15, 16, 17], &mut out)?;
-        assert!(rt; out.as_slice() == " 01020f1011".as_bytes());
-    }
-    Ok(())
-}
-
-const RECORDS: [Case; 7] = [
+    // Payloads of other sizes, as bytes.
+    (ShownBy::Number(PLAIN), "01020f1011: 01020f1011"),
+    (ShownBy::Signed(PLAIN), "01020f1011: 01020f1011"),
+    (ShownBy::Flags, "01020f1011: 01020f1011"),
+    (ShownBy::Address, "01020f1011: 01020f1011"),
+    (ShownBy::PortRange, "01020f1011: 01020f1011"),
+    (ShownBy::FlagsAndMask(PLAIN), "01020f1011: 01020f1011"),
+    (ShownBy::OptionalByte, "01020f1011: 01020f1011"),
+    (ShownBy::Record(VF_VLAN), "01020f1011: 01020f1011"),
+    // Records, by their fields.
     (
         ShownBy::Record(VF_VLAN_INFO),
-        &[1, 0, 0, 0, 7, 0, 0, 0, 0, 0, 0, 0, 129, 0],
-        " vf=1 vlan=7 qos=0 vlan_proto=33024",
+        "0100000007000000000000008100: vf=1 vlan=7 qos=0 vlan_proto=33024",
     ),
     (
         ShownBy::Record(VF_MAC),
-        &[
-            3, 0, 0, 0, 2, 0, 0, 0, 0, 0, 0, 0, 0, 0, 0, 0, 0, 0, 0, 0, 0, 0, 0, 0, 0, 0, 0, 0, 0,
-            0, 0, 0, 0, 0, 0, 0,
-        ],
-        " vf=3 mac=02:00:00:00:00:00",
+        "030000000200000000000000000000000000000000000000000000000000000000000000: vf=3 mac=02:00:00:00:00:00",
     ),
     (
         ShownBy::Record(VF_BROADCAST),
-        &[
-            255, 255, 255, 255, 255, 255, 0, 7, 0, 0, 0, 0, 0, 0, 0, 0, 0, 0, 0, 0, 0, 0, 0, 0, 0,
-            0, 0, 0, 0, 0, 0, 0,
-        ],
-        " broadcast=ff:ff:ff:ff:ff:ff:00:07",
+        "ffffffffffff0007000000000000000000000000000000000000000000000000: broadcast=ff:ff:ff:ff:ff:ff:00:07",
     ),
     (
         ShownBy::Record(VF_SETTING),
-        &[2, 0, 0, 0, 1, 0, 0, 0],
-        " vf=2 setting=on",
+        "0200000001000000: vf=2 setting=on",
     ),
     (
         ShownBy::Record(MAP),
-        &[
-            0, 0, 0, 0, 0, 1, 0, 0, 0, 0, 0, 0, 0, 0, 0, 0, 0, 0, 0, 0, 0, 0, 0, 0, 2, 1, 5, 6,
-        ],
-        " mem_start=1099511627776 mem_end=0 base_addr=0 irq=258 dma=5 port=6",
+        "00000000000100000000000000000000000000000000000002010506: mem_start=1099511627776 mem_end=0 base_addr=0 irq=258 dma=5 port=6",
     ),
     (
         ShownBy::SparseRecord(ICMP6_STATS),
-        &[
-            7, 0, 0, 0, 0, 0, 0, 0, 0, 0, 0, 0, 0, 0, 0, 0, 0, 0, 0, 0, 0, 0, 0, 0, 44, 1, 0, 0, 0,
-            0, 0, 0, 0, 0, 0, 0, 0, 0, 0, 0, 0, 0, 0, 0, 0, 0, 0, 0, 0, 0, 0, 0, 0, 0, 0, 0,
-        ],
-        " Num=7 OutMsgs=300",
+        "0700000000000000000000000000000000000000000000002c01000000000000000000000000000000000000000000000000000000000000: Num=7 OutMsgs=300",
     ),
     (
         ShownBy::SparseRecord(ICMP6_STATS),
-        &[
-            0, 0, 0, 0, 0, 0, 0, 0, 0, 0, 0, 0, 0, 0, 0, 0, 0, 0, 0, 0, 0, 0, 0, 0, 0, 0, 0, 0, 0,
-            0, 0, 0, 0, 0, 0, 0, 0, 0, 0, 0, 0, 0, 0, 0, 0, 0, 0, 0, 0, 0, 0, 0, 0, 0, 0, 0,
-        ],
-        "",
+        "0000000000000000000000000000000000000000000000000000000000000000000000000000000000000000000000000000000000000000:",
     ),
 ];
 
 #[test]
-fn records_are_shown_by_their_fields(rt: HostRuntime) -> Result<(), Fail> {
-    assert_eq!(rt; first_wrong(rt.alloc(), &RECORDS)?, None);
+fn values_are_shown(rt: HostRuntime) -> Result<(), Fail> {
+    for (shown, case) in &CASES {
+        let (payload, text) = split(rt.alloc(), case, ':')?;
+        let mut out = Vec::new(rt.alloc());
+        push_value(*shown, &payload, &mut out)?;
+        assert!(rt; out.as_slice() == text.as_bytes(), "{case}");
+    }
     Ok(())
 }
 

@@ -1,8 +1,8 @@
 use Rattle.std.proofs.Common.{◌≡◌, true, ◌+◌, ◌-◌, ◌++◌, length, take, drop, min, sym, ap, ◌∙◌, arith}
 use borrow.Rule.Slice.PartMut.{put_mid}
 use Rattle.netlink_packet_core_grammar.specs.Attributes.{nla_align}
-use Rattle.netlink_packet_core_grammar.specs.Frames.{frame_length}
-use Rattle.link_capture_numbers.specs.Cleared.{is_frame, first_frame_cleared, numbers_cleared}
+use Rattle.netlink_packet_core_grammar.specs.Frames.{frame_length, is_frame}
+use Rattle.link_capture_numbers.specs.Cleared.{first_frame_cleared, numbers_cleared}
 use Rattle.link_capture_numbers.proofs.RestOfText.{put_rest, put_mid_rest, kept_size, stepped}
 use Rattle.link_capture_numbers.proofs.clearing.clear_numbers.Goals as goal
 

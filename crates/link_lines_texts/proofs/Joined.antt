@@ -25,7 +25,7 @@ find_joined k (t ∷ ts) (u ∷ us) h =
     found_by t.1 u.1 (find k (joined ts us)) _ (t.0 == k) (find_joined k ts us parts.1) (find k ts) (find k us) refl
     ∙ ap (λ n. first_name (cond (t.0 == k) t.1 (find k ts)) (cond (n == k) u.1 (find k us))) (eqb-true t.0 u.0 parts.0)
 
-are_alike : (n : ℕ) → n < 4 → alike (get_or family_names n []) link_rows ≡ true
+are_alike : (n : ℕ) → n < 4 → alike link_rows (get_or family_names n []) ≡ true
 unfolding family_names link_rows
 are_alike zero h = refl
 are_alike (suc zero) h = refl
@@ -34,7 +34,7 @@ are_alike (suc (suc (suc zero))) h = refl
 are_alike (suc (suc (suc (suc n)))) h = absurd (omega (arith, h))
 
 -- A name in the entries of a link.
-link_is : (n : ℕ) → n < 4 → get_or link_names n [] ≡ joined (get_or family_names n []) link_rows
+link_is : (n : ℕ) → n < 4 → get_or link_names n [] ≡ joined link_rows (get_or family_names n [])
 unfolding link_names family_names
 link_is zero h = refl
 link_is (suc zero) h = refl
@@ -42,8 +42,8 @@ link_is (suc (suc zero)) h = refl
 link_is (suc (suc (suc zero))) h = refl
 link_is (suc (suc (suc (suc n)))) h = absurd (omega (arith, h))
 
-pub link_found : (k n : ℕ) → n < 4 → find k (get_or link_names n []) ≡ first_name (find k (get_or family_names n [])) (find k link_rows)
-link_found k n h = ap (find k) (link_is n h) ∙ find_joined k (get_or family_names n []) link_rows (are_alike n h)
+pub link_found : (k n : ℕ) → n < 4 → find k (get_or link_names n []) ≡ first_name (find k link_rows) (find k (get_or family_names n []))
+link_found k n h = ap (find k) (link_is n h) ∙ find_joined k link_rows (get_or family_names n []) (are_alike n h)
 
 -- The entries of a link's table.
 pub of_family : (n : ℕ) → LINK_UNSPEC.0 ≤ n → n < LINK_INFO.0 → attribute_names_of n ≡ get_or link_names (n - LINK_UNSPEC.0) []

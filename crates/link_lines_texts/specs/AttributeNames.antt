@@ -70,7 +70,7 @@ joined (t ∷ ts) (u ∷ us) = (t.0, first_name t.1 u.1) ∷ joined ts us
 
 -- The names in each table of links: of no family, of bridges, of IPv6, of every other family; and those of link info.
 unfoldable pub link_names : List (List AttributeRow)
-link_names = map (λ own. joined own link_rows) family_names ++ info_attribute_names ∷ []
+link_names = map (λ own. joined link_rows own) family_names ++ info_attribute_names ∷ []
 
 -- The names in a table.
 unfoldable pub attribute_names_of : ℕ → List AttributeRow

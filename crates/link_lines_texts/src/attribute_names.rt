@@ -155,16 +155,16 @@ pub(crate) fn info_attribute_names() -> &'static [AttributeRow]
     INFO_ATTRIBUTE_NAMES
 }
 
-/// Returns the name of a kind of a link's attribute: that of the family's row, else that of the row
-/// for all families.
+/// Returns the name of a kind of a link's attribute: that of the row for all families, as most are,
+/// else that of the family's row.
 fn link_attribute_name(family: u8, kind: u16) -> Option<&'static Name>
     requires { family < 4 }
     ensures { option_map (λ name. viewed (λ b. b.now) name.now) result
         ≡ find kind (get_or link_names family []) }
 {
-    match look_up(family_names(family), kind) {
+    match look_up(link_rows(), kind) {
         Some(name) => Some(name),
-        None => look_up(link_rows(), kind),
+        None => look_up(family_names(family), kind),
     }
 }
 

@@ -8,12 +8,12 @@ use Rattle.link_lines_texts.proofs.attribute_names.link_attribute_name.Goals as 
 pub returns-in-Some : goal.returns-in-Some
 returns-in-Some c =
     let own = get_or family_names c.args.family [] in
-    ap (λ o. first_name o (find c.args.kind link_rows)) (at_kind c.args.kind (Some c.in-Some.name) c.family_names.result.now own c.in-Some.ensures c.family_names.ensures.attribute_names)
+    ap (λ o. first_name o (find c.args.kind own)) (at_kind c.args.kind (Some c.in-Some.name) c.link_rows.result.now link_rows c.in-Some.ensures c.link_rows.ensures.attribute_names)
     ∙ sym (link_found c.args.kind c.args.family c.requires)
 
 pub returns-in-None : goal.returns-in-None
 returns-in-None c =
     let own = get_or family_names c.args.family [] in
-    at_kind c.args.kind c.look_up-in-None.result c.link_rows.result.now link_rows c.look_up-in-None.ensures c.link_rows.ensures.attribute_names
-    ∙ ap (λ o. first_name o (find c.args.kind link_rows)) (at_kind c.args.kind None c.family_names.result.now own c.in-None.ensures c.family_names.ensures.attribute_names)
+    at_kind c.args.kind c.look_up-in-None.result c.family_names.result.now own c.look_up-in-None.ensures c.family_names.ensures.attribute_names
+    ∙ ap (λ o. first_name o (find c.args.kind own)) (at_kind c.args.kind None c.link_rows.result.now link_rows c.in-None.ensures c.link_rows.ensures.attribute_names)
     ∙ sym (link_found c.args.kind c.args.family c.requires)

@@ -156,11 +156,11 @@ def build(name, dependencies, folder):
         shutil.copy(cache_file, folder)
         return
     with tempfile.TemporaryDirectory(prefix="linkcap-build-") as work:
-        repository = Path(work)
-        is_ready = is_static and is_proved(libraries)
+        repository, file = Path(work), TOP / "crates" / name / "out" / file_name
+        is_ready = is_proved(libraries) and (is_static or file.is_file())
         if not is_ready:
             prove(libraries if is_static else [*libraries, name], repository)
-        file = repository / "crates" / name / "out" / file_name
+            file = repository / "crates" / name / "out" / file_name
         if is_static:
             report("building " + file_name)
             copy_crate(name, repository)

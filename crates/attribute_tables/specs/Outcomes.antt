@@ -1,6 +1,6 @@
 -- Properties of the result of a reader, for contracts.
-use Rattle.std.specs.Prelude.{◌≡◌, ℕ, Bool, true, false, List, map, Option, Some, Result, IsTrue, IfSome, IfOk, IfErr}
-use Rattle.std.specs.Prelude.{MatchResult, Vec}
+use Rattle.std.specs.Prelude.{◌≡◌, ◌<◌, ℕ, Bool, true, false, List, map, Option, Some, Result, IsTrue, IfSome, IfOk, IfErr}
+use Rattle.std.specs.Prelude.{MatchResult, Vec, length}
 use Rattle.netlink_packet_core_grammar.specs.Attributes.{Attribute}
 use Rattle.netlink_packet_core.specs.declared.DecodeError.{DecodeError}
 use Rattle.netlink_packet_core.specs.Errors.{is_memory}
@@ -30,6 +30,14 @@ IfMemory result P = IfErr result (λ e. is_memory e ≡ true → P)
 abbrev pub IsWrittenBy : {V : Type 0} → Result V DecodeError → (V → List ℕ) → (V → Bool) → Rule → List ℕ → Type 0
 IsWrittenBy result text fits rule bytes =
     IfOk result (λ v. (text v ≡ rule.canonical bytes) × (fits v ≡ rule.fits bytes))
+
+-- A payload was read: the value is written by the rule, and is the variant of its row; memory runs out only for a
+-- payload that isn't empty.
+pub record IsPayloadRead {V : Type 0} (result : Result V DecodeError) (text : V → List ℕ) (fits : V → Bool)
+    (names_row : V → Type 0) (rule : Rule) (bytes : List ℕ) : Type 0 where
+  pub written : IsWrittenBy result text fits rule bytes
+  pub is_row_variant : IfOk result names_row
+  pub not_empty : IfMemory result (0 < length bytes)
 
 -- A list that was read is written as the rule's canonical encoding of the bytes, and fits if and only if that does.
 abbrev pub ListIsWrittenBy : {V Z : Type 0} → Result (Vec V Z) DecodeError → (V → Attribute) → (V → Bool) → Rule →

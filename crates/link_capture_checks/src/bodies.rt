@@ -15,10 +15,7 @@ use link_capture_grammar::fault::FaultKind;
 use link_capture_grammar::link_types::{RTM_NEWLINK, RTM_SETLINK};
 use link_interpreter::append;
 use link_message_checks::{walk_body, write_body};
-use netlink_packet_core::{NLMSG_DONE, NLMSG_ERROR, NLMSG_NOOP};
-
-/// The size of the code at the start of the body of a DONE or an ERROR message, in bytes.
-const CODE_LEN: usize = 4;
+use netlink_packet_core::{CODE_LEN, NLMSG_DONE, NLMSG_ERROR, NLMSG_NOOP};
 
 /// The code of a DONE message with an empty body.
 const NO_CODE: [u8; CODE_LEN] = [0; CODE_LEN];

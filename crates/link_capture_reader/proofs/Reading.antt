@@ -1,5 +1,5 @@
 -- The strings that a reader is consistent with, after another piece.
-use Rattle.std.proofs.Common.{◌≡◌, ◌≢◌, ℕ, ◌+◌, ◌-◌, ◌^◌, ◌<◌, ◌≤◌, ◌⊎◌, inl, inr, Option, None, Some, Result, IfErr, Ok, Err, List, [], ◌++◌, length, take, drop, sym, ap, subst, ◌∙◌, refl, arith, length-append}
+use Rattle.std.proofs.Common.{◌≡◌, ◌≢◌, ℕ, ◌+◌, ◌-◌, ◌^◌, ◌<◌, ◌≤◌, ◌⊎◌, inl, inr, Option, None, Some, Err, List, [], ◌++◌, length, take, drop, sym, ap, subst, ◌∙◌, refl, arith, length-append}
 use Rattle.std.proofs.lemmas.List.{length-drop, append-nil, drop_all, drop-append-le, nil_from_length}
 use Rattle.std.proofs.Math.Seq.{drop-append-add}
 use Rattle.netlink_packet_core_grammar.specs.Attributes.{nla_align}
@@ -175,11 +175,6 @@ resumes_reader go independent limit accepted c kept owed h l r =
             failed = tt;
           }
     ]
-
--- two clauses about one `Err`
-pub IfErr-both : {T E : Type 0} (r : Result T E) (P Q R : E → Type 0) → ((e : E) → P e → Q e → R e) → IfErr r P → IfErr r Q → IfErr r R
-IfErr-both (Ok x) P Q R f p q = tt
-IfErr-both (Err e) P Q R f p q = f e p q
 
 -- a reader after a fault
 pub failed_reader : (limit accepted offset : ℕ) → 16 ≤ limit → IsReader (record { limit = limit; accepted = accepted; kept = []; owed = 0; failed = Some offset })

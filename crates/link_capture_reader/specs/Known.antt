@@ -4,6 +4,7 @@ use Rattle.link_capture_reader.specs.declared.sources.SliceSource.{SliceSource}
 use Rattle.link_capture_reader.specs.declared.sources.ReadSource.{ReadSource}
 use Rattle.link_capture_reader.specs.declared.sinks.VecSink.{VecSink}
 use Rattle.link_capture_reader.specs.declared.sinks.WriteSink.{WriteSink}
+use Rattle.link_capture_reader.specs.declared.files.HostFiles.{HostFiles}
 
 -- The bytes of a slice that are still to come.
 abbrev pub slice_rest : SliceSource → List ℕ
@@ -44,3 +45,7 @@ sink_writer s = s.writer
 -- How often the writer of a sink failed.
 abbrev pub sink_failures : {W : Type 0} → WriteSink W → ℕ
 sink_failures s = s.failures
+
+-- How often the file system of the process was asked for a file.
+abbrev pub host_asked : HostFiles → ℕ
+host_asked files = files.asked

@@ -1,7 +1,9 @@
 pub mod Readers
 pub mod Walks
 pub mod Joined
+pub mod NormalTexts
 pub mod Devices
+pub mod Files
 pub mod Known
 pub mod Outcomes
 pub mod States

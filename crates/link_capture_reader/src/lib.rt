@@ -4,6 +4,7 @@
 
 mod devices;
 mod engine;
+mod files;
 mod first;
 mod frames;
 mod pieces;
@@ -15,6 +16,7 @@ mod whole;
 
 pub use devices::{DeviceFailed, Sink, Source};
 pub use engine::{normalize, read_all, read_all_keeping_first, write_all};
+pub use files::{FileSystem, HostFiles};
 pub use first::{FirstBytes, keep_first};
 pub use reader::CaptureReader;
 pub use reporting::report_text;

@@ -1,4 +1,4 @@
-//! One more piece of a capture: the bytes of the cut frame, and those that come after them.
+//! What is held between two pieces of a capture, and how it is continued by one more piece.
 
 ghost use Rattle.std.specs.Prelude.{◌≡◌, ◌≢◌, ◌+◌, ◌-◌, ◌^◌, ◌<◌, ◌≤◌, ◌++◌, ◌⊎◌, ℕ, List, [], length, take, max, IfOk};
 ghost use Rattle.std.specs.Prelude.{IfErr, OnOk, OnErr, Err};
@@ -107,144 +107,186 @@ fn complete_frame(kept: &mut Vec<u8>, piece: &[u8], limit: u32) -> Result<usize,
     Ok(header + more)
 }
 
-/// Reads bytes at the offset `start` of the capture: appends the texts of their whole frames to
-/// `out`, and the bytes of a cut one to `kept`. Returns how many bytes of padding are owed then.
-fn read_frames(
-    start: u64,
-    kept: &mut Vec<u8>,
-    bytes: &[u8],
-    limit: u32,
-    out: &mut Vec<u8>,
-) -> Result<usize, CaptureFault>
-    requires limit { 16 ≤ limit }
-    requires empty { kept.old.items ≡ [] }
-    requires fits { start + length bytes.now < 2 ^ 64 }
-    ensures ok { IfOk result
-        (λ owed. ReadsTo limit bytes.now out.old.items out.new.items kept.new.items owed) }
-    ensures fault { IfErr result
-        (λ fault. Faults limit start bytes.now out.old.items out.new.items fault) }
-    ensures memory { IfErr result
-        (λ fault. RunsOutOfMemory limit start bytes.now out.old.items out.new.items fault) }
-    ensures capacity { IfErr result (λ fault. MemoryFaultIsJustified limit start bytes.now fault out.old) }
-{
-    match push_frames(bytes, limit, out) {
-        Ok(()) => Ok(padding(bytes.len())),
-        Err(fault) => match fault.kind {
-            FaultKind::Cut => match kept.extend_from_slice(&bytes[fault.offset as usize..]) {
-                Ok(()) => Ok(0),
+/// What a reader holds between two pieces of a capture.
+#[derive(Drop)]
+pub(crate) struct Pending {
+    /// The greatest length of a message in bytes, as read and as written.
+    pub(crate) limit: u32,
+    /// The number of bytes accepted.
+    pub(crate) accepted: u64,
+    /// The bytes of the cut frame: none if no frame is cut.
+    pub(crate) kept: Vec<u8>,
+    /// The number of bytes of padding that are still due.
+    pub(crate) owed: usize,
+}
+
+impl Pending {
+    /// Returns Ok if the capture, continued by `piece`, has no fault other than a cut frame. Appends
+    /// the texts of the frames that are now whole to `out`, and accepts the bytes of the piece.
+    ///
+    /// # Errors
+    ///
+    /// The first fault of the capture so far, other than a cut frame; `Memory` at a frame, if an
+    /// allocation fails; or `TooLong`, at the number of bytes accepted, if these and the piece
+    /// together are more than `u64::MAX`. Then the piece isn't accepted, and what is kept and owed
+    /// is unspecified.
+    pub(crate) fn accept(&mut self, piece: &[u8], out: &mut Vec<u8>) -> Result<(), CaptureFault>
+        requires reader { IsReader
+            (unfailed self.old.limit self.old.accepted self.old.kept.items self.old.owed) }
+        ensures fits { OnOk result (self.old.accepted + length piece.now < 2 ^ 64) }
+        ensures reader { OnOk result (IsReader
+            (unfailed self.new.limit self.new.accepted self.new.kept.items self.new.owed)) }
+        ensures ok { OnOk result ((s : List ℕ) → self.old.accepted ≡ length s
+            → Resumes (first_fault self.old.limit s) s self.old.kept.items self.old.owed
+            → Resumes (first_fault self.old.limit (s ++ piece.now)) (s ++ piece.now)
+            self.new.kept.items self.new.owed
+            × Gains self.old.limit s (s ++ piece.now) out.old.items out.new.items) }
+        ensures fault { IfErr result (λ fault. (s : List ℕ) → self.old.accepted ≡ length s
+            → Resumes (first_fault self.old.limit s) s self.old.kept.items self.old.owed
+            → FeedFault self.old.limit s piece.now out.old.items out.new.items
+            fault.kind fault.offset) }
+        ensures capacity { IfErr result (λ fault. self.old.kept.items ≡ [] → self.old.owed ≡ 0
+            → MemoryFaultIsJustified self.old.limit self.old.accepted piece.now fault out.old) }
+        ensures accepted { OnOk result (self.new.accepted ≡ self.old.accepted + length piece.now) }
+        ensures not_accepted { OnErr result (self.new.accepted ≡ self.old.accepted) }
+        ensures limit { self.new.limit ≡ self.old.limit }
+    {
+        if piece.len() as u64 > u64::MAX - self.accepted {
+            return Err(CaptureFault {
+                kind: FaultKind::TooLong,
+                offset: self.accepted,
+            });
+        }
+        frames_are_independent();
+        captures_unfold_by_frames();
+        faults_are_at_frames();
+        if piece.len() <= self.owed {
+            self.owed -= piece.len();
+        } else {
+            let start = self.accepted + self.owed as u64 - self.kept.len() as u64;
+            let bytes = &piece[self.owed..];
+            self.owed = 0;
+            self.resume_frame(start, bytes, out)?;
+        }
+        self.accepted += piece.len() as u64;
+        Ok(())
+    }
+
+    /// Returns Ok if the bytes of the cut frame, at the offset `start` of the capture, and `bytes`
+    /// after them have no fault other than a cut frame. Appends the texts of the frames that are
+    /// now whole to `out`, and keeps the bytes of a frame that is cut then.
+    ///
+    /// # Errors
+    ///
+    /// The first fault of these bytes, other than a cut frame; or `Memory` at a frame, if an
+    /// allocation fails.
+    fn resume_frame(
+        &mut self,
+        start: u64,
+        bytes: &[u8],
+        out: &mut Vec<u8>,
+    ) -> Result<(), CaptureFault>
+        requires limit { 16 ≤ self.old.limit }
+        requires owed { self.old.owed ≡ 0 }
+        requires cut { first_frame self.old.limit self.old.kept.items ≡ Err FaultKind.Cut }
+        requires more { 0 < length bytes.now }
+        requires fits { start + (length self.old.kept.items + length bytes.now) < 2 ^ 64 }
+        ensures ok { OnOk result (ReadsTo self.old.limit (self.old.kept.items ++ bytes.now)
+            out.old.items out.new.items self.new.kept.items self.new.owed) }
+        ensures fault { IfErr result (λ fault. Faults self.old.limit start
+            (self.old.kept.items ++ bytes.now) out.old.items out.new.items fault) }
+        ensures memory { IfErr result (λ fault. RunsOutOfMemory self.old.limit start
+            (self.old.kept.items ++ bytes.now) out.old.items out.new.items fault) }
+        ensures capacity { IfErr result (λ fault. self.old.kept.items ≡ []
+            → MemoryFaultIsJustified self.old.limit start bytes.now fault out.old) }
+        ensures limit { self.new.limit ≡ self.old.limit }
+        ensures accepted { self.new.accepted ≡ self.old.accepted }
+    {
+        if self.kept.is_empty() {
+            return self.read_frames(start, bytes, out);
+        }
+        frames_are_independent();
+        captures_unfold_by_frames();
+        if let Err(kind) = judge_header(self.kept.as_slice(), bytes, self.limit) {
+            return Err(CaptureFault {
+                kind,
+                offset: start,
+            });
+        }
+        let Ok(moved) = complete_frame(&mut self.kept, bytes, self.limit) else {
+            return Err(CaptureFault {
+                kind: FaultKind::Memory,
+                offset: start,
+            });
+        };
+        match push_frame(self.kept.as_slice(), self.limit, out) {
+            Ok(size) => {
+                self.kept.clear();
+                let owed = padding(size);
+                let left = bytes.len() - moved;
+                if left <= owed {
+                    self.owed = owed - left;
+                    return Ok(());
+                }
+                let start = start + (size + owed) as u64;
+                self.read_frames(start, &bytes[moved + owed..], out)
+            }
+            Err(kind) => match kind {
+                FaultKind::Cut => Ok(()),
+                kind => Err(CaptureFault {
+                    kind,
+                    offset: start,
+                }),
+            },
+        }
+    }
+
+    /// Returns Ok if `bytes`, at the offset `start` of the capture, have no fault other than a cut
+    /// frame. Appends the texts of their whole frames to `out`, and keeps the bytes of a cut one.
+    ///
+    /// # Errors
+    ///
+    /// The first fault of these bytes, other than a cut frame; or `Memory` at a frame, if an
+    /// allocation fails.
+    fn read_frames(
+        &mut self,
+        start: u64,
+        bytes: &[u8],
+        out: &mut Vec<u8>,
+    ) -> Result<(), CaptureFault>
+        requires limit { 16 ≤ self.old.limit }
+        requires owed { self.old.owed ≡ 0 }
+        requires empty { self.old.kept.items ≡ [] }
+        requires fits { start + length bytes.now < 2 ^ 64 }
+        ensures ok { OnOk result (ReadsTo self.old.limit bytes.now
+            out.old.items out.new.items self.new.kept.items self.new.owed) }
+        ensures fault { IfErr result (λ fault. Faults self.old.limit start bytes.now
+            out.old.items out.new.items fault) }
+        ensures memory { IfErr result (λ fault. RunsOutOfMemory self.old.limit start bytes.now
+            out.old.items out.new.items fault) }
+        ensures capacity { IfErr result
+            (λ fault. MemoryFaultIsJustified self.old.limit start bytes.now fault out.old) }
+        ensures limit { self.new.limit ≡ self.old.limit }
+        ensures accepted { self.new.accepted ≡ self.old.accepted }
+    {
+        let Err(fault) = push_frames(bytes, self.limit, out) else {
+            self.owed = padding(bytes.len());
+            return Ok(());
+        };
+        let offset = start + fault.offset;
+        match fault.kind {
+            FaultKind::Cut => match self.kept.extend_from_slice(&bytes[fault.offset as usize..]) {
+                Ok(()) => Ok(()),
                 Err(_) => {
                     captures_unfold_by_frames();
                     frames_are_independent();
                     Err(CaptureFault {
                         kind: FaultKind::Memory,
-                        offset: start + fault.offset,
+                        offset,
                     })
                 }
             },
-            kind => Err(CaptureFault {
-                kind,
-                offset: start + fault.offset,
-            }),
-        },
-    }
-}
-
-/// Continues with the bytes of a cut frame, at the offset `start` of the capture, and those that
-/// come after them.
-fn resume_frame(
-    start: u64,
-    kept: &mut Vec<u8>,
-    bytes: &[u8],
-    limit: u32,
-    out: &mut Vec<u8>,
-) -> Result<usize, CaptureFault>
-    requires limit { 16 ≤ limit }
-    requires cut { first_frame limit kept.old.items ≡ Err FaultKind.Cut }
-    requires more { 0 < length bytes.now }
-    requires fits { start + (length kept.old.items + length bytes.now) < 2 ^ 64 }
-    ensures ok { IfOk result (λ owed. ReadsTo limit (kept.old.items ++ bytes.now)
-        out.old.items out.new.items kept.new.items owed) }
-    ensures fault { IfErr result (λ fault. Faults limit start (kept.old.items ++ bytes.now)
-        out.old.items out.new.items fault) }
-    ensures memory { IfErr result (λ fault. RunsOutOfMemory limit start (kept.old.items ++ bytes.now)
-        out.old.items out.new.items fault) }
-    ensures capacity { IfErr result
-        (λ fault. kept.old.items ≡ [] → MemoryFaultIsJustified limit start bytes.now fault out.old) }
-{
-    if kept.is_empty() {
-        return read_frames(start, kept, bytes, limit, out);
-    }
-    frames_are_independent();
-    captures_unfold_by_frames();
-    if let Err(kind) = judge_header(kept.as_slice(), bytes, limit) {
-        return Err(CaptureFault {
-            kind,
-            offset: start,
-        });
-    }
-    let Ok(moved) = complete_frame(kept, bytes, limit) else {
-        return Err(CaptureFault {
-            kind: FaultKind::Memory,
-            offset: start,
-        });
-    };
-    match push_frame(kept.as_slice(), limit, out) {
-        Ok(size) => {
-            kept.clear();
-            let owed = padding(size);
-            let left = bytes.len() - moved;
-            if left <= owed {
-                return Ok(owed - left);
-            }
-            let start = start + (size + owed) as u64;
-            read_frames(start, kept, &bytes[moved + owed..], limit, out)
+            kind => Err(CaptureFault { kind, offset }),
         }
-        Err(kind) => match kind {
-            FaultKind::Cut => Ok(0),
-            kind => Err(CaptureFault {
-                kind,
-                offset: start,
-            }),
-        },
     }
-}
-
-/// Accepts a piece after `accepted` bytes, of which `kept` has those of the cut frame; `owed` bytes
-/// of padding are owed. Returns how many bytes of padding are owed then.
-pub(crate) fn accept_piece(
-    accepted: u64,
-    kept: &mut Vec<u8>,
-    owed: usize,
-    piece: &[u8],
-    limit: u32,
-    out: &mut Vec<u8>,
-) -> Result<usize, CaptureFault>
-    requires reader { IsReader (unfailed limit accepted kept.old.items owed) }
-    ensures fits { OnOk result (accepted + length piece.now < 2 ^ 64) }
-    ensures reader { IfOk result
-        (λ more. IsReader (unfailed limit (accepted + length piece.now) kept.new.items more)) }
-    ensures ok { IfOk result (λ more. (s : List ℕ) → accepted ≡ length s
-        → Resumes (first_fault limit s) s kept.old.items owed
-        → Resumes (first_fault limit (s ++ piece.now)) (s ++ piece.now) kept.new.items more
-        × Gains limit s (s ++ piece.now) out.old.items out.new.items) }
-    ensures fault { IfErr result (λ fault. (s : List ℕ) → accepted ≡ length s
-        → Resumes (first_fault limit s) s kept.old.items owed
-        → FeedFault limit s piece.now out.old.items out.new.items fault.kind fault.offset) }
-    ensures capacity { IfErr result (λ fault. kept.old.items ≡ [] → owed ≡ 0
-        → MemoryFaultIsJustified limit accepted piece.now fault out.old) }
-{
-    if piece.len() as u64 > u64::MAX - accepted {
-        return Err(CaptureFault {
-            kind: FaultKind::TooLong,
-            offset: accepted,
-        });
-    }
-    frames_are_independent();
-    captures_unfold_by_frames();
-    faults_are_at_frames();
-    if piece.len() <= owed {
-        return Ok(owed - piece.len());
-    }
-    let start = accepted + owed as u64 - kept.len() as u64;
-    resume_frame(start, kept, &piece[owed..], limit, out)
 }

@@ -4,7 +4,7 @@ ghost use Rattle.std.specs.Prelude.{◌≡◌, ◌+◌, ◌^◌, ◌<◌, ◌≤
 ghost use Rattle.link_capture_grammar.specs.Captures.{first_fault};
 ghost use Rattle.link_capture_reader.specs.Readers.{ReaderState, IsReader, IsConsistentWith, Gains, FeedFault, MemoryFaultIsJustified};
 
-use super::pieces::accept_piece;
+use super::pieces::Pending;
 use link_capture_grammar::fault::{CaptureFault, FaultKind};
 use link_capture_grammar::laws::faults_are_at_frames;
 use std::alloc::Global;
@@ -18,10 +18,7 @@ use std::marker::Model;
 /// string that is consistent with the pieces fed, not over a history of calls.
 #[derive(Drop)]
 pub struct CaptureReader {
-    limit: u32,
-    accepted: u64,
-    kept: Vec<u8>,
-    owed: usize,
+    pending: Pending,
     failed: Option<u64>,
 }
 
@@ -29,18 +26,18 @@ impl Model for CaptureReader {
     ghost Value = { ReaderState };
 
     ghost view = { λ r. record {
-      limit = r.limit;
-      accepted = r.accepted;
-      kept = r.kept.items;
-      owed = r.owed;
+      limit = r.pending.limit;
+      accepted = r.pending.accepted;
+      kept = r.pending.kept.items;
+      owed = r.pending.owed;
       failed = r.failed;
     } };
 
     ghost invariant = { λ r. IsReader (record {
-      limit = r.limit;
-      accepted = r.accepted;
-      kept = r.kept.items;
-      owed = r.owed;
+      limit = r.pending.limit;
+      accepted = r.pending.accepted;
+      kept = r.pending.kept.items;
+      owed = r.pending.owed;
       failed = r.failed;
     }) };
 }
@@ -55,10 +52,12 @@ impl CaptureReader {
         ensures start { (result.accepted ≡ 0) × (result.kept ≡ []) × (result.owed ≡ 0) }
     {
         CaptureReader {
-            limit,
-            accepted: 0,
-            kept: Vec::new(alloc),
-            owed: 0,
+            pending: Pending {
+                limit,
+                accepted: 0,
+                kept: Vec::new(alloc),
+                owed: 0,
+            },
             failed: None,
         }
     }
@@ -100,20 +99,13 @@ impl CaptureReader {
                 offset,
             });
         }
-        let kept = &mut self.kept;
-        match accept_piece(self.accepted, kept, self.owed, piece, self.limit, out) {
-            Ok(owed) => {
-                self.owed = owed;
-                self.accepted += piece.len() as u64;
-                Ok(())
-            }
-            Err(fault) => {
-                self.kept.clear();
-                self.owed = 0;
-                self.failed = Some(fault.offset);
-                Err(fault)
-            }
+        if let Err(fault) = self.pending.accept(piece, out) {
+            self.pending.kept.clear();
+            self.pending.owed = 0;
+            self.failed = Some(fault.offset);
+            return Err(fault);
         }
+        Ok(())
     }
 
     /// Ends the capture. Returns Ok if it is legal.
@@ -137,12 +129,12 @@ impl CaptureReader {
             });
         }
         faults_are_at_frames();
-        if self.kept.is_empty() {
+        if self.pending.kept.is_empty() {
             return Ok(());
         }
         Err(CaptureFault {
             kind: FaultKind::Cut,
-            offset: self.accepted - self.kept.len() as u64,
+            offset: self.pending.accepted - self.pending.kept.len() as u64,
         })
     }
 
@@ -151,7 +143,7 @@ impl CaptureReader {
     pub fn accepted(&self) -> u64
         ensures { result ≡ self.now.accepted }
     {
-        self.accepted
+        self.pending.accepted
     }
 
     /// Returns how many bytes of the cut frame have come: 0 if no frame is cut, and after a fault.
@@ -160,7 +152,7 @@ impl CaptureReader {
         ensures bound { result < self.now.limit }
         ensures failed { IfSome self.now.failed (λ _. result ≡ 0) }
     {
-        self.kept.len()
+        self.pending.kept.len()
     }
 
     /// Returns the bytes of the cut frame that have come: none if no frame is cut, and after a
@@ -169,6 +161,6 @@ impl CaptureReader {
         ensures value { result.now ≡ self.now.kept }
         ensures failed { IfSome self.now.failed (λ _. result.now ≡ []) }
     {
-        self.kept.as_slice()
+        self.pending.kept.as_slice()
     }
 }

@@ -1,9 +1,8 @@
 //! The normal text of a whole capture.
 
-ghost use Rattle.std.specs.Prelude.{◌≡◌, ◌≢◌, ◌≤◌, ◌*◌, ◌%◌, length, take, Some, IfErr, OnOk};
-ghost use Rattle.link_capture_grammar.specs.Captures.{first_fault, texts, IsLegal, StopsAt};
-ghost use Rattle.link_capture_grammar.specs.Same.{SameCapture};
-ghost use Rattle.link_capture_reader.specs.Joined.{IsJoined};
+ghost use Rattle.std.specs.Prelude.{◌≡◌, ◌≢◌, ◌≤◌, take, Some, IfErr, OnOk};
+ghost use Rattle.link_capture_grammar.specs.Captures.{first_fault, IsLegal, StopsAt};
+ghost use Rattle.link_capture_reader.specs.NormalTexts.{HasNormalText};
 ghost use Rattle.link_capture_reader.specs.Readers.{GainsTexts, IsFrameOffsetOf, LacksCapacityAt};
 
 use super::frames::push_frames;
@@ -33,9 +32,8 @@ pub fn normalize_bytes(bytes: &[u8], limit: u32, out: &mut Vec<u8>) -> Result<()
         × GainsTexts limit bytes.now out.old out.new) }
     // A fault is inside the capture, at a multiple of 4.
     ensures offset { IfErr result (λ fault. IsFrameOffsetOf bytes.now fault.offset) }
-    // A normal text is legal, and already canonical.
-    ensures normal { IsLegal limit (texts limit bytes.now)
-        × (texts limit (texts limit bytes.now) ≡ texts limit bytes.now) }
+    // The normal text is legal, canonical, equivalent, and at most 77 times as long.
+    ensures text { HasNormalText limit bytes.now }
     // If memory ran out, the bytes before the offset are legal, and their texts are written.
     ensures memory { IfErr result
         (λ fault. fault.kind ≡ FaultKind.Memory → StopsAt limit bytes.now fault.offset
@@ -44,14 +42,6 @@ pub fn normalize_bytes(bytes: &[u8], limit: u32, out: &mut Vec<u8>) -> Result<()
     // and the texts before it need.
     ensures capacity { IfErr result
         (λ fault. fault.kind ≡ FaultKind.Memory → LacksCapacityAt limit bytes.now fault.offset out.old) }
-    // A legal capture and its normal text mean the same.
-    ensures same { IsLegal limit bytes.now → SameCapture limit bytes.now (texts limit bytes.now) }
-    // A normal text is at most 77 times as long.
-    ensures small { length (texts limit bytes.now) ≤ 77 * length bytes.now }
-    // Bytes that follow a legal capture whose size is a multiple of 4 are judged and written
-    // independently.
-    ensures joined { IsLegal limit bytes.now → length bytes.now % 4 ≡ 0
-        → IsJoined limit bytes.now }
 {
     texts_are_legal();
     texts_are_normal();

@@ -1,4 +1,5 @@
 pub mod Data
 pub mod PortData
+pub mod Outcomes
 pub mod Xstats
 pub mod Laws

@@ -1,10 +1,11 @@
 //! The data of a kind of link (if_link.h, IFLA_INFO_DATA).
 
-ghost use Rattle.std.specs.Prelude.{◌≡◌, ◌<◌, false, true, length, IfOk};
+ghost use Rattle.std.specs.Prelude.{◌≡◌, false, true};
 ghost use Rattle.netlink_packet_core.specs.Errors.{is_memory};
-ghost use Rattle.link_info_data.specs.Data.{info_data_entry, info_data_fits, info_data_payload, info_data_is_row_variant};
+ghost use Rattle.link_info_data.specs.Data.{info_data_entry, info_data_fits};
 ghost use Rattle.link_info_data.specs.Data.{data_rule_of, data_rule_of_under};
-ghost use Rattle.attribute_tables.specs.Outcomes.{IfMemory, IsRefusedUnless, IsWrittenBy, SucceedsIf};
+ghost use Rattle.link_info_data.specs.Outcomes.{IsDataRead};
+ghost use Rattle.attribute_tables.specs.Outcomes.{IsRefusedUnless, SucceedsIf};
 
 use super::laws::{data_without_peers_have_one_rule, names_determine_rules};
 use crate::payloads::{emit_list, emit_one, list_len, one_len};
@@ -135,10 +136,7 @@ impl InfoData {
     // Reads the data of a kind; it may run out of memory before it reaches an invalid attribute.
     fn read(alloc: Global, payload: &[u8], kind: &InfoKind) -> Result<InfoData, DecodeError>
         ensures judged { SucceedsIf result ((data_rule_of kind.now).accepted payload.now) }
-        ensures written { IsWrittenBy result info_data_payload info_data_fits
-            (data_rule_of kind.now) payload.now }
-        ensures is_row_variant { IfOk result (λ d. info_data_is_row_variant kind.now d) }
-        ensures not_empty { IfMemory result (0 < length payload.now) }
+        ensures read { IsDataRead result kind.now (data_rule_of kind.now) payload.now }
     {
         match kind {
             InfoKind::Bridge => data!(Bridge, parse_family(alloc, payload)),
@@ -207,10 +205,7 @@ impl InfoData {
         kind: &InfoKind,
     ) -> Result<InfoData, DecodeError>
         ensures judged { IsRefusedUnless result ((data_rule_of kind.now).accepted payload.now) }
-        ensures written { IsWrittenBy result info_data_payload info_data_fits
-            (data_rule_of kind.now) payload.now }
-        ensures is_row_variant { IfOk result (λ d. info_data_is_row_variant kind.now d) }
-        ensures not_empty { IfMemory result (0 < length payload.now) }
+        ensures read { IsDataRead result kind.now (data_rule_of kind.now) payload.now }
     {
         match Self::read(alloc, payload, kind) {
             Ok(data) => Ok(data),
@@ -228,10 +223,7 @@ impl InfoData {
     ) -> Result<InfoData, DecodeError>
         ensures judged { SucceedsIf result
             ((data_rule_of_under R.peer kind.now).accepted payload.now) }
-        ensures written { IsWrittenBy result info_data_payload info_data_fits
-            (data_rule_of_under R.peer kind.now) payload.now }
-        ensures is_row_variant { IfOk result (λ d. info_data_is_row_variant kind.now d) }
-        ensures not_empty { IfMemory result (0 < length payload.now) }
+        ensures read { IsDataRead result kind.now (data_rule_of_under R.peer kind.now) payload.now }
     {
         match kind {
             InfoKind::Netkit => data!(Netkit, parse_netkit_with(alloc, payload, rule)),
@@ -259,10 +251,7 @@ impl InfoData {
     ) -> Result<InfoData, DecodeError>
         ensures judged { IsRefusedUnless result
             ((data_rule_of_under R.peer kind.now).accepted payload.now) }
-        ensures written { IsWrittenBy result info_data_payload info_data_fits
-            (data_rule_of_under R.peer kind.now) payload.now }
-        ensures is_row_variant { IfOk result (λ d. info_data_is_row_variant kind.now d) }
-        ensures not_empty { IfMemory result (0 < length payload.now) }
+        ensures read { IsDataRead result kind.now (data_rule_of_under R.peer kind.now) payload.now }
     {
         match Self::read_with(alloc, payload, kind, rule) {
             Ok(data) => Ok(data),

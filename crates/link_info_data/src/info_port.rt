@@ -1,9 +1,9 @@
 //! The data of a kind of port (if_link.h, IFLA_INFO_SLAVE_DATA).
 
-ghost use Rattle.std.specs.Prelude.{◌≡◌, ◌<◌, true, length, IfOk};
-ghost use Rattle.link_info_data.specs.PortData.{info_port_data_entry, info_port_data_fits, info_port_data_payload};
-ghost use Rattle.link_info_data.specs.PortData.{info_port_data_is_row_variant, port_data_rule_of};
-ghost use Rattle.attribute_tables.specs.Outcomes.{IfMemory, IsRefusedUnless, IsWrittenBy, SucceedsIf};
+ghost use Rattle.std.specs.Prelude.{◌≡◌, true};
+ghost use Rattle.link_info_data.specs.Outcomes.{IsPortDataRead};
+ghost use Rattle.link_info_data.specs.PortData.{info_port_data_entry, info_port_data_fits, port_data_rule_of};
+ghost use Rattle.attribute_tables.specs.Outcomes.{IsRefusedUnless, SucceedsIf};
 
 use super::laws::port_names_determine_rules;
 use crate::payloads::{emit_list, list_len};
@@ -49,10 +49,7 @@ impl InfoPortData {
     // attribute.
     fn read(alloc: Global, payload: &[u8], kind: &InfoPortKind) -> Result<InfoPortData, DecodeError>
         ensures judged { SucceedsIf result ((port_data_rule_of kind.now).accepted payload.now) }
-        ensures written { IsWrittenBy result info_port_data_payload info_port_data_fits
-            (port_data_rule_of kind.now) payload.now }
-        ensures is_row_variant { IfOk result (λ d. info_port_data_is_row_variant kind.now d) }
-        ensures not_empty { IfMemory result (0 < length payload.now) }
+        ensures read { IsPortDataRead result kind.now (port_data_rule_of kind.now) payload.now }
     {
         match kind {
             InfoPortKind::Bond => Ok(Self::BondPort(parse_family(alloc, payload)?)),
@@ -79,10 +76,7 @@ impl InfoPortData {
         kind: &InfoPortKind,
     ) -> Result<InfoPortData, DecodeError>
         ensures judged { IsRefusedUnless result ((port_data_rule_of kind.now).accepted payload.now) }
-        ensures written { IsWrittenBy result info_port_data_payload info_port_data_fits
-            (port_data_rule_of kind.now) payload.now }
-        ensures is_row_variant { IfOk result (λ d. info_port_data_is_row_variant kind.now d) }
-        ensures not_empty { IfMemory result (0 < length payload.now) }
+        ensures read { IsPortDataRead result kind.now (port_data_rule_of kind.now) payload.now }
     {
         let error = match Self::read(alloc, payload, kind) {
             Ok(data) => return Ok(data),

@@ -12,7 +12,7 @@ ghost use Rattle.link_info_kinds.specs.Kinds.{info_kind_accepted, info_kind_allo
 ghost use Rattle.link_info_kinds.specs.Kinds.{info_kind_text, info_kind_is_named, early_kinds, late_kinds, listed_kinds, IsNamedBy};
 
 use link_tables::IFLA_INFO_KIND;
-use netlink_packet_core::{DecodeError, Nla, NlaBuffer, Parseable, fill_text, parse_str};
+use netlink_packet_core::{DecodeError, Field, FieldNla, NlaBuffer, Parseable, parse_str};
 use std::alloc::Global;
 use std::fmt;
 
@@ -368,27 +368,11 @@ impl fmt::Display for InfoKind {
     }
 }
 
-impl Nla for InfoKind {
-    ghost entry = { info_kind_entry };
+impl FieldNla for InfoKind {
+    ghost field_entry = { info_kind_entry };
 
-    ghost inside_fits = { λ _. true };
-
-    #[tactic(auto, using(netlink_packet_core_grammar::proofs::Sizes::sizes))]
-    fn value_len(&self) -> usize {
-        self.as_str().len() + 1
-    }
-
-    fn kind(&self) -> u16 {
-        IFLA_INFO_KIND
-    }
-
-    #[tactic(auto, using(netlink_packet_core_grammar::proofs::Sizes::sizes))]
-    fn emit_value(&self, buffer: &mut [u8]) {
-        fill_text(buffer, self.as_str());
-    }
-
-    fn contents_fit(&self) -> bool {
-        true
+    fn field(&self) -> (u16, Field<'_>) {
+        (IFLA_INFO_KIND, Field::Text(self.as_str()))
     }
 }
 

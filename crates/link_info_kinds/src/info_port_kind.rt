@@ -13,7 +13,7 @@ ghost use Rattle.link_info_kinds.specs.PortKinds.{info_port_kind_entry, info_por
 ghost use Rattle.link_info_kinds.specs.PortKinds.{listed_port_kinds, IsPortNamedBy};
 
 use link_tables::IFLA_INFO_SLAVE_KIND;
-use netlink_packet_core::{DecodeError, Nla, NlaBuffer, Parseable, fill_text, parse_str};
+use netlink_packet_core::{DecodeError, Field, FieldNla, NlaBuffer, Parseable, parse_str};
 use std::alloc::Global;
 use std::fmt;
 
@@ -97,27 +97,11 @@ impl fmt::Display for InfoPortKind {
     }
 }
 
-impl Nla for InfoPortKind {
-    ghost entry = { info_port_kind_entry };
+impl FieldNla for InfoPortKind {
+    ghost field_entry = { info_port_kind_entry };
 
-    ghost inside_fits = { λ _. true };
-
-    #[tactic(auto, using(netlink_packet_core_grammar::proofs::Sizes::sizes))]
-    fn value_len(&self) -> usize {
-        self.as_str().len() + 1
-    }
-
-    fn kind(&self) -> u16 {
-        IFLA_INFO_SLAVE_KIND
-    }
-
-    #[tactic(auto, using(netlink_packet_core_grammar::proofs::Sizes::sizes))]
-    fn emit_value(&self, buffer: &mut [u8]) {
-        fill_text(buffer, self.as_str());
-    }
-
-    fn contents_fit(&self) -> bool {
-        true
+    fn field(&self) -> (u16, Field<'_>) {
+        (IFLA_INFO_SLAVE_KIND, Field::Text(self.as_str()))
     }
 }
 

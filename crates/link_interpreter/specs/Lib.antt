@@ -3,3 +3,4 @@ pub mod Prefixes
 pub mod Sameness
 pub mod Peers
 pub mod Capacity
+pub mod FoundRows

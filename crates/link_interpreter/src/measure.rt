@@ -14,11 +14,11 @@ use crate::attribute::{Attribute, KIND_BOUND, first_attribute, is_canonical_attr
 use crate::info::{info_is_a_list_inside, link_info_is_lawful, written_info_kind};
 use crate::peers::PeerSet;
 use crate::shapes::{Measured, NOTHING_YET, measure_shape};
-use crate::tables::find;
+use crate::tables::{find, find_in};
 use attribute_tables_grammar::laws::{
     canonical_lists_unfold, measures_determine_rules, measures_unfold, rows_are_looked_up,
 };
-use link_tables::{Form, Held, NO_KINDS, Table, info_held, next_force};
+use link_tables::{Form, Held, NO_KINDS, Table, indexed_rows, info_held, next_force};
 
 /// Returns whether a list of this kind keeps an attribute.
 pub fn is_kept(form: Form, attribute: Attribute<'_>) -> bool
@@ -175,12 +175,13 @@ pub fn walk_list<P: PeerSet>(peers: &P, form: Form, table: Table, bytes: &[u8]) 
     let mut total = NOTHING_YET;
     let mut left = bytes.len();
     let mut rest = bytes;
+    let rows = indexed_rows(table);
     while !rest.is_empty() {
         let Some((attribute, after)) = first_attribute(rest) else {
             return None;
         };
         if is_kept(form, attribute) {
-            let found = find(peers, table, attribute.kind);
+            let found = find_in(peers, rows, table, attribute.kind);
             let Some(inside) = measure_held(peers, found.held, attribute.payload) else {
                 return None;
             };

@@ -2,15 +2,13 @@
 
 ghost use Rattle.std.specs.Prelude.{◌≡◌, ◌+◌, cond};
 ghost use Rattle.netlink_packet_core_grammar.specs.Attributes.{proper_kind};
-ghost use Rattle.attribute_tables_grammar.specs.Lists.{written_kind};
-ghost use Rattle.attribute_tables_grammar.specs.LookUps.{table_row};
-ghost use Rattle.attribute_tables_grammar.specs.Rules.{Lawful};
-ghost use Rattle.link_tables.specs.Tables.{held_rule, table_of};
+ghost use Rattle.link_tables.specs.Tables.{AreRowsOf};
+ghost use Rattle.link_interpreter.specs.FoundRows.{IsRowOf};
 
 use crate::attribute::KIND_BOUND;
 use crate::peers::PeerSet;
 use attribute_tables_grammar::laws::table_rows_are_lawful;
-use link_tables::{Held, Row, Shape, Table, row_of};
+use link_tables::{Held, Row, Shape, Table, TableRows, indexed_rows, row_in};
 
 /// The row of an attribute's kind.
 #[derive(Clone, Copy)]
@@ -31,19 +29,14 @@ fn written_kind(is_nested: bool, kind: u16) -> u16
     kind % KIND_BOUND + flag
 }
 
-/// Returns the row of an attribute's kind, which may have flag bits, in a table.
-pub fn find<P: PeerSet>(peers: &P, table: Table, kind: u16) -> Found
-    ensures rule { held_rule P.peer result.held
-        ≡ (table_row P.peer (table_of table.0) (proper_kind kind)).rule }
-    ensures typed { result.is_typed
-        ≡ (table_row P.peer (table_of table.0) (proper_kind kind)).is_typed }
-    ensures lawful { Lawful (table_row P.peer (table_of table.0) (proper_kind kind)).rule }
-    ensures written { result.kind
-        ≡ written_kind (table_row P.peer (table_of table.0) (proper_kind kind)) kind }
+/// Returns the row of an attribute's kind, which may have flag bits, in the rows of a table.
+pub fn find_in<P: PeerSet>(peers: &P, rows: TableRows<'_>, table: Table, kind: u16) -> Found
+    requires { AreRowsOf table rows }
+    ensures { IsRowOf P.peer table kind result }
 {
     peers.peers_are_lawful();
     table_rows_are_lawful();
-    match row_of(table, kind % KIND_BOUND) {
+    match row_in(rows, table, kind % KIND_BOUND) {
         Row::Listed(_, is_nested, held) => Found {
             held,
             is_typed: true,
@@ -55,4 +48,11 @@ pub fn find<P: PeerSet>(peers: &P, table: Table, kind: u16) -> Found
             kind,
         },
     }
+}
+
+/// Returns the row of an attribute's kind, which may have flag bits, in a table.
+pub fn find<P: PeerSet>(peers: &P, table: Table, kind: u16) -> Found
+    ensures { IsRowOf P.peer table kind result }
+{
+    find_in(peers, indexed_rows(table), table, kind)
 }

@@ -14,12 +14,12 @@ use crate::capacity::{append, append_padding, write_header};
 use crate::info::{info_is_a_list_inside, written_info_kind};
 use crate::measure::is_kept;
 use crate::peers::WritePeer;
-use crate::tables::find;
+use crate::tables::{find, find_in};
 use crate::write_shapes::write_shape;
 use attribute_tables_grammar::laws::{
     measures_determine_rules, rows_are_looked_up, writing_unfolds,
 };
-use link_tables::{Form, Held, NO_KINDS, Table, info_held, next_force};
+use link_tables::{Form, Held, NO_KINDS, Table, indexed_rows, info_held, next_force};
 
 /// Appends the canonical encoding of an accepted payload that fits; `out` has to have the capacity.
 #[cycle(write)]
@@ -84,12 +84,13 @@ fn write_list<P: WritePeer>(peers: &P, form: Form, table: Table, bytes: &[u8], o
     measures_determine_rules();
     writing_unfolds();
     let mut rest = bytes;
+    let rows = indexed_rows(table);
     while !rest.is_empty() {
         let Some((attribute, after)) = first_attribute(rest) else {
             unreachable!();
         };
         if is_kept(form, attribute) {
-            let found = find(peers, table, attribute.kind);
+            let found = find_in(peers, rows, table, attribute.kind);
             write_attribute(peers, found.held, found.kind, attribute.payload, out);
         }
         rest = after;

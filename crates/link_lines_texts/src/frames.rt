@@ -25,12 +25,9 @@ use link_lines_values::{
 };
 use link_tables::{LINK_HEADER_LEN, family_table};
 use netlink_packet_core::{
-    NETLINK_HEADER_LEN, NLM_F_REQUEST, NLMSG_DONE, NLMSG_ERROR, NetlinkBuffer, nla_align,
+    CODE_LEN, NETLINK_HEADER_LEN, NLM_F_REQUEST, NLMSG_DONE, NLMSG_ERROR, NetlinkBuffer, nla_align,
 };
 use std::alloc::AllocError;
-
-/// The size in bytes of the code at the start of the body of an NLMSG_DONE or NLMSG_ERROR.
-const CODE_LEN: usize = 4;
 
 /// The first type of messages about a link's properties (rtnetlink.h), of which there are three.
 const RTM_NEWLINKPROP: u16 = 108;

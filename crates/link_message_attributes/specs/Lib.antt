@@ -1,2 +1,3 @@
 pub mod LinkAttributes
+pub mod Outcomes
 pub mod Payloads

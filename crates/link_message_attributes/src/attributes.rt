@@ -1,130 +1,40 @@
 //! The attributes of a link (if_link.h, IFLA_*), under the address family of the message's header.
 //! Numbers are little-endian.
 
-ghost use Rattle.std.specs.Prelude.{◌≡◌, ◌==◌, ◌<◌, false, true, length, map, Some, IfOk, IfErr, IfNone};
+ghost use Rattle.std.specs.Prelude.{◌≡◌, ◌==◌, ◌<◌, false, true, length, map, Some, IfOk, IfErr};
 ghost use Rattle.std.specs.List.{All};
 ghost use Rattle.netlink_packet_core.specs.AttributeViews.{IsAttribute};
-ghost use Rattle.netlink_packet_core.specs.Families.{attribute};
 ghost use Rattle.netlink_packet_core.specs.NlaBuffers.{storage};
 ghost use Rattle.attribute_tables_grammar.specs.Lists.{any, without_context};
 ghost use Rattle.attribute_tables_grammar.specs.Readings.{reading_as};
 ghost use Rattle.attribute_tables.specs.Views.{is_accepted_by, viewed_row};
 ghost use Rattle.netlink_packet_core.specs.AttributeViews.{viewed_attribute};
-ghost use Rattle.link_message_grammar.specs.LinkMessage.{has_no_link_row};
 ghost use Rattle.link_message_grammar.specs.Body.{attribute_row, attributes_rule};
 ghost use Rattle.link_message_types.specs.AddressFamilies.{table_family};
 ghost use Rattle.link_message_attributes.specs.LinkAttributes.{link_attribute_entry, link_attribute_fits, link_attribute_names_row};
-ghost use Rattle.link_message_attributes.specs.LinkAttributes.{plain_row, row_may_allocate, link_attribute_may_allocate};
+ghost use Rattle.link_message_attributes.specs.LinkAttributes.{plain_row, link_attribute_may_allocate};
+ghost use Rattle.link_message_attributes.specs.Outcomes.{IsRowRead};
 ghost use Rattle.link_message_attributes.specs.Payloads.{link_payload_bytes, link_payload_fits};
-ghost use Rattle.attribute_tables.specs.Outcomes.{IfMemory, IfRead, IsRefusedUnless, IsRewrittenBy, ListIsReadAs};
-ghost use Rattle.attribute_tables.specs.Outcomes.{ListIsWrittenBy, RowIsRewrittenBy, SucceedsIf};
+ghost use Rattle.attribute_tables.specs.Outcomes.{IfMemory, IsRefusedUnless, IsRewrittenBy, ListIsReadAs};
+ghost use Rattle.attribute_tables.specs.Outcomes.{ListIsWrittenBy, SucceedsIf};
 
 use super::families::number_of_table;
-use super::kinds::IFLA_ADDRESS;
-use super::kinds::IFLA_AF_SPEC;
-use super::kinds::IFLA_ALLMULTI;
-use super::kinds::IFLA_BROADCAST;
-use super::kinds::IFLA_CARRIER;
-use super::kinds::IFLA_CARRIER_CHANGES;
-use super::kinds::IFLA_CARRIER_DOWN_COUNT;
-use super::kinds::IFLA_CARRIER_UP_COUNT;
-use super::kinds::IFLA_DEVLINK_PORT;
-use super::kinds::IFLA_DPLL_PIN;
-use super::kinds::IFLA_EVENT;
-use super::kinds::IFLA_EXT_MASK;
-use super::kinds::IFLA_GRO_IPV4_MAX_SIZE;
-use super::kinds::IFLA_GRO_MAX_SIZE;
-use super::kinds::IFLA_GROUP;
-use super::kinds::IFLA_GSO_IPV4_MAX_SIZE;
-use super::kinds::IFLA_GSO_MAX_SEGS;
-use super::kinds::IFLA_GSO_MAX_SIZE;
-use super::kinds::IFLA_IF_NETNSID;
-use super::kinds::IFLA_IFALIAS;
-use super::kinds::IFLA_IFNAME;
-use super::kinds::IFLA_LINK;
-use super::kinds::IFLA_LINK_NETNSID;
-use super::kinds::IFLA_LINKINFO;
-use super::kinds::IFLA_LINKMODE;
-use super::kinds::IFLA_MAP;
-use super::kinds::IFLA_MASTER;
-use super::kinds::IFLA_MAX_MTU;
-use super::kinds::IFLA_MIN_MTU;
-use super::kinds::IFLA_MTU;
-use super::kinds::IFLA_NET_NS_FD;
-use super::kinds::IFLA_NET_NS_PID;
-use super::kinds::IFLA_NEW_IFINDEX;
-use super::kinds::IFLA_NEW_NETNSID;
-use super::kinds::IFLA_NUM_RX_QUEUES;
-use super::kinds::IFLA_NUM_TX_QUEUES;
-use super::kinds::IFLA_NUM_VF;
-use super::kinds::IFLA_OPERSTATE;
-use super::kinds::IFLA_PARENT_DEV_BUS_NAME;
-use super::kinds::IFLA_PARENT_DEV_NAME;
-use super::kinds::IFLA_PERM_ADDRESS;
-use super::kinds::IFLA_PHYS_PORT_ID;
-use super::kinds::IFLA_PHYS_PORT_NAME;
-use super::kinds::IFLA_PHYS_SWITCH_ID;
-use super::kinds::IFLA_PORT_SELF;
-use super::kinds::IFLA_PROMISCUITY;
-use super::kinds::IFLA_PROP_LIST;
-use super::kinds::IFLA_PROTINFO;
-use super::kinds::IFLA_PROTO_DOWN;
-use super::kinds::IFLA_PROTO_DOWN_REASON;
-use super::kinds::IFLA_QDISC;
-use super::kinds::IFLA_STATS;
-use super::kinds::IFLA_STATS64;
-use super::kinds::IFLA_TSO_MAX_SEGS;
-use super::kinds::IFLA_TSO_MAX_SIZE;
-use super::kinds::IFLA_TXQLEN;
-use super::kinds::IFLA_VF_PORTS;
-use super::kinds::IFLA_VFINFO_LIST;
-use super::kinds::IFLA_XDP;
-use super::payload::LinkPayload;
-use super::payload::parse_extent_masks;
-use super::payload::parse_link_info;
-use attribute_tables::Reader;
-use attribute_tables::parse_bytes;
-use attribute_tables::parse_family;
-use attribute_tables::parse_list;
-use attribute_tables::typed;
+use super::kinds::*;
+use super::payload::{LinkPayload, parse_extent_masks, parse_link_info};
+use attribute_tables::{Reader, parse_bytes, parse_family, parse_list, typed};
 use link_info::LinkInfo;
-use link_message_checks::attribute_error;
-use link_message_checks::attributes_error;
-use link_message_grammar::laws::attributes_are_looked_up;
-use link_message_grammar::laws::only_link_info_holds_peers;
-use link_message_nested::AfSpecUnspec;
-use link_message_nested::DevlinkPort;
-use link_message_nested::DpllPin;
-use link_message_nested::LinkProtoInfoInet6;
-use link_message_nested::LinkProtocolDownReason;
-use link_message_nested::LinkVfInfo;
-use link_message_nested::LinkVfPort;
-use link_message_nested::LinkXdp;
-use link_message_nested::Prop;
-use link_message_nested::parse_families;
-use link_message_nested::parse_raw;
-use link_message_nested::parse_vf_infos;
-use link_message_nested::parse_vf_ports;
-use link_message_records::FieldRecord;
-use link_message_records::Map;
-use link_message_records::Stats;
-use link_message_records::Stats64;
-use link_message_records::read_settings;
-use link_message_types::AddressFamily;
-use link_message_types::LinkEvent;
-use link_message_types::LinkExtentMask;
-use link_message_types::LinkMode;
-use link_message_types::LinkPhysId;
-use link_message_types::State;
-use netlink_packet_core::DecodeError;
-use netlink_packet_core::DefaultNla;
-use netlink_packet_core::Field;
-use netlink_packet_core::NLA_F_NESTED;
-use netlink_packet_core::Nla;
-use netlink_packet_core::NlaBuffer;
-use netlink_packet_core::Parseable;
+use link_message_checks::{attribute_error, attributes_error};
+use link_message_grammar::laws::{attributes_are_looked_up, only_link_info_holds_peers};
+use link_message_nested::{
+    AfSpecUnspec, DevlinkPort, DpllPin, LinkProtoInfoInet6, LinkProtocolDownReason, LinkVfInfo,
+    LinkVfPort, LinkXdp, Prop, parse_families, parse_raw, parse_vf_infos, parse_vf_ports,
+};
+use link_message_records::{FieldRecord, Map, Stats, Stats64, read_settings};
+use link_message_types::{AddressFamily, LinkEvent, LinkExtentMask, LinkMode, LinkPhysId, State};
 use netlink_packet_core::laws::typed_rows_write_the_kind;
-use netlink_packet_core::parse_string;
+use netlink_packet_core::{
+    DecodeError, DefaultNla, Field, NLA_F_NESTED, Nla, NlaBuffer, Parseable, parse_string,
+};
 use std::alloc::Global;
 
 /// An attribute of a link.
@@ -393,17 +303,7 @@ impl LinkAttribute {
         family: AddressFamily,
         payload: &[u8],
     ) -> Result<Option<Self>, DecodeError>
-        ensures judged { SucceedsIf result
-            ((plain_row (table_family family) 12).rule.accepted payload.now) }
-        ensures none { IfOk result
-            (λ o. IfNone o (has_no_link_row (table_family family) 12)) }
-        ensures typed { IfRead result
-            (λ _. (plain_row (table_family family) 12).is_typed ≡ true) }
-        ensures written { RowIsRewrittenBy result link_attribute_entry link_attribute_fits
-            (plain_row (table_family family) 12) (attribute 12 payload.now) }
-        ensures is_row_variant { IfRead result (λ v. link_attribute_names_row (table_family family) v) }
-        ensures memory { IfMemory result
-            (row_may_allocate (table_family family) 12 payload.now ≡ true) }
+        ensures { IsRowRead result (table_family family) (plain_row (table_family family) 12) 12 payload.now }
     {
         match family {
             AddressFamily::Bridge => typed!(ProtoInfoBridge, parse_raw(alloc, payload)),
@@ -424,17 +324,7 @@ impl LinkAttribute {
         family: AddressFamily,
         payload: &[u8],
     ) -> Result<Option<Self>, DecodeError>
-        ensures judged { SucceedsIf result
-            ((plain_row (table_family family) 26).rule.accepted payload.now) }
-        ensures none { IfOk result
-            (λ o. IfNone o (has_no_link_row (table_family family) 26)) }
-        ensures typed { IfRead result
-            (λ _. (plain_row (table_family family) 26).is_typed ≡ true) }
-        ensures written { RowIsRewrittenBy result link_attribute_entry link_attribute_fits
-            (plain_row (table_family family) 26) (attribute 26 payload.now) }
-        ensures is_row_variant { IfRead result (λ v. link_attribute_names_row (table_family family) v) }
-        ensures memory { IfMemory result
-            (row_may_allocate (table_family family) 26 payload.now ≡ true) }
+        ensures { IsRowRead result (table_family family) (plain_row (table_family family) 26) 26 payload.now }
     {
         match family {
             AddressFamily::Unspec => typed!(AfSpecUnspec, parse_families(alloc, payload)),
@@ -459,17 +349,7 @@ impl LinkAttribute {
         payload: &[u8],
     ) -> Result<Option<Self>, DecodeError>
         requires { (kind == 18) ≡ false }
-        ensures judged { SucceedsIf result
-            ((plain_row (table_family family) kind).rule.accepted payload.now) }
-        ensures none { IfOk result
-            (λ o. IfNone o (has_no_link_row (table_family family) kind)) }
-        ensures typed { IfRead result
-            (λ _. (plain_row (table_family family) kind).is_typed ≡ true) }
-        ensures written { RowIsRewrittenBy result link_attribute_entry link_attribute_fits
-            (plain_row (table_family family) kind) (attribute kind payload.now) }
-        ensures is_row_variant { IfRead result (λ v. link_attribute_names_row (table_family family) v) }
-        ensures memory { IfMemory result
-            (row_may_allocate (table_family family) kind payload.now ≡ true) }
+        ensures { IsRowRead result (table_family family) (plain_row (table_family family) kind) kind payload.now }
     {
         match kind {
             IFLA_ADDRESS => typed!(Address, parse_bytes(alloc, payload)),
@@ -512,17 +392,7 @@ impl LinkAttribute {
         kind: u16,
         payload: &[u8],
     ) -> Result<Option<Self>, DecodeError>
-        ensures judged { SucceedsIf result
-            ((attribute_row (table_family family) kind).rule.accepted payload.now) }
-        ensures none { IfOk result
-            (λ o. IfNone o (has_no_link_row (table_family family) kind)) }
-        ensures typed { IfRead result
-            (λ _. (attribute_row (table_family family) kind).is_typed ≡ true) }
-        ensures written { RowIsRewrittenBy result link_attribute_entry link_attribute_fits
-            (attribute_row (table_family family) kind) (attribute kind payload.now) }
-        ensures is_row_variant { IfRead result (λ v. link_attribute_names_row (table_family family) v) }
-        ensures memory { IfMemory result
-            (row_may_allocate (table_family family) kind payload.now ≡ true) }
+        ensures { IsRowRead result (table_family family) (attribute_row (table_family family) kind) kind payload.now }
     {
         only_link_info_holds_peers();
         match kind {

@@ -1,14 +1,14 @@
 //! The attributes of a link that hold a number.
 
-ghost use Rattle.std.specs.Prelude.{◌≡◌, ◌≢◌, ◌∷◌, [], true, IfOk, IfSome, IfNone};
+ghost use Rattle.std.specs.Prelude.{◌≡◌, ◌≢◌, ◌∷◌, [], true, IfSome, IfNone};
 ghost use Rattle.netlink_packet_core.specs.Families.{attribute};
 ghost use Rattle.netlink_packet_core.specs.Numbers.{le4};
-ghost use Rattle.link_message_grammar.specs.LinkMessage.{Family, has_no_link_row};
+ghost use Rattle.link_message_grammar.specs.LinkMessage.{Family};
 ghost use Rattle.link_message_types.specs.AddressFamilies.{table_family};
-ghost use Rattle.link_message_attributes.specs.LinkAttributes.{IsReadAsNumber, plain_row, row_may_allocate};
+ghost use Rattle.link_message_attributes.specs.LinkAttributes.{IsReadAsNumber, plain_row};
 ghost use Rattle.link_message_attributes.specs.LinkAttributes.{link_attribute_entry, link_attribute_fits};
 ghost use Rattle.link_message_attributes.specs.LinkAttributes.{link_attribute_names_row};
-ghost use Rattle.attribute_tables.specs.Outcomes.{IfMemory, IfRead, RowIsRewrittenBy, SucceedsIf};
+ghost use Rattle.link_message_attributes.specs.Outcomes.{IsRowRead};
 
 use super::attributes::LinkAttribute;
 use super::kinds::{
@@ -100,17 +100,7 @@ impl LinkAttribute {
         payload: &[u8],
     ) -> Result<Option<Self>, DecodeError>
         requires { IsReadAsNumber kind }
-        ensures judged { SucceedsIf result
-            ((plain_row (table_family family) kind).rule.accepted payload.now) }
-        ensures none { IfOk result
-            (λ o. IfNone o (has_no_link_row (table_family family) kind)) }
-        ensures typed { IfRead result
-            (λ _. (plain_row (table_family family) kind).is_typed ≡ true) }
-        ensures written { RowIsRewrittenBy result link_attribute_entry link_attribute_fits
-            (plain_row (table_family family) kind) (attribute kind payload.now) }
-        ensures is_row_variant { IfRead result (λ v. link_attribute_names_row (table_family family) v) }
-        ensures memory { IfMemory result
-            (row_may_allocate (table_family family) kind payload.now ≡ true) }
+        ensures { IsRowRead result (table_family family) (plain_row (table_family family) kind) kind payload.now }
     {
         match kind {
             IFLA_OPERSTATE | IFLA_CARRIER | IFLA_PROTO_DOWN => typed!(

@@ -2,10 +2,9 @@
 
 ghost use Rattle.std.specs.Prelude.{◌≡◌, ◌≤◌, ◌+◌, ◌%◌, ◌/◌, ◌∷◌, ◌++◌, [], true, length, take, bytes_eq};
 ghost use Rattle.std.specs.Prelude.{slice_index, vec_capacity};
-ghost use Rattle.std.specs.List.{list_any};
 ghost use Rattle.link_message_grammar.specs.Body.{header_text, layer_type_text};
 
-use crate::layer_types::LAYER_TYPES;
+use crate::layer_types::has_name;
 use link_interpreter::append;
 use link_tables::LINK_HEADER_LEN;
 
@@ -22,7 +21,7 @@ pub(crate) fn is_canonical_header(bytes: &[u8]) -> bool
     ensures { result ≡ true → header_text bytes.now ≡ take 16 bytes.now }
 {
     let layer_type = bytes[2] as u16 + 256 * bytes[3] as u16;
-    bytes[1] == 0 && LAYER_TYPES.contains(&layer_type)
+    bytes[1] == 0 && has_name(layer_type)
 }
 
 // Returns the layer type of a header (if_arp.h, ARPHRD_*); void if it has no name.
@@ -32,7 +31,7 @@ fn layer_type(bytes: &[u8]) -> u16
         ≡ layer_type_text (slice_index bytes.now 2) (slice_index bytes.now 3) }
 {
     let layer_type = bytes[2] as u16 + 256 * bytes[3] as u16;
-    if LAYER_TYPES.contains(&layer_type) {
+    if has_name(layer_type) {
         layer_type
     } else {
         VOID_LAYER

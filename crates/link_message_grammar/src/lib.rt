@@ -3,3 +3,7 @@
 #![tactic(auto)]
 
 pub mod laws;
+
+/// The size of a link's header in bytes, which precedes its attributes (rtnetlink.h, `struct
+/// ifinfomsg`).
+pub const LINK_HEADER_LEN: usize = 16;

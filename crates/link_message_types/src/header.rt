@@ -15,10 +15,8 @@ use super::link_flag::LinkFlags;
 use super::link_layer_type::LinkLayerType;
 use super::record_buffer::{Record, RecordBuffer};
 use bitflags::Flags;
+use link_message_grammar::LINK_HEADER_LEN;
 use netlink_packet_core::{DecodeError, Emitable, fill_u16, fill_u32, parse_u16, parse_u32};
-
-/// The size of a header in bytes.
-pub const LINK_HEADER_LEN: usize = 16;
 
 /// The header of a link message, `struct ifinfomsg` of `linux/rtnetlink.h`. On the wire 16 bytes:
 /// the family (1 byte), a byte that is ignored and written as 0, the layer type (2 bytes), the

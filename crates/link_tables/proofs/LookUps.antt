@@ -47,8 +47,8 @@ module _ (tables : ℕ → Table) (info : Payload) where
   pub line_outside : (rs : List Row) (d : Row) (n k : ℕ) → n ≡ kind_of (get_or rs 0 d) → are_dense rs ≡ true → (n ≤ k → n + length rs ≤ k) → None ≡ line_at (build tables info rs) k
   line_outside rs d n k e h l = outside rs n k (from_first rs d n e h) l
 
-  pub line_at_index : (rs : List Row) (d : Row) (n k : ℕ) → n ≡ kind_of (get_or rs 0 d) → are_dense rs ≡ true → n ≤ k → k - n < length rs → line_of tables info (get_or rs (k - n) d) ≡ line_at (build tables info rs) k
-  line_at_index rs d n k e h m l = at_index rs n (k - n) k d (from_first rs d n e h) l (omega arith)
+  pub line_at_index : (rs : List Row) (d other : Row) (n k : ℕ) → n ≡ kind_of (get_or rs 0 d) → are_dense rs ≡ true → n ≤ k → k - n < length rs → line_of tables info (get_or rs (k - n) other) ≡ line_at (build tables info rs) k
+  line_at_index rs d other n k e h m l = at_index rs n (k - n) k other (from_first rs d n e h) l (omega arith)
 
 -- a property of each list, and of the empty one, is one of the list at any index
 pub all_at : {A : Type 0} (f : A → Bool) (xs : List A) (n : ℕ) (d : A) → list_all f xs ≡ true → f d ≡ true → f (get_or xs n d) ≡ true

@@ -1,6 +1,6 @@
 -- The tables of the grammar for constant rows in code.
 use Rattle.std.specs.Borrow.{Bor}
-use Rattle.std.specs.Prelude.{ℕ, suc, ◌==◌, ◌&&◌, Bool, true, List, [], ◌∷◌, map, Option, Some, None}
+use Rattle.std.specs.Prelude.{◌≡◌, ℕ, suc, ◌==◌, ◌&&◌, get_or, Bool, true, List, [], ◌∷◌, map, Option, Some, None}
 use Rattle.attribute_tables_grammar.specs.Shapes as shapes
 use Rattle.attribute_tables_grammar.specs.Lists as lists
 use Rattle.attribute_tables_grammar.specs.LookUps.{Line}
@@ -16,6 +16,7 @@ use Rattle.link_tables.specs.declared.rows.Held.{Held}
 use Rattle.link_tables.specs.declared.rows.Held.TheVariants.{Plain, Peer, List as HeldList, LinkInfo}
 use Rattle.link_tables.specs.declared.rows.Row.{Row}
 use Rattle.link_tables.specs.declared.rows.Row.TheVariants.{Listed, Unlisted}
+use Rattle.link_tables.specs.declared.rows.TableRows.{TableRows}
 
 -- The grammar's shape for a shape in code.
 abbrev pub shape_of : Shape → shapes.Shape
@@ -73,6 +74,15 @@ are_consecutive n (r ∷ rs) = (kind_of r == n) && are_consecutive (suc n) rs
 abbrev pub are_dense : List Row → Bool
 are_dense [] = true
 are_dense (r ∷ rs) = are_consecutive (suc (kind_of r)) rs
+
+-- The rows of a table in code.
+abbrev pub rows_in : TableRows → List Row
+rows_in r = r.rows.now
+
+-- There is no gap between the kinds of the rows, and `first` is the kind of the first one.
+pub record IsIndexed (r : TableRows) : Type 0 where
+  pub dense : are_dense r.rows.now ≡ true
+  pub first : r.first ≡ kind_of (get_or r.rows.now 0 (Unlisted r.first))
 
 -- The rows of several tables, from borrowed slices.
 abbrev pub lists_of : List (Bor (List Row)) → List (List Row)

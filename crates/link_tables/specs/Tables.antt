@@ -1,5 +1,5 @@
 -- The tables of the grammar, at the index of their constants in code.
-use Rattle.std.specs.Prelude.{ℕ, ◌==◌, Bool, cond, List, [], ◌∷◌, Option, get_or}
+use Rattle.std.specs.Prelude.{◌≡◌, ℕ, ◌==◌, Bool, cond, List, [], ◌∷◌, Option, get_or}
 use Rattle.attribute_tables_grammar.specs.LookUps.{Line, payload_rule}
 use Rattle.attribute_tables_grammar.specs.Peers.{Peer}
 use Rattle.attribute_tables_grammar.specs.Rules.{Rule}
@@ -16,7 +16,8 @@ use Rattle.link_tables.specs.declared.rows.Held.{Held}
 use Rattle.link_tables.specs.declared.rows.Row.{Row}
 use Rattle.link_tables.specs.declared.table.Table.{Table as Named}
 use Rattle.link_tables.specs.declared.table.TheConstants.{LINK_INFO, LINK_UNSPEC, LINK_BRIDGE, LINK_INET6, LINK_OTHER}
-use Rattle.link_tables.specs.Rows.{line_of, payload_of}
+use Rattle.link_tables.specs.declared.rows.TableRows.{TableRows}
+use Rattle.link_tables.specs.Rows.{build, line_of, payload_of, rows_in, IsIndexed}
 
 -- All tables of the grammar, in the order of the constants. `end` fills the positions of raw attributes and of link
 -- info, whose rows depend on the kinds in force.
@@ -48,6 +49,11 @@ held_rule p held = payload_rule p (held_payload held)
 -- The grammar's entry for a row in code.
 abbrev pub row_line : Row → Option Line
 row_line r = line_of table_of info_payload r
+
+-- These are the rows of the table.
+pub record AreRowsOf (t : Named) (r : TableRows) : Type 0 where
+  pub indexed : IsIndexed r
+  pub built : build table_of info_payload (rows_in r) ≡ table_of t.0
 
 -- The table of a link's attributes under an address family.
 abbrev pub family_table : ℕ → Named

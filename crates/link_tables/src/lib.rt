@@ -15,5 +15,6 @@ pub use info::{
     InForce, NO_KINDS, info_held, next_force,
 };
 pub use kinds::{data_held, port_held};
-pub use rows::{Form, Held, Row, Shape};
-pub use table::{LINK_HEADER_LEN, Table, family_table, row_of};
+pub use link_message_grammar::LINK_HEADER_LEN;
+pub use rows::{Form, Held, Row, Shape, TableRows};
+pub use table::{Table, family_table, indexed_rows, row_in};

@@ -3,7 +3,7 @@
 ghost use Rattle.std.specs.Prelude.{◌≡◌, ℕ, true};
 ghost use Rattle.attribute_tables_grammar.specs.LookUps.{line_at};
 ghost use Rattle.attribute_tables_grammar.specs.Tables.{Payload, Table as Rows};
-ghost use Rattle.link_tables.specs.Rows.{kind_of, are_dense, build, line_of};
+ghost use Rattle.link_tables.specs.Rows.{kind_of, are_dense, build, line_of, rows_in, IsIndexed};
 
 use crate::table::Table;
 
@@ -80,25 +80,45 @@ impl Row {
     }
 }
 
-/// Returns the row of a kind. The index of a row is its kind less that of the first row, so this
-/// takes constant time.
-pub fn look_up(rows: &[Row], kind: u16) -> Row
-    requires { are_dense rows.now ≡ true }
-    ensures { (tables : ℕ → Rows) (info : Payload)
-        → line_of tables info result ≡ line_at (build tables info rows.now) kind }
-{
-    if rows.is_empty() {
-        return Row::Unlisted(kind);
+/// The rows of a table, without a gap between their kinds, and the kind of the first one.
+#[derive(Clone, Copy)]
+pub struct TableRows<'a> {
+    first: usize,
+    rows: &'a [Row],
+}
+
+impl<'a> TableRows<'a> {
+    /// Returns these rows, which have no gap between their kinds.
+    pub fn new(rows: &'a [Row]) -> TableRows<'a>
+        requires { are_dense rows.now ≡ true }
+        ensures indexed { IsIndexed result }
+        ensures rows { rows_in result ≡ rows.now }
+    {
+        let first = if rows.is_empty() {
+            0
+        } else {
+            rows[0].kind() as usize
+        };
+        TableRows { first, rows }
     }
-    let first = rows[0].kind();
-    if kind < first {
-        return Row::Unlisted(kind);
-    }
-    let index = (kind - first) as usize;
-    if index < rows.len() {
-        rows[index]
-    } else {
-        Row::Unlisted(kind)
+
+    /// Returns the row of a kind. The index of a row is its kind less that of the first row, so
+    /// this takes constant time.
+    pub fn look_up(self, kind: u16) -> Row
+        requires { IsIndexed self }
+        ensures { (tables : ℕ → Rows) (info : Payload)
+            → line_of tables info result ≡ line_at (build tables info (rows_in self.entry)) kind }
+    {
+        let position = kind as usize;
+        if position < self.first {
+            return Row::Unlisted(kind);
+        }
+        let index = position - self.first;
+        if index < self.rows.len() {
+            self.rows[index]
+        } else {
+            Row::Unlisted(kind)
+        }
     }
 }
 

@@ -4,10 +4,10 @@ ghost use Rattle.std.specs.Prelude.{◌≡◌, ℕ, true, [], get_or};
 ghost use Rattle.attribute_tables_grammar.specs.LookUps.{line_at};
 ghost use Rattle.attribute_tables_grammar.specs.Tables.{rows_bounded};
 ghost use Rattle.link_message_grammar.specs.LinkMessage.{family_of, link_table};
-ghost use Rattle.link_tables.specs.Rows.{are_dense, build, lists_of};
-ghost use Rattle.link_tables.specs.Tables.{family_table, info_payload, is_link_info, row_line, table_of};
+ghost use Rattle.link_tables.specs.Rows.{lists_of};
+ghost use Rattle.link_tables.specs.Tables.{family_table, is_link_info, row_line, table_of, AreRowsOf};
 
-use crate::rows::{Row, look_up};
+use crate::rows::{Row, TableRows};
 use crate::table_rows::TABLES;
 
 /// A table of attributes, by its index. Each is named by a constant of this module or of `kinds`.
@@ -122,9 +122,6 @@ pub const INET6_PROTOCOL: Table = Table(74);
 /// IFLA_PORT_*, the attributes inside IFLA_VF_PORT and IFLA_PORT_SELF.
 pub const PORT: Table = Table(75);
 
-/// The length of a link's header, which precedes its attributes (rtnetlink.h, `struct ifinfomsg`).
-pub const LINK_HEADER_LEN: usize = 16;
-
 // The families with tables of their own (socket.h).
 const AF_UNSPEC: u8 = 0;
 
@@ -158,10 +155,18 @@ fn table_at<'a>(tables: &'a [&'a [Row]], table: Table) -> &'a [Row]
     }
 }
 
-/// Returns the row of a kind, which has no flag bits, in a table.
-pub fn row_of(table: Table, kind: u16) -> Row
+/// Returns the rows of a table, which the attributes of a list share.
+pub fn indexed_rows(table: Table) -> TableRows<'static>
+    ensures { AreRowsOf table result }
+{
+    TableRows::new(table_at(TABLES, table))
+}
+
+/// Returns the row of a kind, which has no flag bits, in the rows of a table.
+pub fn row_in(rows: TableRows<'_>, table: Table, kind: u16) -> Row
+    requires { AreRowsOf table rows }
     ensures line { row_line result ≡ line_at (table_of table.0) kind }
     ensures bounded { rows_bounded (table_of table.0) ≡ true }
 {
-    look_up(table_at(TABLES, table), kind)
+    rows.look_up(kind)
 }

@@ -1,5 +1,5 @@
 -- What a call writes of one piece of a capture: its texts, or their lines.
-use Rattle.std.specs.Prelude.{◌≡◌, ◌≢◌, ℕ, ◌+◌, ◌%◌, ◌<◌, ◌≤◌, ◌⊎◌, Bool, true, false, List, [], ◌++◌, length, take}
+use Rattle.std.specs.Prelude.{◌≡◌, ◌≢◌, ℕ, ◌+◌, ◌%◌, ◌<◌, ◌≤◌, ◌⊎◌, Bool, true, false, List, [], ◌++◌, length, take, drop}
 use Rattle.std.specs.Prelude.{Option, None, Some, Ok, Err}
 use Rattle.netlink_packet_core_grammar.specs.Attributes.{nla_align}
 use Rattle.link_capture_grammar.specs.declared.fault.FaultKind.{FaultKind}
@@ -8,8 +8,12 @@ use Rattle.link_capture_grammar.specs.Captures.{first_frame, first_fault, texts,
 use Rattle.link_lines.specs.Captures.{Choice, text_lines}
 use Rattle.link_lines.specs.Options.{choice_of}
 use Rattle.link_lines.specs.declared.options.LineOptions.{LineOptions}
+use Rattle.linkcap_c.specs.Buffers.{Holds}
+use Rattle.linkcap_c.specs.Faults.{fault_of, kind_number}
+use Rattle.linkcap_c.specs.declared.faults.LinkcapFault.{LinkcapFault}
 use Rattle.linkcap_c.specs.declared.pieces.Stop.{Stop}
 use Rattle.linkcap_c.specs.declared.pieces.Stop.TheVariants.{Ended, Fault, Room, Memory}
+use Rattle.linkcap_c.specs.declared.streaming.LinkcapProgress.{LinkcapProgress}
 
 -- what is written of a text: itself, or its lines
 abbrev pub Form : Type 0
@@ -76,18 +80,37 @@ pub record IsWhole (limit : ℕ) (s : List ℕ) : Type 0 where
   pub padded : length s % 4 ≡ 0
 
 -- After each whole capture, the used bytes of the piece are legal, their text is written independently of the
--- capture's, and
--- the result is whole if more is to come.
+-- capture's, and the result is whole if more is to come.
 pub record Continues (form : Form) (limit : ℕ) (last : Bool) (used before : List ℕ) : Type 0 where
   pub legal : IsLegal limit (before ++ used)
   pub written : form (texts limit (before ++ used)) ≡ form (texts limit before) ++ form (texts limit used)
   pub whole : last ≡ false → IsWhole limit (before ++ used)
 
 -- A piece follows a whole capture, and more bytes follow the piece; `used` bytes of the piece were used. This is the
--- first
--- fault of all of it, and what is written before that fault.
+-- first fault of all of it, and what is written before that fault.
 pub record Fails (form : Form) (limit : ℕ) (kind : FaultKind) (used : ℕ) (piece before more : List ℕ) : Type 0 where
   pub fault : first_fault limit (before ++ (piece ++ more)) ≡
       Some (record { kind = kind; offset = length before + used })
   pub written : form (texts limit (before ++ (piece ++ more))) ≡
       form (texts limit before) ++ form (texts limit (take used piece))
+
+-- What is written of a piece is at the start of a buffer.
+pub record WritesSome (form : Form) (limit : ℕ) (last : Bool) (piece : List ℕ) (status : ℕ) (progress : LinkcapProgress)
+    (found : LinkcapFault) (old new : List ℕ) : Type 0 where
+  pub used : IsUsed form limit last piece progress.used progress.written
+  pub written : Holds (form (texts limit (take progress.used piece))) progress.written old new
+  pub ended : status ≡ 0 → IsEnded limit last (drop progress.used piece)
+  pub fault : status ≡ 2 → (kind : FaultKind) ×
+      (found ≡ fault_of 0 (record { kind = kind; offset = progress.used })) ×
+      IsFaulty limit last (drop progress.used piece) kind
+  pub room : status ≡ 4 → (length old < progress.written + progress.wanted) ×
+      Needs form limit (drop progress.used piece) progress.wanted
+  pub nothing_wanted : status ≢ 4 → progress.wanted ≡ 0
+  pub memory : status ≡ 5 → (found.kind ≡ kind_number FaultKind.Memory) × (found.side ≡ 0) ×
+      (found.offset ≡ progress.used) × IsAccepted limit (drop progress.used piece)
+  -- what the pieces write one after the other is what the whole writes
+  pub continues : (before : List ℕ) → IsWhole limit before →
+      Continues form limit last (take progress.used piece) before
+  -- and the first fault is the whole's
+  pub fails : status ≡ 2 → (before more : List ℕ) → IsWhole limit before → (last ≡ true → more ≡ []) →
+      (kind : FaultKind) × (found.kind ≡ kind_number kind) × Fails form limit kind progress.used piece before more

@@ -2,7 +2,8 @@
 use Rattle.std.specs.Prelude.{◌≡◌, ℕ, ◌<◌, ◌≤◌, ◌↔◌, ◌⊎◌, List, length}
 use Rattle.link_capture_grammar.specs.Captures.{IsLegal}
 use Rattle.linkcap_c.specs.Buffers.{Holds}
-use Rattle.linkcap_c.specs.Faults.{ReportsFault}
+use Rattle.link_capture_reader.specs.Readers.{IsFrameOffsetOf}
+use Rattle.linkcap_c.specs.Faults.{ReportsFault, ReportsMemory}
 use Rattle.linkcap_c.specs.declared.faults.LinkcapFault.{LinkcapFault}
 
 -- The capture is legal; or its first fault is reported; or the limit is under 16.
@@ -33,3 +34,12 @@ IsJudgingStatus status = (status ≡ 0) ⊎ (status ≡ 2) ⊎ (status ≡ 3)
 -- The results of calls that write a text: those, and a small buffer or out of memory.
 abbrev pub IsWritingStatus : ℕ → Type 0
 IsWritingStatus status = (status ≡ 0) ⊎ ((2 ≤ status) × (status ≤ 5))
+
+-- What a call that writes something of a capture reports: that the capture is legal, its first fault, whose offset is
+-- inside it, or that memory ran out.
+pub record ReportsWriting (limit : ℕ) (c : List ℕ) (result : ℕ) (old new : LinkcapFault) : Type 0 where
+  pub judged : Judges limit c result new
+  pub offset : result ≡ 2 → IsFrameOffsetOf c new.offset
+  pub memory : result ≡ 5 → ReportsMemory limit c new
+  pub kept : KeepsFault result old new
+  pub status : IsWritingStatus result

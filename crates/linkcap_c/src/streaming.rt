@@ -1,15 +1,9 @@
 //! Captures in pieces, for C.
 
-ghost use Rattle.std.specs.Prelude.{◌≡◌, ◌≢◌, ◌+◌, ◌<◌, ◌≤◌, ◌↔◌, ◌⊎◌, ◌++◌, ℕ, List, [], true, length, take, drop};
-ghost use Rattle.link_capture_grammar.specs.declared.fault.FaultKind.{FaultKind};
-ghost use Rattle.link_capture_grammar.specs.Captures.{texts};
-ghost use Rattle.link_lines.specs.Captures.{lines};
+ghost use Rattle.std.specs.Prelude.{◌≡◌, ◌≢◌, ◌<◌, ◌↔◌};
 ghost use Rattle.linkcap_c.specs.Statuses.{IsWritingStatus, KeepsFault};
-ghost use Rattle.linkcap_c.specs.Buffers.{Holds};
-ghost use Rattle.linkcap_c.specs.Pieces.{as_text, as_lines, form_of, IsUsed, IsAccepted, IsEnded, IsFaulty, Needs};
-ghost use Rattle.linkcap_c.specs.Pieces.{IsWhole, Continues, Fails};
+ghost use Rattle.linkcap_c.specs.Pieces.{as_text, as_lines, form_of, WritesSome};
 ghost use Rattle.linkcap_c.specs.Choices.{asked};
-ghost use Rattle.linkcap_c.specs.Faults.{kind_number, fault_of};
 
 use crate::choices::line_options;
 use crate::faults::{LinkcapFault, of_one};
@@ -42,32 +36,12 @@ fn write_some(
     progress: &mut LinkcapProgress,
     fault: &mut LinkcapFault,
 ) -> u32
-    ensures used { result ≢ 3
-        → IsUsed (form_of form.entry) limit last piece.now progress.new.used progress.new.written }
-    ensures written { result ≢ 3 → Holds (form_of form.entry (texts limit (take progress.new.used piece.now)))
-        progress.new.written out.old out.new }
-    ensures ended { result ≡ 0 → IsEnded limit last (drop progress.new.used piece.now) }
-    ensures fault { result ≡ 2 → (kind : FaultKind)
-        × (fault.new ≡ fault_of 0 (record { kind = kind; offset = progress.new.used }))
-        × IsFaulty limit last (drop progress.new.used piece.now) kind }
+    ensures piece { result ≢ 3 → WritesSome (form_of form.entry) limit last piece.now result progress.new fault.new
+        out.old out.new }
     ensures limit { (result ≡ 3) ↔ (limit < 16) }
-    ensures room { result ≡ 4
-        → (length out.old < progress.new.written + progress.new.wanted)
-        × Needs (form_of form.entry) limit (drop progress.new.used piece.now) progress.new.wanted }
-    ensures nothing_wanted { (result ≡ 0) ⊎ (result ≡ 2) ⊎ (result ≡ 5) → progress.new.wanted ≡ 0 }
-    ensures memory { result ≡ 5 → (fault.new.kind ≡ 8) × (fault.new.side ≡ 0)
-        × (fault.new.offset ≡ progress.new.used)
-        × IsAccepted limit (drop progress.new.used piece.now) }
     ensures kept { KeepsFault result fault.old fault.new }
     ensures unwritten { result ≡ 3 → (out.new ≡ out.old) × (progress.new ≡ progress.old) }
     ensures status { IsWritingStatus result }
-    // What the pieces write one after the other is what the whole writes.
-    ensures continues { result ≢ 3 → (before : List ℕ) → IsWhole limit before
-        → Continues (form_of form.entry) limit last (take progress.new.used piece.now) before }
-    // And the first fault is the whole's.
-    ensures fails { result ≡ 2 → (before more : List ℕ) → IsWhole limit before
-        → (last ≡ true → more ≡ []) → (kind : FaultKind) × (fault.new.kind ≡ kind_number kind)
-        × Fails (form_of form.entry) limit kind progress.new.used piece.now before more }
 {
     if !is_limit(limit) {
         return WRONG;
@@ -112,32 +86,12 @@ pub extern "C" fn linkcap_normalize_some(
     progress: &mut LinkcapProgress,
     fault: &mut LinkcapFault,
 ) -> u32
-    ensures used { result ≢ 3
-        → IsUsed as_text limit last piece.now progress.new.used progress.new.written }
-    ensures written { result ≢ 3 → Holds (texts limit (take progress.new.used piece.now))
-        progress.new.written out.old out.new }
-    ensures ended { result ≡ 0 → IsEnded limit last (drop progress.new.used piece.now) }
-    ensures fault { result ≡ 2 → (kind : FaultKind)
-        × (fault.new ≡ fault_of 0 (record { kind = kind; offset = progress.new.used }))
-        × IsFaulty limit last (drop progress.new.used piece.now) kind }
+    ensures piece { result ≢ 3 → WritesSome as_text limit last piece.now result progress.new fault.new
+        out.old out.new }
     ensures limit { (result ≡ 3) ↔ (limit < 16) }
-    ensures room { result ≡ 4
-        → (length out.old < progress.new.written + progress.new.wanted)
-        × Needs as_text limit (drop progress.new.used piece.now) progress.new.wanted }
-    ensures nothing_wanted { (result ≡ 0) ⊎ (result ≡ 2) ⊎ (result ≡ 5) → progress.new.wanted ≡ 0 }
-    ensures memory { result ≡ 5 → (fault.new.kind ≡ 8) × (fault.new.side ≡ 0)
-        × (fault.new.offset ≡ progress.new.used)
-        × IsAccepted limit (drop progress.new.used piece.now) }
     ensures kept { KeepsFault result fault.old fault.new }
     ensures unwritten { result ≡ 3 → (out.new ≡ out.old) × (progress.new ≡ progress.old) }
     ensures status { IsWritingStatus result }
-    // What the pieces write one after the other is what the whole writes.
-    ensures continues { result ≢ 3 → (before : List ℕ) → IsWhole limit before
-        → Continues as_text limit last (take progress.new.used piece.now) before }
-    // And the first fault is the whole's.
-    ensures fails { result ≡ 2 → (before more : List ℕ) → IsWhole limit before
-        → (last ≡ true → more ≡ []) → (kind : FaultKind) × (fault.new.kind ≡ kind_number kind)
-        × Fails as_text limit kind progress.new.used piece.now before more }
 {
     write_some(alloc, piece, last, limit, None, out, progress, fault)
 }
@@ -156,32 +110,12 @@ pub extern "C" fn linkcap_show_some(
     progress: &mut LinkcapProgress,
     fault: &mut LinkcapFault,
 ) -> u32
-    ensures used { result ≢ 3
-        → IsUsed (as_lines (asked without_numbers only.now)) limit last piece.now progress.new.used progress.new.written }
-    ensures written { result ≢ 3 → Holds (lines (asked without_numbers only.now) limit (take progress.new.used piece.now))
-        progress.new.written out.old out.new }
-    ensures ended { result ≡ 0 → IsEnded limit last (drop progress.new.used piece.now) }
-    ensures fault { result ≡ 2 → (kind : FaultKind)
-        × (fault.new ≡ fault_of 0 (record { kind = kind; offset = progress.new.used }))
-        × IsFaulty limit last (drop progress.new.used piece.now) kind }
+    ensures piece { result ≢ 3 → WritesSome (as_lines (asked without_numbers only.now)) limit last piece.now result progress.new fault.new
+        out.old out.new }
     ensures limit { (result ≡ 3) ↔ (limit < 16) }
-    ensures room { result ≡ 4
-        → (length out.old < progress.new.written + progress.new.wanted)
-        × Needs (as_lines (asked without_numbers only.now)) limit (drop progress.new.used piece.now) progress.new.wanted }
-    ensures nothing_wanted { (result ≡ 0) ⊎ (result ≡ 2) ⊎ (result ≡ 5) → progress.new.wanted ≡ 0 }
-    ensures memory { result ≡ 5 → (fault.new.kind ≡ 8) × (fault.new.side ≡ 0)
-        × (fault.new.offset ≡ progress.new.used)
-        × IsAccepted limit (drop progress.new.used piece.now) }
     ensures kept { KeepsFault result fault.old fault.new }
     ensures unwritten { result ≡ 3 → (out.new ≡ out.old) × (progress.new ≡ progress.old) }
     ensures status { IsWritingStatus result }
-    // What the pieces write one after the other is what the whole writes.
-    ensures continues { result ≢ 3 → (before : List ℕ) → IsWhole limit before
-        → Continues (as_lines (asked without_numbers only.now)) limit last (take progress.new.used piece.now) before }
-    // And the first fault is the whole's.
-    ensures fails { result ≡ 2 → (before more : List ℕ) → IsWhole limit before
-        → (last ≡ true → more ≡ []) → (kind : FaultKind) × (fault.new.kind ≡ kind_number kind)
-        × Fails (as_lines (asked without_numbers only.now)) limit kind progress.new.used piece.now before more }
 {
     let options = line_options(without_numbers, only);
     write_some(

@@ -1,19 +1,17 @@
 //! Texts and lines written to a caller's buffer.
 
-ghost use Rattle.std.specs.Prelude.{◌≡◌, ◌≢◌, ◌*◌, ◌%◌, ◌<◌, ◌≤◌, ◌↔◌, ◌⊎◌, length, drop};
-ghost use Rattle.link_capture_grammar.specs.Captures.{texts, IsLegal};
-ghost use Rattle.link_capture_grammar.specs.Same.{SameCapture};
-ghost use Rattle.link_capture_reader.specs.Joined.{IsJoined};
-ghost use Rattle.link_capture_reader.specs.Readers.{IsFrameOffsetOf};
+ghost use Rattle.std.specs.Prelude.{◌≡◌, ◌≢◌, ◌<◌, ◌≤◌, ◌↔◌, ◌⊎◌, length, drop};
+ghost use Rattle.link_capture_grammar.specs.Captures.{texts};
+ghost use Rattle.link_capture_reader.specs.NormalTexts.{HasNormalText};
 ghost use Rattle.link_lines.specs.Meanings.{DependsOnMeaning};
 ghost use Rattle.link_lines.specs.Outcomes.{NeedsMemoryAt};
 ghost use Rattle.link_lines.specs.Captures.{everything, lines};
 ghost use Rattle.link_lines.specs.Options.{choice_of};
-ghost use Rattle.linkcap_c.specs.Statuses.{IsWritingStatus, Judges, KeepsFault, KeepsSize, Writes};
+ghost use Rattle.linkcap_c.specs.Statuses.{KeepsSize, ReportsWriting, Writes};
 ghost use Rattle.linkcap_c.specs.Buffers.{reported_length};
 ghost use Rattle.linkcap_c.specs.Choices.{asked};
 ghost use Rattle.linkcap_c.specs.Pieces.{IsAccepted};
-ghost use Rattle.linkcap_c.specs.Faults.{ReportsMemory, fault_of};
+ghost use Rattle.linkcap_c.specs.Faults.{fault_of};
 
 use crate::buffers::copy_text;
 use crate::choices::line_options;
@@ -81,30 +79,17 @@ pub extern "C" fn linkcap_normalize(
     size: &mut u64,
     fault: &mut LinkcapFault,
 ) -> u32
-    ensures judged { Judges limit capture.now result fault.new }
+    ensures reported { ReportsWriting limit capture.now result fault.old fault.new }
     ensures written { Writes (texts limit capture.now) result size.new out.old out.new }
-    ensures offset { result ≡ 2 → IsFrameOffsetOf capture.now fault.new.offset }
-    ensures memory { result ≡ 5 → ReportsMemory limit capture.now fault.new }
-    ensures kept_fault { KeepsFault result fault.old fault.new }
     ensures kept_size { KeepsSize result size.old size.new }
-    ensures status { IsWritingStatus result }
     // A buffer that is too small is reported first.
     ensures room { 16 ≤ limit
         → (result ≡ 4) ↔ (length out.old < length (texts limit capture.now)) }
     ensures wanted { result ≡ 4 → size.new ≡ reported_length (texts limit capture.now) }
     // Only the text of an accepted frame can run out of memory.
     ensures cause { result ≡ 5 → IsAccepted limit (drop fault.new.offset capture.now) }
-    // A normal text is legal, and its own normal text.
-    ensures normal { 16 ≤ limit → IsLegal limit (texts limit capture.now)
-        × (texts limit (texts limit capture.now) ≡ texts limit capture.now) }
-    // A legal capture and its normal text mean the same.
-    ensures same { 16 ≤ limit → IsLegal limit capture.now
-        → SameCapture limit capture.now (texts limit capture.now) }
-    // A normal text is at most 77 times as long.
-    ensures small { 16 ≤ limit → length (texts limit capture.now) ≤ 77 * length capture.now }
-    // What follows a legal capture whose size is a multiple of 4 is judged and written by itself.
-    ensures joined { 16 ≤ limit → IsLegal limit capture.now → length capture.now % 4 ≡ 0
-        → IsJoined limit capture.now }
+    // The normal text is legal, canonical, equivalent, and at most 77 times as long.
+    ensures text { 16 ≤ limit → HasNormalText limit capture.now }
 {
     if !is_limit(limit) {
         return WRONG;
@@ -133,13 +118,9 @@ fn show_as(
     size: &mut u64,
     fault: &mut LinkcapFault,
 ) -> u32
-    ensures judged { Judges limit capture.now result fault.new }
+    ensures reported { ReportsWriting limit capture.now result fault.old fault.new }
     ensures written { Writes (lines (choice_of options.entry) limit capture.now) result size.new out.old out.new }
-    ensures offset { result ≡ 2 → IsFrameOffsetOf capture.now fault.new.offset }
-    ensures memory { result ≡ 5 → ReportsMemory limit capture.now fault.new }
-    ensures kept_fault { KeepsFault result fault.old fault.new }
     ensures kept_size { KeepsSize result size.old size.new }
-    ensures status { IsWritingStatus result }
     ensures wanted { result ≡ 4 → size.new ≡ length (lines (choice_of options.entry) limit capture.now) }
     ensures cause { result ≡ 5 → NeedsMemoryAt limit capture.now fault.new.offset }
     ensures shown { 16 ≤ limit → DependsOnMeaning (choice_of options.entry) limit capture.now }
@@ -172,13 +153,9 @@ pub extern "C" fn linkcap_show(
     size: &mut u64,
     fault: &mut LinkcapFault,
 ) -> u32
-    ensures judged { Judges limit capture.now result fault.new }
+    ensures reported { ReportsWriting limit capture.now result fault.old fault.new }
     ensures written { Writes (lines everything limit capture.now) result size.new out.old out.new }
-    ensures offset { result ≡ 2 → IsFrameOffsetOf capture.now fault.new.offset }
-    ensures memory { result ≡ 5 → ReportsMemory limit capture.now fault.new }
-    ensures kept_fault { KeepsFault result fault.old fault.new }
     ensures kept_size { KeepsSize result size.old size.new }
-    ensures status { IsWritingStatus result }
     ensures wanted { result ≡ 4 → size.new ≡ length (lines everything limit capture.now) }
     ensures cause { result ≡ 5 → NeedsMemoryAt limit capture.now fault.new.offset }
     ensures shown { 16 ≤ limit → DependsOnMeaning everything limit capture.now }
@@ -207,13 +184,9 @@ pub extern "C" fn linkcap_show_with(
     size: &mut u64,
     fault: &mut LinkcapFault,
 ) -> u32
-    ensures judged { Judges limit capture.now result fault.new }
+    ensures reported { ReportsWriting limit capture.now result fault.old fault.new }
     ensures written { Writes (lines (asked without_numbers only.now) limit capture.now) result size.new out.old out.new }
-    ensures offset { result ≡ 2 → IsFrameOffsetOf capture.now fault.new.offset }
-    ensures memory { result ≡ 5 → ReportsMemory limit capture.now fault.new }
-    ensures kept_fault { KeepsFault result fault.old fault.new }
     ensures kept_size { KeepsSize result size.old size.new }
-    ensures status { IsWritingStatus result }
     ensures wanted { result ≡ 4 → size.new ≡ length (lines (asked without_numbers only.now) limit capture.now) }
     ensures cause { result ≡ 5 → NeedsMemoryAt limit capture.now fault.new.offset }
     ensures shown { 16 ≤ limit → DependsOnMeaning (asked without_numbers only.now) limit capture.now }

@@ -2,6 +2,7 @@
 use Rattle.std.specs.Prelude.{◌≡◌, ℕ, ⊤, Bool, true, false, List, length, cond, Option, None, Some, Result, Ok, Err}
 use Rattle.std.specs.Prelude.{◌⊎◌, ◌↔◌}
 use Rattle.std.specs.Io.KnownBytes.{Consumes}
+use Rattle.std.specs.declared.io.ErrorKind.{ErrorKind}
 use Rattle.link_capture_grammar.specs.declared.fault.CaptureFault.{CaptureFault}
 use Rattle.link_capture_checks.specs.declared.sameness.SideFault.{SideFault}
 use Rattle.link_capture_grammar.specs.declared.fault.FaultKind.TheVariants.{Read}
@@ -22,18 +23,22 @@ IsUnread {File} to_come failures known fault =
     (file after : File) × (bytes : List ℕ) × (to_come file ≡ known) × Consumes (to_come file) (to_come after) bytes
     × ReadFault (failures file) (failures after) bytes fault.kind × (fault.offset ≡ length bytes)
 
--- How often a file system was asked to open a file, and how often that failed.
-pub record Counts : Type 0 where
+-- How often a file system was asked to open a file, and why the last one couldn't be opened, if it couldn't.
+pub record Openings : Type 0 where
   pub asked : ℕ
-  pub failures : ℕ
+  pub refusal : Option ErrorKind
 
--- The counts after one more file was opened.
-abbrev pub opened : Counts → Counts
-opened n = record { asked = risen n.asked; failures = n.failures }
+-- The openings of a file system, as its trait describes them.
+abbrev pub openings : {F : Type 0} → (F → ℕ) → (F → Option ErrorKind) → F → Openings
+openings asked refusal files = record { asked = asked files; refusal = refusal files }
 
--- The counts after one more file couldn't be opened.
-abbrev pub unopened : Counts → Counts
-unopened n = record { asked = risen n.asked; failures = risen n.failures }
+-- The openings after one more file was opened.
+abbrev pub opened : Openings → Openings
+opened o = record { asked = risen o.asked; refusal = None }
+
+-- The openings after one more file couldn't be opened, for this reason.
+abbrev pub unopened : ErrorKind → Openings → Openings
+unopened kind o = record { asked = risen o.asked; refusal = Some kind }
 
 -- The captures of two files were read, and comparing them yielded this result.
 abbrev pub Judges : List ℕ → List ℕ → ℕ → Result Bool SideFault → Type 0
@@ -43,14 +48,14 @@ Judges left right limit (Err e) = (first_fault limit (cond e.second right left) 
     (e.second ≡ true → IsLegal limit left)
 
 -- The next file couldn't be opened, or couldn't be read, and this is its fault.
-abbrev pub CannotRead : (CaptureFault → Type 0) → Counts → Counts → CaptureFault → Type 0
+abbrev pub CannotRead : (CaptureFault → Type 0) → Openings → Openings → CaptureFault → Type 0
 CannotRead Unread before after fault =
-    ((after ≡ unopened before) × (fault ≡ record { kind = Read; offset = 0 })) ⊎
+    ((kind : ErrorKind) × (after ≡ unopened kind before) × (fault ≡ record { kind = Read; offset = 0 })) ⊎
     ((after ≡ opened before) × Unread fault)
 
 -- One of two files couldn't be read: the first, and then the second wasn't opened; or the second, after the first was
 -- read.
-abbrev pub ReadsOne : (Option (List ℕ) → CaptureFault → Type 0) → Option (List ℕ) → Option (List ℕ) → Counts → Counts →
+abbrev pub ReadsOne : (Option (List ℕ) → CaptureFault → Type 0) → Option (List ℕ) → Option (List ℕ) → Openings → Openings →
     Result Bool SideFault → Type 0
 ReadsOne Unread first second before after (Ok is_same) = ⊥
 ReadsOne Unread first second before after (Err e) =
@@ -60,7 +65,7 @@ ReadsOne Unread first second before after (Err e) =
 
 -- Two files, whose contents may be known, are compared: each was opened once and read, and then they were judged; or
 -- one couldn't be read.
-abbrev pub Compares : (Option (List ℕ) → CaptureFault → Type 0) → Option (List ℕ) → Option (List ℕ) → Counts → Counts →
+abbrev pub Compares : (Option (List ℕ) → CaptureFault → Type 0) → Option (List ℕ) → Option (List ℕ) → Openings → Openings →
     ℕ → Result Bool SideFault → Type 0
 Compares Unread first second before after limit result =
     ((left right : List ℕ) × Holds first left × Holds second right × (after ≡ opened (opened before)) ×

@@ -3,15 +3,14 @@
 ghost use Rattle.std.specs.Prelude.{◌≡◌, Ok, IfOk, IfErr, OnOk};
 ghost use Rattle.std.specs.Process.{exit_status};
 ghost use Rattle.link_capture_reader.specs.States.{sink_state};
-ghost use Rattle.linkcap_program.specs.Comparisons.{Holds, IsUnread, CannotRead, Compares, opened};
+ghost use Rattle.linkcap_program.specs.Comparisons.{Holds, IsUnread, CannotRead, Compares, opened, openings};
 ghost use Rattle.linkcap_program.specs.Runs.{SameRun, SameReported, same_line};
 
-use super::files::FileSystem;
 use super::lines::line;
 use link_capture_checks::{SideFault, same};
 use link_capture_commands::{NOT_PRINTED, status_same};
 use link_capture_grammar::fault::{CaptureFault, FaultKind};
-use link_capture_reader::{Sink, read_all, report_text};
+use link_capture_reader::{FileSystem, Sink, read_all, report_text};
 use std::alloc::Global;
 use std::process::ExitCode;
 
@@ -30,11 +29,12 @@ fn read_side<F: FileSystem>(
     second: bool,
 ) -> Result<Vec<u8>, SideFault>
     ensures ok { IfOk result (λ bytes. Holds (F.contents files.old name.now) bytes.items) }
-    ensures opened { OnOk result (F.counts files.new ≡ opened (F.counts files.old)) }
+    ensures opened { OnOk result (openings F.asked F.refusal files.new
+        ≡ opened (openings F.asked F.refusal files.old)) }
     ensures side { IfErr result (λ e. e.second ≡ second) }
     ensures fault { IfErr result
         (λ e. CannotRead (IsUnread F.File.to_come F.File.failures (F.contents files.old name.now))
-        (F.counts files.old) (F.counts files.new) e.fault) }
+        (openings F.asked F.refusal files.old) (openings F.asked F.refusal files.new) e.fault) }
     ensures contents { F.contents files.new ≡ F.contents files.old }
 {
     let Ok(mut file) = files.open(name) else {
@@ -67,7 +67,7 @@ pub fn compare<F: FileSystem>(
 ) -> Result<bool, SideFault>
     ensures { Compares (IsUnread F.File.to_come F.File.failures)
         (F.contents files.old first.now) (F.contents files.old second.now)
-        (F.counts files.old) (F.counts files.new) limit result }
+        (openings F.asked F.refusal files.old) (openings F.asked F.refusal files.new) limit result }
 {
     let left = read_side(alloc, files, first, false)?;
     let right = read_side(alloc, files, second, true)?;
@@ -120,7 +120,7 @@ pub fn run_same<F: FileSystem, K: Sink, E: Sink>(
 ) -> ExitCode
     ensures { SameRun (Compares (IsUnread F.File.to_come F.File.failures)
         (F.contents files.old first.now) (F.contents files.old second.now)
-        (F.counts files.old) (F.counts files.new) limit) (sink_state K.holds K.failures sink.old)
+        (openings F.asked F.refusal files.old) (openings F.asked F.refusal files.new) limit) (sink_state K.holds K.failures sink.old)
         (sink_state K.holds K.failures sink.new) (sink_state E.holds E.failures errors.old)
         (sink_state E.holds E.failures errors.new) (exit_status result) }
 {

@@ -7,18 +7,17 @@ ghost use Rattle.std.specs.Prelude.{◌≡◌, map, string_bytes};
 ghost use Rattle.std.specs.Process.{exit_status};
 ghost use Rattle.link_capture_reader.specs.States.{sink_state, source_state};
 ghost use Rattle.linkcap_program.specs.Runs.{RunsAsAsked, UsageRun, run_of};
-ghost use Rattle.linkcap_program.specs.Comparisons.{Compares, IsUnread};
+ghost use Rattle.linkcap_program.specs.Comparisons.{Compares, IsUnread, openings};
 
 mod comparing;
-mod files;
 mod lines;
 mod normalizing;
 
 pub use comparing::{compare, run_same};
-pub use files::FileSystem;
-use files::HostFiles;
 use link_capture_commands::{Command, arguments, read_words};
-use link_capture_reader::{ReadSource, Sink, Source, WriteSink, report_text};
+use link_capture_reader::{
+    FileSystem, HostFiles, ReadSource, Sink, Source, WriteSink, report_text,
+};
 pub use normalizing::run_norm;
 use std::alloc::Global;
 use std::io;
@@ -53,7 +52,7 @@ pub fn run<F: FileSystem, S: Source, K: Sink, E: Sink>(
         (sink_state E.holds E.failures) source.old source.new sink.old sink.new errors.old errors.new)
         (λ first second. Compares (IsUnread F.File.to_come F.File.failures)
         (F.contents files.old first) (F.contents files.old second)
-        (F.counts files.old) (F.counts files.new)) (exit_status result) }
+        (openings F.asked F.refusal files.old) (openings F.asked F.refusal files.new)) (exit_status result) }
 {
     match read_words(arguments) {
         None => run_usage(errors),

@@ -5,23 +5,25 @@ ghost use Rattle.std.specs.Prelude.{None};
 use super::devices::{LimitedReader, LimitedWriter, Plan};
 use super::program_arguments::words_of;
 use super::runs::{CAPTURE, TEXT};
-use link_capture::{DeviceFailed, ReadSource, WriteSink};
-use linkcap_program::{FileSystem, run, run_same};
+use link_capture::{ReadSource, WriteSink};
+use link_capture_reader::FileSystem;
+use linkcap_program::{run, run_same};
 use std::alloc::Global;
+use std::io::ErrorKind;
 use std::test::Fail;
 
-/// Files by their names; how often one was opened, and how often that failed as no file has the
+/// Files by their names; how often one was opened, and why the last one wasn't, if no file has its
 /// name.
 #[derive(Drop)]
 struct SampleFiles {
     asked: u64,
-    failures: u64,
+    refusal: Option<ErrorKind>,
 }
 
 /// Files of which none was opened yet.
 const FILES: SampleFiles = SampleFiles {
     asked: 0,
-    failures: 0,
+    refusal: None,
 };
 
 impl FileSystem for SampleFiles {
@@ -29,10 +31,13 @@ impl FileSystem for SampleFiles {
 
     ghost contents = { λ _ _. None };
 
-    ghost counts = { λ s. record { asked = s.asked; failures = s.failures } };
+    ghost asked = { λ s. s.asked };
 
-    fn open(&mut self, name: &str) -> Result<ReadSource<LimitedReader<'static>>, DeviceFailed> {
+    ghost refusal = { λ s. s.refusal };
+
+    fn open(&mut self, name: &str) -> Result<ReadSource<LimitedReader<'static>>, ErrorKind> {
         self.asked = self.asked.saturating_add(1);
+        self.refusal = None;
         let rest: &'static [u8] = match name {
             "capture" => &CAPTURE,
             "text" => &TEXT,
@@ -40,8 +45,8 @@ impl FileSystem for SampleFiles {
             "cut" => &CAPTURE[..63],
             "broken" => &CAPTURE[..16],
             _ => {
-                self.failures = self.failures.saturating_add(1);
-                return Err(DeviceFailed);
+                self.refusal = Some(ErrorKind::NotFound);
+                return Err(ErrorKind::NotFound);
             }
         };
         let plan = Plan {

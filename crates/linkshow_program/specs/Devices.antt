@@ -1,12 +1,7 @@
 -- The files and the devices of a run, before and after it.
-use Rattle.std.specs.Prelude.{ℕ, List, Option, None, Some, Result, Ok, Err}
+use Rattle.std.specs.Prelude.{ℕ, List, Option}
 use Rattle.std.specs.declared.io.ErrorKind.{ErrorKind}
 use Rattle.link_capture_reader.specs.States.{SinkState, SourceState}
-
--- The reason why a file couldn't be opened; None if it was opened.
-abbrev pub refusal_of : {File : Type 0} → Result File ErrorKind → Option ErrorKind
-refusal_of (Ok file) = None
-refusal_of (Err kind) = Some kind
 
 -- Files before and after a call: the bytes of the file with a name, if they are known; the number of calls of `open`;
 -- and the reason why the last file couldn't be opened, if it couldn't.
@@ -16,7 +11,7 @@ pub record Opening : Type 0 where
   pub asks : ℕ
   pub refusal : Option ErrorKind
 
--- The states of files before and after a call, as the trait `Files` describes them.
+-- The states of files before and after a call, as the trait `FileSystem` describes them.
 abbrev pub opening : {F : Type 0} → (F → List ℕ → Option (List ℕ)) → (F → ℕ) → (F → Option ErrorKind) → F → F → Opening
 opening contents asked refusal before after =
     record { contents = contents before; asked = asked before; asks = asked after; refusal = refusal after }

@@ -11,7 +11,6 @@ ghost use Rattle.linkshow_program.specs.Devices.{opening, run_of};
 ghost use Rattle.linkshow_program.specs.Runs.{RunsAsAsked, CaptureRun, FileRun, UsageRun, chosen};
 
 mod arguments;
-mod files;
 mod lines;
 mod notes;
 mod printing;
@@ -21,10 +20,8 @@ mod texts;
 mod usage;
 
 pub use arguments::{Asked, Options, UsageError, read_words};
-pub use files::Files;
-use files::HostFiles;
 use link_capture_commands::arguments;
-use link_capture_reader::{ReadSource, Sink, Source, WriteSink};
+use link_capture_reader::{FileSystem, HostFiles, ReadSource, Sink, Source, WriteSink};
 pub use notes::run_notes;
 use printing::print;
 use showing::report_unopened;
@@ -69,7 +66,7 @@ fn run_capture<S: Source, K: Sink, E: Sink>(
 
 /// Opens a file by its name, and writes the lines of its capture as `run_capture` does. If it
 /// can't be opened, this is reported.
-fn run_file<F: Files, K: Sink, E: Sink>(
+fn run_file<F: FileSystem, K: Sink, E: Sink>(
     alloc: Global,
     files: &mut F,
     sink: &mut K,
@@ -100,7 +97,7 @@ fn run_file<F: Files, K: Sink, E: Sink>(
 /// arguments ask, and reports any error on the error writer. If the arguments ask for help or the
 /// version, or are invalid, no file is opened and nothing is read; if they name a file, the source
 /// isn't read.
-pub fn run<F: Files, S: Source, K: Sink, E: Sink>(
+pub fn run<F: FileSystem, S: Source, K: Sink, E: Sink>(
     alloc: Global,
     arguments: &[String],
     files: &mut F,

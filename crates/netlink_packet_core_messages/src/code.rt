@@ -10,6 +10,10 @@ use netlink_packet_core_attributes::view::{ByteView, ByteViewMut, write_u32};
 use netlink_packet_core_numbers::error::DecodeError;
 use netlink_packet_core_numbers::payloads::fill_u32;
 
+/// The size of the code at the start of the body of a DONE or an ERROR message (netlink.h), in
+/// bytes.
+pub const CODE_LEN: usize = 4;
+
 // What bodies that begin with a code share.
 impl<T: ByteView, const TYPE: u16> MessageBuffer<T, 4, TYPE> {
     /// Returns a view of bytes that hold a code.
@@ -25,13 +29,13 @@ impl<T: ByteView, const TYPE: u16> MessageBuffer<T, 4, TYPE> {
         ensures err { IfErr result (λ e. is_memory e ≡ false) }
     {
         let size = buffer.as_bytes().len();
-        if size < 4 {
+        if size < CODE_LEN {
             let name = if TYPE == NLMSG_DONE {
                 "DoneBuffer"
             } else {
                 "ErrorBuffer"
             };
-            return Err(DecodeError::invalid_buffer(name, size, 4));
+            return Err(DecodeError::invalid_buffer(name, size, CODE_LEN));
         }
         Ok(MessageBuffer { buffer })
     }
@@ -64,7 +68,7 @@ pub(crate) fn emit_code(code: i32, rest: &[u8], buffer: &mut [u8])
     requires { 4 + length rest.now ≤ length buffer.old }
     ensures { buffer.new ≡ (code_text code ++ rest.now) ++ drop (4 + length rest.now) buffer.old }
 {
-    let (prefix, back) = buffer.split_at_mut(4);
+    let (prefix, back) = buffer.split_at_mut(CODE_LEN);
     fill_u32(prefix, code.cast_unsigned());
     let (following, _) = back.split_at_mut(rest.len());
     following.copy_from_slice(rest);

@@ -18,6 +18,7 @@ pub mod payload_traits;
 
 pub use buffer::{MessageBuffer, NETLINK_HEADER_LEN, NetlinkBuffer};
 pub use byte_vec::ByteVec;
+pub use code::CODE_LEN;
 pub use done::{DoneBuffer, DoneMessage};
 pub use error::{ErrorBuffer, ErrorCode, ErrorMessage};
 pub use frame::first_frame_len;

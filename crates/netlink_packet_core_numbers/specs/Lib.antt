@@ -1,3 +1,4 @@
 pub mod Addresses
 pub mod Errors
 pub mod Laws
+pub mod Outcomes

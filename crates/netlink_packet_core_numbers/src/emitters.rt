@@ -1,9 +1,8 @@
 //! Writes numbers at the start of a buffer.
 
-ghost use Rattle.std.specs.Prelude.{◌≡◌, ◌↔◌, ◌≤◌, ◌++◌, false, length, drop, IfErr, IsOk, OnOk, OnErr};
 ghost use Rattle.std.specs.Int.{w16, w32, w64, w128, cast_unsigned};
 ghost use Rattle.netlink_packet_core_grammar.specs.Numbers.{le2, le4, le8, le16, be2, be4, be8, be16};
-ghost use Rattle.netlink_packet_core_numbers.specs.Errors.{is_memory};
+ghost use Rattle.netlink_packet_core_numbers.specs.Outcomes.{IsEmitted};
 
 use super::error::DecodeError;
 
@@ -14,10 +13,7 @@ use super::error::DecodeError;
 /// [`DecodeError::buffer_too_small`] if the buffer is shorter; it is left unchanged.
 #[tactic(auto, using(netlink_packet_core_grammar::proofs::Numbers::digits))]
 pub fn emit_u16(buffer: &mut [u8], value: u16) -> Result<(), DecodeError>
-    ensures size { IsOk result ↔ (2 ≤ length buffer.old) }
-    ensures ok { OnOk result (buffer.new ≡ le2 value ++ drop 2 buffer.old) }
-    ensures err { OnErr result (buffer.new ≡ buffer.old) }
-    ensures cause { IfErr result (λ e. is_memory e ≡ false) }
+    ensures { IsEmitted result 2 (le2 value) buffer.old buffer.new }
 {
     if buffer.len() < 2 {
         return Err(DecodeError::buffer_too_small(buffer.len(), 2));
@@ -33,10 +29,7 @@ pub fn emit_u16(buffer: &mut [u8], value: u16) -> Result<(), DecodeError>
 /// [`DecodeError::buffer_too_small`] if the buffer is shorter; it is left unchanged.
 #[tactic(auto, using(netlink_packet_core_grammar::proofs::Numbers::digits))]
 pub fn emit_u16_be(buffer: &mut [u8], value: u16) -> Result<(), DecodeError>
-    ensures size { IsOk result ↔ (2 ≤ length buffer.old) }
-    ensures ok { OnOk result (buffer.new ≡ be2 value ++ drop 2 buffer.old) }
-    ensures err { OnErr result (buffer.new ≡ buffer.old) }
-    ensures cause { IfErr result (λ e. is_memory e ≡ false) }
+    ensures { IsEmitted result 2 (be2 value) buffer.old buffer.new }
 {
     if buffer.len() < 2 {
         return Err(DecodeError::buffer_too_small(buffer.len(), 2));
@@ -51,10 +44,7 @@ pub fn emit_u16_be(buffer: &mut [u8], value: u16) -> Result<(), DecodeError>
 ///
 /// [`DecodeError::buffer_too_small`] if the buffer is shorter; it is left unchanged.
 pub fn emit_u16_le(buffer: &mut [u8], value: u16) -> Result<(), DecodeError>
-    ensures size { IsOk result ↔ (2 ≤ length buffer.old) }
-    ensures ok { OnOk result (buffer.new ≡ le2 value ++ drop 2 buffer.old) }
-    ensures err { OnErr result (buffer.new ≡ buffer.old) }
-    ensures cause { IfErr result (λ e. is_memory e ≡ false) }
+    ensures { IsEmitted result 2 (le2 value) buffer.old buffer.new }
 {
     emit_u16(buffer, value)
 }
@@ -66,10 +56,7 @@ pub fn emit_u16_le(buffer: &mut [u8], value: u16) -> Result<(), DecodeError>
 /// [`DecodeError::buffer_too_small`] if the buffer is shorter; it is left unchanged.
 #[tactic(auto, using(netlink_packet_core_grammar::proofs::Numbers::digits))]
 pub fn emit_u32(buffer: &mut [u8], value: u32) -> Result<(), DecodeError>
-    ensures size { IsOk result ↔ (4 ≤ length buffer.old) }
-    ensures ok { OnOk result (buffer.new ≡ le4 value ++ drop 4 buffer.old) }
-    ensures err { OnErr result (buffer.new ≡ buffer.old) }
-    ensures cause { IfErr result (λ e. is_memory e ≡ false) }
+    ensures { IsEmitted result 4 (le4 value) buffer.old buffer.new }
 {
     if buffer.len() < 4 {
         return Err(DecodeError::buffer_too_small(buffer.len(), 4));
@@ -85,10 +72,7 @@ pub fn emit_u32(buffer: &mut [u8], value: u32) -> Result<(), DecodeError>
 /// [`DecodeError::buffer_too_small`] if the buffer is shorter; it is left unchanged.
 #[tactic(auto, using(netlink_packet_core_grammar::proofs::Numbers::digits))]
 pub fn emit_u32_be(buffer: &mut [u8], value: u32) -> Result<(), DecodeError>
-    ensures size { IsOk result ↔ (4 ≤ length buffer.old) }
-    ensures ok { OnOk result (buffer.new ≡ be4 value ++ drop 4 buffer.old) }
-    ensures err { OnErr result (buffer.new ≡ buffer.old) }
-    ensures cause { IfErr result (λ e. is_memory e ≡ false) }
+    ensures { IsEmitted result 4 (be4 value) buffer.old buffer.new }
 {
     if buffer.len() < 4 {
         return Err(DecodeError::buffer_too_small(buffer.len(), 4));
@@ -103,10 +87,7 @@ pub fn emit_u32_be(buffer: &mut [u8], value: u32) -> Result<(), DecodeError>
 ///
 /// [`DecodeError::buffer_too_small`] if the buffer is shorter; it is left unchanged.
 pub fn emit_u32_le(buffer: &mut [u8], value: u32) -> Result<(), DecodeError>
-    ensures size { IsOk result ↔ (4 ≤ length buffer.old) }
-    ensures ok { OnOk result (buffer.new ≡ le4 value ++ drop 4 buffer.old) }
-    ensures err { OnErr result (buffer.new ≡ buffer.old) }
-    ensures cause { IfErr result (λ e. is_memory e ≡ false) }
+    ensures { IsEmitted result 4 (le4 value) buffer.old buffer.new }
 {
     emit_u32(buffer, value)
 }
@@ -118,10 +99,7 @@ pub fn emit_u32_le(buffer: &mut [u8], value: u32) -> Result<(), DecodeError>
 /// [`DecodeError::buffer_too_small`] if the buffer is shorter; it is left unchanged.
 #[tactic(auto, using(netlink_packet_core_grammar::proofs::Numbers::digits))]
 pub fn emit_u64(buffer: &mut [u8], value: u64) -> Result<(), DecodeError>
-    ensures size { IsOk result ↔ (8 ≤ length buffer.old) }
-    ensures ok { OnOk result (buffer.new ≡ le8 value ++ drop 8 buffer.old) }
-    ensures err { OnErr result (buffer.new ≡ buffer.old) }
-    ensures cause { IfErr result (λ e. is_memory e ≡ false) }
+    ensures { IsEmitted result 8 (le8 value) buffer.old buffer.new }
 {
     if buffer.len() < 8 {
         return Err(DecodeError::buffer_too_small(buffer.len(), 8));
@@ -137,10 +115,7 @@ pub fn emit_u64(buffer: &mut [u8], value: u64) -> Result<(), DecodeError>
 /// [`DecodeError::buffer_too_small`] if the buffer is shorter; it is left unchanged.
 #[tactic(auto, using(netlink_packet_core_grammar::proofs::Numbers::digits))]
 pub fn emit_u64_be(buffer: &mut [u8], value: u64) -> Result<(), DecodeError>
-    ensures size { IsOk result ↔ (8 ≤ length buffer.old) }
-    ensures ok { OnOk result (buffer.new ≡ be8 value ++ drop 8 buffer.old) }
-    ensures err { OnErr result (buffer.new ≡ buffer.old) }
-    ensures cause { IfErr result (λ e. is_memory e ≡ false) }
+    ensures { IsEmitted result 8 (be8 value) buffer.old buffer.new }
 {
     if buffer.len() < 8 {
         return Err(DecodeError::buffer_too_small(buffer.len(), 8));
@@ -155,10 +130,7 @@ pub fn emit_u64_be(buffer: &mut [u8], value: u64) -> Result<(), DecodeError>
 ///
 /// [`DecodeError::buffer_too_small`] if the buffer is shorter; it is left unchanged.
 pub fn emit_u64_le(buffer: &mut [u8], value: u64) -> Result<(), DecodeError>
-    ensures size { IsOk result ↔ (8 ≤ length buffer.old) }
-    ensures ok { OnOk result (buffer.new ≡ le8 value ++ drop 8 buffer.old) }
-    ensures err { OnErr result (buffer.new ≡ buffer.old) }
-    ensures cause { IfErr result (λ e. is_memory e ≡ false) }
+    ensures { IsEmitted result 8 (le8 value) buffer.old buffer.new }
 {
     emit_u64(buffer, value)
 }
@@ -170,10 +142,7 @@ pub fn emit_u64_le(buffer: &mut [u8], value: u64) -> Result<(), DecodeError>
 /// [`DecodeError::buffer_too_small`] if the buffer is shorter; it is left unchanged.
 #[tactic(auto, unfolding(netlink_packet_core_grammar::specs::Numbers::le16))]
 pub fn emit_u128(buffer: &mut [u8], value: u128) -> Result<(), DecodeError>
-    ensures size { IsOk result ↔ (16 ≤ length buffer.old) }
-    ensures ok { OnOk result (buffer.new ≡ le16 value ++ drop 16 buffer.old) }
-    ensures err { OnErr result (buffer.new ≡ buffer.old) }
-    ensures cause { IfErr result (λ e. is_memory e ≡ false) }
+    ensures { IsEmitted result 16 (le16 value) buffer.old buffer.new }
 {
     if buffer.len() < 16 {
         return Err(DecodeError::buffer_too_small(buffer.len(), 16));
@@ -189,10 +158,7 @@ pub fn emit_u128(buffer: &mut [u8], value: u128) -> Result<(), DecodeError>
 /// [`DecodeError::buffer_too_small`] if the buffer is shorter; it is left unchanged.
 #[tactic(auto, unfolding(netlink_packet_core_grammar::specs::Numbers::be16))]
 pub fn emit_u128_be(buffer: &mut [u8], value: u128) -> Result<(), DecodeError>
-    ensures size { IsOk result ↔ (16 ≤ length buffer.old) }
-    ensures ok { OnOk result (buffer.new ≡ be16 value ++ drop 16 buffer.old) }
-    ensures err { OnErr result (buffer.new ≡ buffer.old) }
-    ensures cause { IfErr result (λ e. is_memory e ≡ false) }
+    ensures { IsEmitted result 16 (be16 value) buffer.old buffer.new }
 {
     if buffer.len() < 16 {
         return Err(DecodeError::buffer_too_small(buffer.len(), 16));
@@ -207,10 +173,7 @@ pub fn emit_u128_be(buffer: &mut [u8], value: u128) -> Result<(), DecodeError>
 ///
 /// [`DecodeError::buffer_too_small`] if the buffer is shorter; it is left unchanged.
 pub fn emit_u128_le(buffer: &mut [u8], value: u128) -> Result<(), DecodeError>
-    ensures size { IsOk result ↔ (16 ≤ length buffer.old) }
-    ensures ok { OnOk result (buffer.new ≡ le16 value ++ drop 16 buffer.old) }
-    ensures err { OnErr result (buffer.new ≡ buffer.old) }
-    ensures cause { IfErr result (λ e. is_memory e ≡ false) }
+    ensures { IsEmitted result 16 (le16 value) buffer.old buffer.new }
 {
     emit_u128(buffer, value)
 }
@@ -221,10 +184,7 @@ pub fn emit_u128_le(buffer: &mut [u8], value: u128) -> Result<(), DecodeError>
 ///
 /// [`DecodeError::buffer_too_small`] if the buffer is shorter; it is left unchanged.
 pub fn emit_i16(buffer: &mut [u8], value: i16) -> Result<(), DecodeError>
-    ensures size { IsOk result ↔ (2 ≤ length buffer.old) }
-    ensures ok { OnOk result (buffer.new ≡ le2 (cast_unsigned w16 value) ++ drop 2 buffer.old) }
-    ensures err { OnErr result (buffer.new ≡ buffer.old) }
-    ensures cause { IfErr result (λ e. is_memory e ≡ false) }
+    ensures { IsEmitted result 2 (le2 (cast_unsigned w16 value)) buffer.old buffer.new }
 {
     emit_u16_le(buffer, value.cast_unsigned())
 }
@@ -235,10 +195,7 @@ pub fn emit_i16(buffer: &mut [u8], value: i16) -> Result<(), DecodeError>
 ///
 /// [`DecodeError::buffer_too_small`] if the buffer is shorter; it is left unchanged.
 pub fn emit_i16_be(buffer: &mut [u8], value: i16) -> Result<(), DecodeError>
-    ensures size { IsOk result ↔ (2 ≤ length buffer.old) }
-    ensures ok { OnOk result (buffer.new ≡ be2 (cast_unsigned w16 value) ++ drop 2 buffer.old) }
-    ensures err { OnErr result (buffer.new ≡ buffer.old) }
-    ensures cause { IfErr result (λ e. is_memory e ≡ false) }
+    ensures { IsEmitted result 2 (be2 (cast_unsigned w16 value)) buffer.old buffer.new }
 {
     emit_u16_be(buffer, value.cast_unsigned())
 }
@@ -249,10 +206,7 @@ pub fn emit_i16_be(buffer: &mut [u8], value: i16) -> Result<(), DecodeError>
 ///
 /// [`DecodeError::buffer_too_small`] if the buffer is shorter; it is left unchanged.
 pub fn emit_i16_le(buffer: &mut [u8], value: i16) -> Result<(), DecodeError>
-    ensures size { IsOk result ↔ (2 ≤ length buffer.old) }
-    ensures ok { OnOk result (buffer.new ≡ le2 (cast_unsigned w16 value) ++ drop 2 buffer.old) }
-    ensures err { OnErr result (buffer.new ≡ buffer.old) }
-    ensures cause { IfErr result (λ e. is_memory e ≡ false) }
+    ensures { IsEmitted result 2 (le2 (cast_unsigned w16 value)) buffer.old buffer.new }
 {
     emit_i16(buffer, value)
 }
@@ -263,10 +217,7 @@ pub fn emit_i16_le(buffer: &mut [u8], value: i16) -> Result<(), DecodeError>
 ///
 /// [`DecodeError::buffer_too_small`] if the buffer is shorter; it is left unchanged.
 pub fn emit_i32(buffer: &mut [u8], value: i32) -> Result<(), DecodeError>
-    ensures size { IsOk result ↔ (4 ≤ length buffer.old) }
-    ensures ok { OnOk result (buffer.new ≡ le4 (cast_unsigned w32 value) ++ drop 4 buffer.old) }
-    ensures err { OnErr result (buffer.new ≡ buffer.old) }
-    ensures cause { IfErr result (λ e. is_memory e ≡ false) }
+    ensures { IsEmitted result 4 (le4 (cast_unsigned w32 value)) buffer.old buffer.new }
 {
     emit_u32_le(buffer, value.cast_unsigned())
 }
@@ -277,10 +228,7 @@ pub fn emit_i32(buffer: &mut [u8], value: i32) -> Result<(), DecodeError>
 ///
 /// [`DecodeError::buffer_too_small`] if the buffer is shorter; it is left unchanged.
 pub fn emit_i32_be(buffer: &mut [u8], value: i32) -> Result<(), DecodeError>
-    ensures size { IsOk result ↔ (4 ≤ length buffer.old) }
-    ensures ok { OnOk result (buffer.new ≡ be4 (cast_unsigned w32 value) ++ drop 4 buffer.old) }
-    ensures err { OnErr result (buffer.new ≡ buffer.old) }
-    ensures cause { IfErr result (λ e. is_memory e ≡ false) }
+    ensures { IsEmitted result 4 (be4 (cast_unsigned w32 value)) buffer.old buffer.new }
 {
     emit_u32_be(buffer, value.cast_unsigned())
 }
@@ -291,10 +239,7 @@ pub fn emit_i32_be(buffer: &mut [u8], value: i32) -> Result<(), DecodeError>
 ///
 /// [`DecodeError::buffer_too_small`] if the buffer is shorter; it is left unchanged.
 pub fn emit_i32_le(buffer: &mut [u8], value: i32) -> Result<(), DecodeError>
-    ensures size { IsOk result ↔ (4 ≤ length buffer.old) }
-    ensures ok { OnOk result (buffer.new ≡ le4 (cast_unsigned w32 value) ++ drop 4 buffer.old) }
-    ensures err { OnErr result (buffer.new ≡ buffer.old) }
-    ensures cause { IfErr result (λ e. is_memory e ≡ false) }
+    ensures { IsEmitted result 4 (le4 (cast_unsigned w32 value)) buffer.old buffer.new }
 {
     emit_i32(buffer, value)
 }
@@ -305,10 +250,7 @@ pub fn emit_i32_le(buffer: &mut [u8], value: i32) -> Result<(), DecodeError>
 ///
 /// [`DecodeError::buffer_too_small`] if the buffer is shorter; it is left unchanged.
 pub fn emit_i64(buffer: &mut [u8], value: i64) -> Result<(), DecodeError>
-    ensures size { IsOk result ↔ (8 ≤ length buffer.old) }
-    ensures ok { OnOk result (buffer.new ≡ le8 (cast_unsigned w64 value) ++ drop 8 buffer.old) }
-    ensures err { OnErr result (buffer.new ≡ buffer.old) }
-    ensures cause { IfErr result (λ e. is_memory e ≡ false) }
+    ensures { IsEmitted result 8 (le8 (cast_unsigned w64 value)) buffer.old buffer.new }
 {
     emit_u64_le(buffer, value.cast_unsigned())
 }
@@ -319,10 +261,7 @@ pub fn emit_i64(buffer: &mut [u8], value: i64) -> Result<(), DecodeError>
 ///
 /// [`DecodeError::buffer_too_small`] if the buffer is shorter; it is left unchanged.
 pub fn emit_i64_be(buffer: &mut [u8], value: i64) -> Result<(), DecodeError>
-    ensures size { IsOk result ↔ (8 ≤ length buffer.old) }
-    ensures ok { OnOk result (buffer.new ≡ be8 (cast_unsigned w64 value) ++ drop 8 buffer.old) }
-    ensures err { OnErr result (buffer.new ≡ buffer.old) }
-    ensures cause { IfErr result (λ e. is_memory e ≡ false) }
+    ensures { IsEmitted result 8 (be8 (cast_unsigned w64 value)) buffer.old buffer.new }
 {
     emit_u64_be(buffer, value.cast_unsigned())
 }
@@ -333,10 +272,7 @@ pub fn emit_i64_be(buffer: &mut [u8], value: i64) -> Result<(), DecodeError>
 ///
 /// [`DecodeError::buffer_too_small`] if the buffer is shorter; it is left unchanged.
 pub fn emit_i64_le(buffer: &mut [u8], value: i64) -> Result<(), DecodeError>
-    ensures size { IsOk result ↔ (8 ≤ length buffer.old) }
-    ensures ok { OnOk result (buffer.new ≡ le8 (cast_unsigned w64 value) ++ drop 8 buffer.old) }
-    ensures err { OnErr result (buffer.new ≡ buffer.old) }
-    ensures cause { IfErr result (λ e. is_memory e ≡ false) }
+    ensures { IsEmitted result 8 (le8 (cast_unsigned w64 value)) buffer.old buffer.new }
 {
     emit_i64(buffer, value)
 }
@@ -347,10 +283,7 @@ pub fn emit_i64_le(buffer: &mut [u8], value: i64) -> Result<(), DecodeError>
 ///
 /// [`DecodeError::buffer_too_small`] if the buffer is shorter; it is left unchanged.
 pub fn emit_i128(buffer: &mut [u8], value: i128) -> Result<(), DecodeError>
-    ensures size { IsOk result ↔ (16 ≤ length buffer.old) }
-    ensures ok { OnOk result (buffer.new ≡ le16 (cast_unsigned w128 value) ++ drop 16 buffer.old) }
-    ensures err { OnErr result (buffer.new ≡ buffer.old) }
-    ensures cause { IfErr result (λ e. is_memory e ≡ false) }
+    ensures { IsEmitted result 16 (le16 (cast_unsigned w128 value)) buffer.old buffer.new }
 {
     emit_u128_le(buffer, value.cast_unsigned())
 }
@@ -361,10 +294,7 @@ pub fn emit_i128(buffer: &mut [u8], value: i128) -> Result<(), DecodeError>
 ///
 /// [`DecodeError::buffer_too_small`] if the buffer is shorter; it is left unchanged.
 pub fn emit_i128_be(buffer: &mut [u8], value: i128) -> Result<(), DecodeError>
-    ensures size { IsOk result ↔ (16 ≤ length buffer.old) }
-    ensures ok { OnOk result (buffer.new ≡ be16 (cast_unsigned w128 value) ++ drop 16 buffer.old) }
-    ensures err { OnErr result (buffer.new ≡ buffer.old) }
-    ensures cause { IfErr result (λ e. is_memory e ≡ false) }
+    ensures { IsEmitted result 16 (be16 (cast_unsigned w128 value)) buffer.old buffer.new }
 {
     emit_u128_be(buffer, value.cast_unsigned())
 }
@@ -375,10 +305,7 @@ pub fn emit_i128_be(buffer: &mut [u8], value: i128) -> Result<(), DecodeError>
 ///
 /// [`DecodeError::buffer_too_small`] if the buffer is shorter; it is left unchanged.
 pub fn emit_i128_le(buffer: &mut [u8], value: i128) -> Result<(), DecodeError>
-    ensures size { IsOk result ↔ (16 ≤ length buffer.old) }
-    ensures ok { OnOk result (buffer.new ≡ le16 (cast_unsigned w128 value) ++ drop 16 buffer.old) }
-    ensures err { OnErr result (buffer.new ≡ buffer.old) }
-    ensures cause { IfErr result (λ e. is_memory e ≡ false) }
+    ensures { IsEmitted result 16 (le16 (cast_unsigned w128 value)) buffer.old buffer.new }
 {
     emit_i128(buffer, value)
 }

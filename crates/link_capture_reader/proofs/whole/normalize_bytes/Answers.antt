@@ -1,17 +1,18 @@
 -- what the laws of the grammar say about the texts
 use Rattle.link_capture_reader.proofs.whole.normalize_bytes.Goals as goal
 
-pub returns-clause-normal : goal.returns-clause-normal
-returns-clause-normal c = (c.texts_are_legal.ensures c.args.limit c.args.bytes.now c.ranges.limit.fits, c.texts_are_normal.ensures c.args.limit c.args.bytes.now c.ranges.limit.fits)
-
-pub returns-clause-same : goal.returns-clause-same
-returns-clause-same c = λ h. c.texts_mean_the_same.ensures c.args.limit c.args.bytes.now c.ranges.limit.fits h
-
-pub returns-clause-small : goal.returns-clause-small
-returns-clause-small c = c.texts_are_small.ensures c.args.limit c.args.bytes.now
-
-pub returns-clause-joined : goal.returns-clause-joined
-returns-clause-joined c = λ h m b. (
-  c.joined_captures_are_legal.ensures c.args.limit c.args.bytes.now b h m,
-  c.joined_captures_have_joined_texts.ensures c.args.limit c.args.bytes.now b h m,
-)
+pub returns-clause-text : goal.returns-clause-text
+returns-clause-text c =
+    let limit = c.args.limit in
+    let b = c.args.bytes.now in
+    let within = c.ranges.limit.fits in
+    record {
+      legal = c.texts_are_legal.ensures limit b within;
+      canonical = c.texts_are_normal.ensures limit b within;
+      same = λ h. c.texts_mean_the_same.ensures limit b within h;
+      small = c.texts_are_small.ensures limit b;
+      joined = λ h m rest. (
+        c.joined_captures_are_legal.ensures limit b rest h m,
+        c.joined_captures_have_joined_texts.ensures limit b rest h m,
+      );
+    }

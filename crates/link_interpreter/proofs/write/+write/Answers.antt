@@ -58,11 +58,11 @@ write_list-unreachable-requires g t c =
 pub write_list-write_attribute-requires : goal.write_list-write_attribute-requires
 write_list-write_attribute-requires g t c κs within =
     let w = c.writing_unfolds.ensures.writable _ _ _ _ _ _ _ _ _ c.in-Some.ensures.first (sym c.is_kept.ensures ∙ c.if-is_kept.true) c.loop-rest.invariant.so_far in
-    (omega (arith, c.in-Some.ensures.within), (within, (writable_as _ _ _ _ _ c.find-found.ensures.rule (omega arith) w)))
+    (omega (arith, c.in-Some.ensures.within), (within, (writable_as _ _ _ _ _ c.find_in-found.ensures.rule (omega arith) w)))
 
 pub write_list-loop-rest-preserved-then-is_kept : goal.write_list-loop-rest-preserved-then-is_kept
 write_list-loop-rest-preserved-then-is_kept g t c =
-    let written = rewritten_as _ _ (attribute_of c.in-Some.attribute) _ _ _ c.find-found.ensures.rule c.find-found.ensures.written c.write_attribute.ensures.text in
+    let written = rewritten_as _ _ (attribute_of c.in-Some.attribute) _ _ _ c.find_in-found.ensures.rule c.find_in-found.ensures.written c.write_attribute.ensures.text in
     record {
       so_far = c.writing_unfolds.ensures.more _ _ _ _ _ _ _ _ _ _ c.in-Some.ensures.first (sym c.is_kept.ensures ∙ c.if-is_kept.true) written c.loop-rest.invariant.so_far;
       capacity = omega arith;

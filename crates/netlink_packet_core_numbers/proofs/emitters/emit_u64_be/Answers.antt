@@ -1,6 +1,6 @@
-use Rattle.std.proofs.Common.{◌++◌, drop, ap, ◌∙◌}
+use Rattle.std.proofs.Common.{◌++◌, drop, ap, ◌∙◌, rules}
 use Rattle.netlink_packet_core_grammar.proofs.Numbers.{be8-bytes}
 use Rattle.netlink_packet_core_numbers.proofs.emitters.emit_u64_be.Goals as goal
 
-pub returns-clause-ok : goal.returns-clause-ok
-returns-clause-ok c = ap (λ t. t ++ drop 8 c.args.buffer.now) (c.copy_from_slice.ensures.after ∙ c.to_be_bytes.ensures ∙ be8-bytes c.args.value c.ranges.value.fits)
+pub returns : goal.returns
+returns c = record { size = search rules; ok = ap (λ t. t ++ drop 8 c.args.buffer.now) (c.copy_from_slice.ensures.after ∙ c.to_be_bytes.ensures ∙ be8-bytes c.args.value c.ranges.value.fits); err = search rules; cause = search rules }

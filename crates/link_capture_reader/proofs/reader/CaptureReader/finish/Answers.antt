@@ -8,5 +8,5 @@ use Rattle.link_capture_reader.proofs.reader.CaptureReader.finish.Goals as goal
 
 pub returns-then-is_empty-clause-ok : goal.returns-then-is_empty-clause-ok
 returns-then-is_empty-clause-ok c = λ s h.
-    let none : c.args.self.kept ≡ [] = nil_from_length c.args.self.kept (ap (λ (r : ReaderState). length r.kept) (sym c.self.view_is) ∙ sym c.self.inside.kept.ok.0 ∙ eqb-true _ _ (sym c.if-is_empty.ensures)) in
+    let none : c.args.self.kept ≡ [] = nil_from_length c.args.self.kept (ap (λ (r : ReaderState). length r.kept) (sym c.self.view_is) ∙ sym c.self.inside.pending.kept.ok.0 ∙ eqb-true _ _ (sym c.if-is_empty.ensures)) in
     nothing_cut c.faults_are_at_frames.ensures c.args.self.limit s c.args.self.owed (subst (λ (kept : List ℕ). Resumes (first_fault c.args.self.limit s) s kept c.args.self.owed) none h.rest)

@@ -1,8 +1,8 @@
 -- the rule of data of a kind without peers is the same under all rules of peers
 use Rattle.std.proofs.Common.{sym, subst}
-use Rattle.attribute_tables.specs.Outcomes.{IsWrittenBy, SucceedsIf}
+use Rattle.attribute_tables.specs.Outcomes.{SucceedsIf}
 use Rattle.attribute_tables_grammar.specs.Peers.{bytes_peer}
-use Rattle.link_info_data.specs.Data.{info_data_fits, info_data_payload}
+use Rattle.link_info_data.specs.Outcomes.{IsDataRead}
 use Rattle.link_info_data.proofs.WithoutPeers.{no_peers}
 use Rattle.link_info_data.proofs.info_data.InfoData.read_with.Goals as goal
 
@@ -14,7 +14,5 @@ returns-in_default g c =
     let e = sym (c.data_without_peers_have_one_rule.ensures g.R.PeerRule.peer bytes_peer k none) in
     record {
       judged = subst (λ r. SucceedsIf c.read.result (r.accepted b)) e c.read.ensures.judged;
-      written = subst (λ r. IsWrittenBy c.read.result info_data_payload info_data_fits r b) e c.read.ensures.written;
-      is_row_variant = c.read.ensures.is_row_variant;
-      not_empty = c.read.ensures.not_empty;
+      read = subst (λ r. IsDataRead c.read.result k r b) e c.read.ensures.read;
     }

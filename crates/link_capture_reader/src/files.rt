@@ -3,17 +3,22 @@
 ghost use Rattle.std.specs.Prelude.{◌≡◌, ℕ, List, Option, IfOk, None};
 ghost use Rattle.std.specs.declared.io.ErrorKind.{ErrorKind};
 ghost use Rattle.link_capture_reader.specs.Devices.{risen};
-ghost use Rattle.linkshow_program.specs.Devices.{refusal_of};
+ghost use Rattle.link_capture_reader.specs.Files.{refusal_of};
+ghost use Rattle.link_capture_reader.specs.Known.{host_asked};
 
-use link_capture_reader::{ReadSource, Source};
+use super::devices::Source;
+use super::sources::ReadSource;
 use std::fs::File;
 use std::io::ErrorKind;
 
-/// A device that opens files by their names.
+/// Opens files by their names.
+///
+/// A trait of our own, so that contracts can speak of the contents of files by their names, and
+/// tests can give files.
 ///
 /// An implementation counts the calls of `open`: the count stays at `u64::MAX` once it has reached
 /// that.
-pub trait Files {
+pub trait FileSystem {
     /// An open file.
     type File: Source + Drop;
 
@@ -40,7 +45,7 @@ pub trait Files {
 
 /// The file system of the process. The contents of its files aren't known to the proofs.
 #[derive(Drop)]
-pub(crate) struct HostFiles<'a> {
+pub struct HostFiles<'a> {
     rt: &'a HostRuntime,
     asked: u64,
     refusal: Option<ErrorKind>,
@@ -48,7 +53,9 @@ pub(crate) struct HostFiles<'a> {
 
 impl<'a> HostFiles<'a> {
     /// Returns the file system of the process, with no call counted.
-    pub fn new(rt: &'a HostRuntime) -> HostFiles<'a> {
+    pub fn new(rt: &'a HostRuntime) -> HostFiles<'a>
+        ensures { host_asked result ≡ 0 }
+    {
         HostFiles {
             rt,
             asked: 0,
@@ -57,7 +64,7 @@ impl<'a> HostFiles<'a> {
     }
 }
 
-impl Files for HostFiles<'_> {
+impl FileSystem for HostFiles<'_> {
     type File = ReadSource<File>;
 
     ghost contents = { λ _ _. None };

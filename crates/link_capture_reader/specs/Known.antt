@@ -1,5 +1,6 @@
 -- The numbers and bytes that the devices of this crate hold.
-use Rattle.std.specs.Prelude.{ℕ, List, vec_capacity}
+use Rattle.std.specs.Prelude.{ℕ, List, Option, vec_capacity}
+use Rattle.std.specs.declared.io.ErrorKind.{ErrorKind}
 use Rattle.link_capture_reader.specs.declared.sources.SliceSource.{SliceSource}
 use Rattle.link_capture_reader.specs.declared.sources.ReadSource.{ReadSource}
 use Rattle.link_capture_reader.specs.declared.sinks.VecSink.{VecSink}
@@ -49,3 +50,7 @@ sink_failures s = s.failures
 -- How often the file system of the process was asked for a file.
 abbrev pub host_asked : HostFiles → ℕ
 host_asked files = files.asked
+
+-- The reason why the last file of the process couldn't be opened; None if it was opened.
+abbrev pub host_refusal : HostFiles → Option ErrorKind
+host_refusal files = files.refusal

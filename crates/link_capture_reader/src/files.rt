@@ -4,7 +4,7 @@ ghost use Rattle.std.specs.Prelude.{◌≡◌, ℕ, List, Option, IfOk, None};
 ghost use Rattle.std.specs.declared.io.ErrorKind.{ErrorKind};
 ghost use Rattle.link_capture_reader.specs.Devices.{risen};
 ghost use Rattle.link_capture_reader.specs.Files.{refusal_of};
-ghost use Rattle.link_capture_reader.specs.Known.{host_asked};
+ghost use Rattle.link_capture_reader.specs.Known.{host_asked, host_refusal};
 
 use super::devices::Source;
 use super::sources::ReadSource;
@@ -52,9 +52,10 @@ pub struct HostFiles<'a> {
 }
 
 impl<'a> HostFiles<'a> {
-    /// Returns the file system of the process, with no call counted.
+    /// Returns the file system of the process, of which no file was asked yet.
     pub fn new(rt: &'a HostRuntime) -> HostFiles<'a>
-        ensures { host_asked result ≡ 0 }
+        ensures asked { host_asked result ≡ 0 }
+        ensures refusal { host_refusal result ≡ None }
     {
         HostFiles {
             rt,

@@ -181,7 +181,7 @@ pub fn walk_list<P: PeerSet>(peers: &P, form: Form, table: Table, bytes: &[u8]) 
             return None;
         };
         if is_kept(form, attribute) {
-            let found = find_in(peers, rows, table, attribute.kind);
+            let found = find_in(peers, rows, attribute.kind);
             let Some(inside) = measure_held(peers, found.held, attribute.payload) else {
                 return None;
             };

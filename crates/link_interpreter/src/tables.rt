@@ -8,7 +8,7 @@ ghost use Rattle.link_interpreter.specs.FoundRows.{IsRowOf};
 use crate::attribute::KIND_BOUND;
 use crate::peers::PeerSet;
 use attribute_tables_grammar::laws::table_rows_are_lawful;
-use link_tables::{Held, Row, Shape, Table, TableRows, indexed_rows, row_in};
+use link_tables::{Held, Row, Shape, Table, TableRows, indexed_rows, tables_are_bounded};
 
 /// The row of an attribute's kind.
 #[derive(Clone, Copy)]
@@ -30,13 +30,13 @@ fn written_kind(is_nested: bool, kind: u16) -> u16
 }
 
 /// Returns the row of an attribute's kind, which may have flag bits, in the rows of a table.
-pub fn find_in<P: PeerSet>(peers: &P, rows: TableRows<'_>, table: Table, kind: u16) -> Found
-    requires { AreRowsOf table rows }
-    ensures { IsRowOf P.peer table kind result }
+pub fn find_in<P: PeerSet>(peers: &P, rows: TableRows<'_>, kind: u16) -> Found
+    ensures { (table : Table) → AreRowsOf table rows.entry → IsRowOf P.peer table kind result }
 {
     peers.peers_are_lawful();
+    tables_are_bounded();
     table_rows_are_lawful();
-    match row_in(rows, table, kind % KIND_BOUND) {
+    match rows.look_up(kind % KIND_BOUND) {
         Row::Listed(_, is_nested, held) => Found {
             held,
             is_typed: true,
@@ -54,5 +54,5 @@ pub fn find_in<P: PeerSet>(peers: &P, rows: TableRows<'_>, table: Table, kind: u
 pub fn find<P: PeerSet>(peers: &P, table: Table, kind: u16) -> Found
     ensures { IsRowOf P.peer table kind result }
 {
-    find_in(peers, indexed_rows(table), table, kind)
+    find_in(peers, indexed_rows(table), kind)
 }

@@ -90,7 +90,7 @@ fn write_list<P: WritePeer>(peers: &P, form: Form, table: Table, bytes: &[u8], o
             unreachable!();
         };
         if is_kept(form, attribute) {
-            let found = find_in(peers, rows, table, attribute.kind);
+            let found = find_in(peers, rows, attribute.kind);
             write_attribute(peers, found.held, found.kind, attribute.payload, out);
         }
         rest = after;

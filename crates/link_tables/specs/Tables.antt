@@ -1,6 +1,6 @@
 -- The tables of the grammar, at the index of their constants in code.
-use Rattle.std.specs.Prelude.{◌≡◌, ℕ, ◌==◌, Bool, cond, List, [], ◌∷◌, Option, get_or}
-use Rattle.attribute_tables_grammar.specs.LookUps.{Line, payload_rule}
+use Rattle.std.specs.Prelude.{◌≡◌, ℕ, ◌==◌, Bool, cond, List, [], ◌∷◌, get_or}
+use Rattle.attribute_tables_grammar.specs.LookUps.{payload_rule}
 use Rattle.attribute_tables_grammar.specs.Peers.{Peer}
 use Rattle.attribute_tables_grammar.specs.Rules.{Rule}
 use Rattle.attribute_tables_grammar.specs.Shapes.{exact}
@@ -13,11 +13,10 @@ use Rattle.link_message_grammar.specs.NestedTables.{devlink_port, dpll_pin, inet
 use Rattle.link_message_grammar.specs.NestedTables.{protocol_down_reason, specific, vf, vf_infos, vf_ports, vf_stats}
 use Rattle.link_message_grammar.specs.NestedTables.{vf_vlans, xdp}
 use Rattle.link_tables.specs.declared.rows.Held.{Held}
-use Rattle.link_tables.specs.declared.rows.Row.{Row}
 use Rattle.link_tables.specs.declared.table.Table.{Table as Named}
 use Rattle.link_tables.specs.declared.table.TheConstants.{LINK_INFO, LINK_UNSPEC, LINK_BRIDGE, LINK_INET6, LINK_OTHER}
 use Rattle.link_tables.specs.declared.rows.TableRows.{TableRows}
-use Rattle.link_tables.specs.Rows.{build, line_of, payload_of, rows_in, IsIndexed}
+use Rattle.link_tables.specs.Rows.{build, payload_of, rows_in, IsIndexed}
 
 -- All tables of the grammar, in the order of the constants. `end` fills the positions of raw attributes and of link
 -- info, whose rows depend on the kinds in force.
@@ -45,10 +44,6 @@ held_payload held = payload_of table_of info_payload held
 -- The rule of a payload in code, under a rule of peers.
 abbrev pub held_rule : Peer → Held → Rule
 held_rule p held = payload_rule p (held_payload held)
-
--- The grammar's entry for a row in code.
-abbrev pub row_line : Row → Option Line
-row_line r = line_of table_of info_payload r
 
 -- These are the rows of the table.
 pub record AreRowsOf (t : Named) (r : TableRows) : Type 0 where

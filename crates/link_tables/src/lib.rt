@@ -17,4 +17,4 @@ pub use info::{
 pub use kinds::{data_held, port_held};
 pub use link_message_grammar::LINK_HEADER_LEN;
 pub use rows::{Form, Held, Row, Shape, TableRows};
-pub use table::{Table, family_table, indexed_rows, row_in};
+pub use table::{Table, family_table, indexed_rows, tables_are_bounded};

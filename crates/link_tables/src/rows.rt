@@ -102,11 +102,10 @@ impl<'a> TableRows<'a> {
         TableRows { first, rows }
     }
 
-    /// Returns the row of a kind. The index of a row is its kind less that of the first row, so
-    /// this takes constant time.
+    /// Returns the row of a kind, which has no flag bits. The index of a row is its kind less that
+    /// of the first row, so this takes constant time.
     pub fn look_up(self, kind: u16) -> Row
-        requires { IsIndexed self }
-        ensures { (tables : ℕ → Rows) (info : Payload)
+        ensures { IsIndexed self.entry → (tables : ℕ → Rows) (info : Payload)
             → line_of tables info result ≡ line_at (build tables info (rows_in self.entry)) kind }
     {
         let position = kind as usize;

@@ -1,11 +1,10 @@
 //! The tables of attributes, each with a constant; those of data are in `kinds`.
 
 ghost use Rattle.std.specs.Prelude.{◌≡◌, ℕ, true, [], get_or};
-ghost use Rattle.attribute_tables_grammar.specs.LookUps.{line_at};
 ghost use Rattle.attribute_tables_grammar.specs.Tables.{rows_bounded};
 ghost use Rattle.link_message_grammar.specs.LinkMessage.{family_of, link_table};
 ghost use Rattle.link_tables.specs.Rows.{lists_of};
-ghost use Rattle.link_tables.specs.Tables.{family_table, is_link_info, row_line, table_of, AreRowsOf};
+ghost use Rattle.link_tables.specs.Tables.{family_table, is_link_info, table_of, AreRowsOf};
 
 use crate::rows::{Row, TableRows};
 use crate::table_rows::TABLES;
@@ -162,11 +161,7 @@ pub fn indexed_rows(table: Table) -> TableRows<'static>
     TableRows::new(table_at(TABLES, table))
 }
 
-/// Returns the row of a kind, which has no flag bits, in the rows of a table.
-pub fn row_in(rows: TableRows<'_>, table: Table, kind: u16) -> Row
-    requires { AreRowsOf table rows }
-    ensures line { row_line result ≡ line_at (table_of table.0) kind }
-    ensures bounded { rows_bounded (table_of table.0) ≡ true }
-{
-    rows.look_up(kind)
-}
+/// The rows of each table are within the grammar's bounds, so that their rules are lawful.
+pub fn tables_are_bounded()
+    ensures { (table : ℕ) → rows_bounded (table_of table) ≡ true }
+{}

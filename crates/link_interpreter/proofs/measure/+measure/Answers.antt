@@ -49,10 +49,11 @@ measure_first-returns-clause-already_canonical g t c = λ h.
 pub walk_list-returns-in_default-measure_held-clause-measure : goal.walk_list-returns-in_default-measure_held-clause-measure
 walk_list-returns-in_default-measure_held-clause-measure g t c =
     c.measures_unfold.ensures.refused _ _ _ _ _ _ _ _ c.loop-rest.invariant.walked c.in-Some.ensures.first (sym c.is_kept.ensures ∙ c.if-is_kept.true)
-    (measured_as _ _ _ _ c.find_in-found.ensures.rule c.in_default-measure_held.ensures.measure) c.loop-rest.invariant.so_far
+    (measured_as _ _ _ _ (c.find_in-found.ensures c.args.table c.indexed_rows-rows.ensures).rule c.in_default-measure_held.ensures.measure) c.loop-rest.invariant.so_far
 
 pub walk_list-loop-rest-preserved-in-Some-measure_held : goal.walk_list-loop-rest-preserved-in-Some-measure_held
 walk_list-loop-rest-preserved-in-Some-measure_held g t c =
+    let found = c.find_in-found.ensures c.args.table c.indexed_rows-rows.ensures in
     let form = form_of c.args.form in
     let rows = rows_of g.P.PeerSet.peer (table_of c.args.table.0) in
     let bytes = c.args.bytes.now in
@@ -61,8 +62,8 @@ walk_list-loop-rest-preserved-in-Some-measure_held g t c =
     let e = attribute_of c.in-Some.attribute in
     let f = c.in-Some.ensures.first in
     let k = sym c.is_kept.ensures ∙ c.if-is_kept.true in
-    let inside = measured_as _ _ e.payload (Some (view c.in-Some-measure_held.inside)) c.find_in-found.ensures.rule c.in-Some-measure_held.ensures.measure in
-    let s = c.measures_unfold.ensures.small _ c.find_in-found.ensures.lawful rest e after (view c.in-Some-measure_held.inside) f inside in
+    let inside = measured_as _ _ e.payload (Some (view c.in-Some-measure_held.inside)) found.rule c.in-Some-measure_held.ensures.measure in
+    let s = c.measures_unfold.ensures.small _ found.lawful rest e after (view c.in-Some-measure_held.inside) f inside in
     let is = c.with_attribute-total.ensures.measure in
     let canonical_step : c.with_attribute-total.result.is_canonical ≡ true → IsCanonicalStep (table_row g.P.PeerSet.peer (table_of c.args.table.0)) bytes rest (length bytes - c.loop-rest.left) e after = λ h.
     let a = and_parts _ _ (sym c.with_attribute-total.ensures.already_canonical ∙ h) in
@@ -70,8 +71,8 @@ walk_list-loop-rest-preserved-in-Some-measure_held g t c =
     let d = and_parts _ _ b.1 in
     record {
       offset = c.loop-rest.invariant.offset a.0;
-      kind = sym c.find_in-found.ensures.written ∙ eqb-true _ _ d.1;
-      payload = sym (ap (λ r. r.canonical e.payload) c.find_in-found.ensures.rule) ∙ c.in-Some-measure_held.ensures.already_canonical b.0;
+      kind = sym found.written ∙ eqb-true _ _ d.1;
+      payload = sym (ap (λ r. r.canonical e.payload) found.rule) ∙ c.in-Some-measure_held.ensures.already_canonical b.0;
       text = c.is_canonical_attribute-is_canonical.ensures d.0;
     } in
     let size_is = ap (λ (m : Measure). m.size) is in

@@ -27,9 +27,9 @@ decreases-measure_first g l = 4 * length l.bytes.now
 abbrev pub invariant-walk_list-loop-rest : goal.invariant-walk_list-loop-rest
 invariant-walk_list-loop-rest g l = record {
   walked : IsWalked (form_of l.form) l.fn.bytes;
-  so_far : MeasuredSoFar (form_of l.form) (rows_of g.P.PeerSet.peer (table_of l.table.0)) l.fn.bytes (view l.total) nothing l.rest;
-  already_canonical : l.total.is_canonical ≡ true → CanonicalSoFar (form_of l.form) (rows_of g.P.PeerSet.peer (table_of l.table.0)) l.fn.bytes nothing l.rest;
-  prefix : IsCanonicalPrefix (list_rule any (rows_of g.P.PeerSet.peer (table_of l.table.0))) l.fn.bytes (length l.fn.bytes - l.left);
+  so_far : MeasuredSoFar (form_of l.form) (rows_of g.P.PeerSet.peer (table_of l.fn.table.0)) l.fn.bytes (view l.total) nothing l.rest;
+  already_canonical : l.total.is_canonical ≡ true → CanonicalSoFar (form_of l.form) (rows_of g.P.PeerSet.peer (table_of l.fn.table.0)) l.fn.bytes nothing l.rest;
+  prefix : IsCanonicalPrefix (list_rule any (rows_of g.P.PeerSet.peer (table_of l.fn.table.0))) l.fn.bytes (length l.fn.bytes - l.left);
   offset : l.total.is_canonical ≡ true → drop (length l.fn.bytes - l.left) l.fn.bytes ≡ l.rest;
   left : l.left ≤ length l.fn.bytes;
   within : l.total.text_len + 77 * length l.rest ≤ 77 * length l.fn.bytes;

@@ -10,7 +10,6 @@ use Rattle.link_interpreter.proofs.Held.{info_no_left, info_no_right, info_same}
 use Rattle.link_interpreter.proofs.Loop.{some_bytes}
 use Rattle.link_info_grammar.specs.LinkInfo.{data_rule_under, port_data_rule_under}
 use Rattle.link_tables.specs.InForce.{in_force}
-use Rattle.link_tables.specs.Tables.{table_of}
 use Rattle.link_interpreter.proofs.same.+same.Goals as goal
 use Rattle.link_interpreter.proofs.same.+same.Goals.{same_link_info-then-is_empty, same_link_info-else-is_empty}
 

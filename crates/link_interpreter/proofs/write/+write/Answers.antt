@@ -2,8 +2,6 @@ use Rattle.std.proofs.Common.{◌++◌, length, sym, ap, ◌∙◌, arith, refl,
 use Rattle.std.proofs.lemmas.Bool.{eqb-true}
 use Rattle.std.proofs.lemmas.List.{length-append}
 use Rattle.attribute_tables_grammar.specs.Lists.{nothing, row_of, any}
-use Rattle.attribute_tables_grammar.specs.LookUps.{payload_rule}
-use Rattle.link_tables.specs.Rows.{payload_of}
 use Rattle.link_interpreter.specs.Measures.{rows_of, info_names}
 use Rattle.link_interpreter.specs.Sameness.{attribute_of}
 use Rattle.link_interpreter.proofs.Held.{info_parts, list_held}
@@ -57,12 +55,14 @@ write_list-unreachable-requires g t c =
 
 pub write_list-write_attribute-requires : goal.write_list-write_attribute-requires
 write_list-write_attribute-requires g t c κs within =
+    let found = c.find_in-found.ensures c.args.table c.indexed_rows-rows.ensures in
     let w = c.writing_unfolds.ensures.writable _ _ _ _ _ _ _ _ _ c.in-Some.ensures.first (sym c.is_kept.ensures ∙ c.if-is_kept.true) c.loop-rest.invariant.so_far in
-    (omega (arith, c.in-Some.ensures.within), (within, (writable_as _ _ _ _ _ c.find_in-found.ensures.rule (omega arith) w)))
+    (omega (arith, c.in-Some.ensures.within), (within, (writable_as _ _ _ _ _ found.rule (omega arith) w)))
 
 pub write_list-loop-rest-preserved-then-is_kept : goal.write_list-loop-rest-preserved-then-is_kept
 write_list-loop-rest-preserved-then-is_kept g t c =
-    let written = rewritten_as _ _ (attribute_of c.in-Some.attribute) _ _ _ c.find_in-found.ensures.rule c.find_in-found.ensures.written c.write_attribute.ensures.text in
+    let found = c.find_in-found.ensures c.args.table c.indexed_rows-rows.ensures in
+    let written = rewritten_as _ _ (attribute_of c.in-Some.attribute) _ _ _ found.rule found.written c.write_attribute.ensures.text in
     record {
       so_far = c.writing_unfolds.ensures.more _ _ _ _ _ _ _ _ _ _ c.in-Some.ensures.first (sym c.is_kept.ensures ∙ c.if-is_kept.true) written c.loop-rest.invariant.so_far;
       capacity = omega arith;

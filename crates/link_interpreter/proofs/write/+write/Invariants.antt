@@ -24,7 +24,7 @@ decreases-write_attribute g l = 4 * length l.payload.now + 4
 
 abbrev pub invariant-write_list-loop-rest : goal.invariant-write_list-loop-rest
 invariant-write_list-loop-rest g l = record {
-  so_far : WrittenSoFar (form_of l.form) (rows_of g.P.PeerSet.peer (table_of l.table.0)) l.fn.bytes l.fn.out.items l.out.items nothing l.rest;
+  so_far : WrittenSoFar (form_of l.form) (rows_of g.P.PeerSet.peer (table_of l.fn.table.0)) l.fn.bytes l.fn.out.items l.out.items nothing l.rest;
   capacity : vec_capacity l.fn.out ≤ vec_capacity l.out;
   within : length l.rest ≤ length l.fn.bytes;
 }

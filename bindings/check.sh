@@ -312,6 +312,11 @@ go_is_formatted() {
     [ -z "$unformatted" ] || { echo "gofmt would change $unformatted"; return 1; }
 }
 
+# Threads that C starts have the stack that ulimit sets.
+go_with_a_small_stack() {
+    env -C bindings/go go test -c -o "$work/go/deep" . && (ulimit -s 256 && exec "$work/go/deep" -test.run TestDeepCaptures)
+}
+
 # A build without cgo fails, and its only error names the requirements.
 go_without_cgo() {
     ! env -C bindings/go CGO_ENABLED=0 go build ./... 2> "$work/errors" || return
@@ -344,6 +349,7 @@ test_go() {
     step "Go: format" go_is_formatted
     step "Go: vet" env -C bindings/go go vet ./...
     step "Go: the calls" "${test[@]}" ./...
+    step "Go: deep captures with a small stack" go_with_a_small_stack
     step "Go: the calls, shared" env LD_LIBRARY_PATH="$work/go/lib" "${test[@]}" -tags linkcap_shared ./...
     if echo 'int main(void) { return 0; }' | "$cc" -fsanitize=thread -x c -o "$work/none" - 2> /dev/null; then
         step "Go: races" "${test[@]}" -race -run 'Goroutines|Example|Reader|Golden' ./...

@@ -133,7 +133,7 @@ expect "names of the sides" 1 "" "$linkdiff" --label golden --label made a b << 
 -  IFLA_IFNAME "lo"
 +  IFLA_IFNAME "l1"
 END
-{ echo "# linkcap lines, format 3"; cat "$work/a.golden"; } > "$work/headed.lines"
+{ echo "# linkcap lines, format 4"; cat "$work/a.golden"; } > "$work/headed.lines"
 expect "a golden file with its format version" 0 "" "$linkdiff" headed.lines a < /dev/null
 expect "a golden file's line numbers" 1 "" "$linkdiff" --without numbers headed.lines b << 'END'
 --- headed.lines
@@ -428,9 +428,9 @@ expect "a golden file and an invalid message" 2 \
 expect "a golden file without invalid messages" 0 "linkrec: left out the message at 48: refused body" \
     "$linkgold" --legal --update "with space.lines" mixed < /dev/null
 expect "the lines without invalid messages" 0 "" "$linkdiff" --without numbers,indexes,counters "with space.lines" <(cat "$work/a" "$work/b") < /dev/null
-sed 's/format 3/format 2/; s/"lo"/"l2"/' "$work/headed.lines" > "$work/older.lines"
+sed 's/format 4/format 3/; s/"lo"/"l2"/' "$work/headed.lines" > "$work/older.lines"
 succeeds "a golden file of another format version" bash -c '"$0" older.lines a 2> report > diff; [ $? -eq 1 ] &&
-    [ "$(cat report)" = "linkgold: older.lines has lines of format 2, and linkshow writes format 3: --update writes it anew" ]' "$linkgold"
+    [ "$(cat report)" = "linkgold: older.lines has lines of format 3, and linkshow writes format 4: --update writes it anew" ]' "$linkgold"
 succeeds "no linkshow" bash -c 'LINKSHOW=/nowhere/linkshow "$0" a.lines a 2>&1 | grep -q "no program linkshow"' "$linkgold"
 
 # Recording is skipped if it isn't possible here.
@@ -470,7 +470,7 @@ else
         grep -q "^linkgold: /proc/none: no such file" report' "$linkgold"
     succeeds "no namespace" bash -c 'mkdir -p bin; printf "#!/bin/sh\necho unshare: not permitted >&2\nexit 1\n" > bin/unshare; chmod +x bin/unshare
         PATH=$PWD/bin:$PATH "$0" run --netns -- ip link 2> report; [ $? -eq 125 ] && grep -q "^linkrec: no network namespace: unshare: not permitted" report' "$linkrec"
-    succeeds "a golden file is written" bash -c '"$0" --update golden/lo.lines -- ip link show dev lo && head -n 1 golden/lo.lines | grep -qx "# linkcap lines, format 3"' "$linkgold"
+    succeeds "a golden file is written" bash -c '"$0" --update golden/lo.lines -- ip link show dev lo && head -n 1 golden/lo.lines | grep -qx "# linkcap lines, format 4"' "$linkgold"
     succeeds "the same command is equal" bash -c '"$0" golden/lo.lines -- ip link show dev lo && "$0" golden/lo.lines -- ip link show dev lo' "$linkgold"
     succeeds "another command differs" bash -c '"$0" golden/lo.lines -- ip link show > diff; [ $? -eq 1 ] && grep -q "^@@.*RTM_GETLINK" diff' "$linkgold"
     succeeds "a capture is compared" bash -c '"$1" run --netns -o made -- ip link show dev lo && "$0" golden/lo.lines made' "$linkgold" "$linkrec"

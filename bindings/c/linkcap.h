@@ -39,7 +39,7 @@ extern "C" {
  * it. Under one version both stay as they are, byte for byte. A program that loads the library when it runs compares it
  * with linkcap_format().
  */
-#define LINKCAP_FORMAT 3
+#define LINKCAP_FORMAT 4
 
 /* A limit is the greatest length in bytes that a message, read or written, may have: from 16 to 4294967295. */
 #define LINKCAP_MIN_LIMIT 16

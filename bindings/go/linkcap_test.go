@@ -2,6 +2,7 @@ package linkcap_test
 
 import (
 	"bytes"
+	"encoding/binary"
 	"errors"
 	"fmt"
 	"io"
@@ -365,5 +366,33 @@ func normalizePrefixes(t *testing.T, random *rand.Rand, capture, want []byte) {
 		if !bytes.HasPrefix(want, text) {
 			t.Error("texts differ")
 		}
+	}
+}
+
+// attribute returns an attribute, with its padding.
+func attribute(kind uint16, payload []byte) []byte {
+	bytes := binary.LittleEndian.AppendUint16(nil, uint16(4+len(payload)))
+	bytes = append(binary.LittleEndian.AppendUint16(bytes, kind), payload...)
+	return append(bytes, make([]byte, -len(payload)&3)...)
+}
+
+// peers returns a link message with peers in peers: IFLA_LINKINFO, IFLA_INFO_DATA and VETH_INFO_PEER at each level.
+func peers(levels int) []byte {
+	peer := make([]byte, 16)
+	for i := 0; i < levels; i++ {
+		info := append(attribute(1, []byte("veth\x00")), attribute(2, attribute(1, peer))...)
+		peer = append(make([]byte, 16), attribute(18, info)...)
+	}
+	message := binary.LittleEndian.AppendUint32(nil, uint32(16+len(peer)))
+	message = append(message, 16, 0, 1, 0, 0, 0, 0, 0, 0, 0, 0, 0)
+	return append(message, peer...)
+}
+
+// Lines of a deep capture are at most 44 times as long. bindings/check.sh runs this with a stack of 256 KiB for each thread.
+func TestDeepCaptures(t *testing.T) {
+	capture := peers(1600)
+	lines, err := linkcap.Lines(capture, linkcap.LineOptions{})
+	if err != nil || len(lines) <= len(capture) || len(lines) > 44*len(capture) {
+		t.Fatalf("%d bytes of lines, %v", len(lines), err)
 	}
 }

@@ -5,7 +5,7 @@
 
 The JSON of lines has to be that of tools/oracle, which has to make the lines of it again: of all samples, of all stored
 results of `show`, and of the captures of the stored cases `refusal`, with refused bodies and offsets. filters.tsv has
-digests of lines that lines_filter filtered. format3.lines has lines of format version 3, and format3.json their JSON.
+digests of lines that lines_filter filtered. all_formats.lines has lines of every format, and all_formats.json their JSON.
 The status is 0 if all agree.
 """
 import hashlib
@@ -58,10 +58,10 @@ def json_faults():
             yield "the lines of the JSON of: " + lines[:200]
 
 
-def format3_faults():
-    expected = [json.loads(line) for line in (HERE / "format3.json").read_text().splitlines()]
-    if as_json((HERE / "format3.lines").read_text()) != expected:
-        yield "the JSON of format3.lines"
+def all_formats_faults():
+    expected = [json.loads(line) for line in (HERE / "all_formats.json").read_text().splitlines()]
+    if as_json((HERE / "all_formats.lines").read_text()) != expected:
+        yield "the JSON of all_formats.lines"
 
 
 def filter_faults():
@@ -75,7 +75,7 @@ def filter_faults():
 
 
 def main():
-    faults = [*json_faults(), *format3_faults(), *filter_faults()]
+    faults = [*json_faults(), *all_formats_faults(), *filter_faults()]
     for fault in faults:
         print(f"lines: differs: {fault}")
     return 1 if faults else 0

@@ -296,16 +296,20 @@ def fits(entries):
     return True
 
 
+def payload_text(e):
+    """The canonical payload of an entry that fits."""
+    if is_nested(e):
+        return text_of(kept_entries(e))
+    if e.row is PEER:
+        return body_text(e.content)
+    return e.row.canonical(e.payload)
+
+
 def text_of(entries):
     """The text of kept entries that fit."""
     out = []
     for e in entries:
-        if is_nested(e):
-            payload = text_of(kept_entries(e))
-        elif e.row is PEER:
-            payload = body_text(e.content)
-        else:
-            payload = e.row.canonical(e.payload)
+        payload = payload_text(e)
         length = 4 + len(payload)
         out.append(p16(length) + p16(e.written_kind) + payload
                    + bytes(round_up(length) - length))

@@ -47,6 +47,7 @@ LISTS = dict(RAW_DATA["list"])
 BODIES = [(*map(matching, columns), record_name, table) for *columns, record_name, table in RAW_DATA["body"]]
 
 NESTED, BIG_ENDIAN = 0x8000, 0x4000     # the flag bits of a kind
+DEEPEST = 16                            # the deepest level of a line
 
 
 def word_of(record_name):
@@ -115,7 +116,8 @@ def payload_lines(depth, name, style, p, attributes=()):
     """The lines of a payload by its format, or else `bytes` and the bytes."""
     style_name, *parameters = style.split(" ")
     if style_name in BLOCKS:
-        below = BLOCKS[style_name](depth + 1, p, attributes, *parameters)
+        is_too_deep = depth + (2 if style_name == "next_hops" else 1) > DEEPEST
+        below = None if is_too_deep else BLOCKS[style_name](depth + 1, p, attributes, *parameters)
         if below is not None:
             return [line(depth, name), *below]
         text = None
@@ -244,7 +246,7 @@ def bytes_lines(depth, table, context, e):
     style = "hardware_address" if style == "hardware_address" else "bytes"
     style = RAW_ROWS.get((table, kind), (name, style))[1]
     if style == PEER:
-        below = peer_lines(depth + 1, e.payload, context.is_request)
+        below = peer_lines(depth + 1, e.payload, context.is_request) if depth < DEEPEST else None
         return [line(depth, name, bytes_text(e.payload))] if below is None else [line(depth, name), *below]
     return payload_lines(depth, name, style, e.payload)
 
@@ -254,6 +256,8 @@ def entry_lines(depth, table, e, context):
         return raw_lines(depth, table, e.kind, e.payload)
     kind = o.proper(e.kind)
     name, style = ROWS[table, kind]
+    if depth == DEEPEST and (o.is_nested(e) or e.row is o.PEER):
+        return [line(depth, name, bytes_text(o.payload_text(e)))]
     if o.is_nested(e):
         inner = e.row.table.name
         if inner == "raw":

@@ -699,6 +699,65 @@ static void test_threads(struct bytes capture)
     __real_free(work.lines.at);
 }
 
+/* Prepends the header of an attribute to a payload of `length` bytes, a multiple of 4, that ends at `end`. */
+static size_t wrap(uint8_t *end, size_t length, uint16_t kind)
+{
+    uint16_t header[2] = {(uint16_t)(length + 4), kind};
+    memcpy(end - length - 4, header, sizeof header);
+    return length + 4;
+}
+
+/* Writes a link message with peers in peers, `levels` deep, to the end of a buffer of zeros. Returns its length. */
+static size_t write_peers(uint8_t *end, int levels)
+{
+    static const uint8_t kind[] = {9, 0, 1, 0, 'v', 'e', 't', 'h', 0, 0, 0, 0}; /* IFLA_INFO_KIND "veth", padded */
+    size_t length = 16;
+    for (int i = 0; i < levels; i++) {
+        length = wrap(end, length, 1); /* VETH_INFO_PEER */
+        length = wrap(end, length, 2); /* IFLA_INFO_DATA */
+        length += sizeof kind;
+        memcpy(end - length, kind, sizeof kind);
+        length = wrap(end, length, 18); /* IFLA_LINKINFO */
+        length += 16;                   /* an empty struct ifinfomsg */
+    }
+    length += 16;
+    uint32_t header[4] = {(uint32_t)length, 16, 1, 0}; /* RTM_NEWLINK */
+    memcpy(end - length, header, sizeof header);
+    return length;
+}
+
+static void *show_deep(void *argument)
+{
+    struct bytes *capture = argument;
+    struct linkcap_fault fault;
+    uint64_t length;
+    size_t room = 44 * capture->length;
+    uint8_t *out = __real_malloc(room);
+    assert(linkcap_normalize(capture->at, capture->length, limit, out, room, &length, &fault) == LINKCAP_OK);
+    assert(linkcap_show(capture->at, capture->length, limit, out, room, &length, &fault) == LINKCAP_OK);
+    assert(length > capture->length);
+    assert(linkcap_show_selected(capture->at, capture->length, limit, LINKCAP_JSON, NULL, 0, NULL, 0, NULL, 0, out, room, &length,
+                                 &fault) == LINKCAP_OK);
+    __real_free(out);
+    return NULL;
+}
+
+/* Deep captures are shown with a stack of 256 KiB, in a thread, and their lines are at most 44 times as long. */
+static void test_deep(void)
+{
+    enum { SIZE = 1 << 17 };
+    uint8_t *buffer = __real_malloc(SIZE);
+    memset(buffer, 0, SIZE);
+    size_t length = write_peers(buffer + SIZE, 1600);
+    struct bytes capture = {buffer + SIZE - length, length};
+    pthread_attr_t attributes;
+    pthread_t thread;
+    assert(pthread_attr_init(&attributes) == 0 && pthread_attr_setstacksize(&attributes, 256 << 10) == 0);
+    assert(pthread_create(&thread, &attributes, show_deep, &capture) == 0 && pthread_join(thread, NULL) == 0);
+    pthread_attr_destroy(&attributes);
+    __real_free(buffer);
+}
+
 static void test_words(void)
 {
     static const struct {
@@ -736,6 +795,7 @@ int main(int argc, char **argv)
     test_faults_of_pieces();
     test_wrong_selections();
     test_unknown_words();
+    test_deep();
     for (int i = 1; i < argc; i++) {
         struct bytes capture = read_file(argv[i]);
         size_t last_cut = capture.length - 8;

@@ -64,7 +64,7 @@ func writeGolden(t *testing.T, capture []byte) string {
 func TestGolden(t *testing.T) {
 	path := writeGolden(t, makeLink(1))
 	text, err := os.ReadFile(path)
-	if err != nil || !strings.HasPrefix(string(text), "# linkcap lines, format 3\nRTM_NEWLINK flags 0x5 ") {
+	if err != nil || !strings.HasPrefix(string(text), "# linkcap lines, format 4\nRTM_NEWLINK flags 0x5 ") {
 		t.Errorf("%v %q", err, text)
 	}
 	if f := runGolden(makeLink(1), path); f.message != "" {
@@ -122,8 +122,8 @@ func TestFiles(t *testing.T) {
 		{"lines of linkshow", string(text[strings.Index(string(text), "\n")+1:]), ""},
 		{"CRLF", strings.ReplaceAll(string(text), "\n", "\r\n"), "ends them by CRLF"},
 		{"no newline", strings.TrimSuffix(string(text), "\n"), "No newline at end of file"},
-		{"an earlier format", strings.NewReplacer("format 3", "format 2", "1281", "1280").Replace(string(text)),
-			"has lines of format 2, and this linkcap writes format 3"},
+		{"an earlier format", strings.NewReplacer("format 4", "format 3", "1281", "1280").Replace(string(text)),
+			"has lines of format 3, and this linkcap writes format 4"},
 	} {
 		if err := os.WriteFile(path, []byte(c.text), 0o666); err != nil {
 			t.Fatal(err)

@@ -6,7 +6,7 @@ scripts linkjson, linkdiff and linkgold are installed with a copy of it.
 import re
 from typing import Iterable, Iterator, List, Set
 
-# The names of attributes in lines, in format version 3.
+# The names of attributes in lines, in format version 4.
 NAMES = frozenset("""
     AF_BRIDGE AF_INET AF_INET6 AF_MCTP AF_MPLS BOND_3AD_STAT_LACPDU_ILLEGAL_RX BOND_3AD_STAT_LACPDU_RX
     BOND_3AD_STAT_LACPDU_TX BOND_3AD_STAT_LACPDU_UNKNOWN_RX BOND_3AD_STAT_MARKER_RESP_RX BOND_3AD_STAT_MARKER_RESP_TX

@@ -12,7 +12,7 @@ from typing import Any, Dict, Iterable, Iterator, List, Optional
 
 Json = Dict[str, Any]
 
-# The attributes whose values are bytes in hex, which may look like numbers, in format version 3 of the lines.
+# The attributes whose values are bytes in hex, which may look like numbers, in format version 4 of the lines.
 BYTES = frozenset("""
     BOND_3AD_STAT_PAD BRIDGE_QUERIER_PAD BRIDGE_VLANDB_GOPTS_PAD BRIDGE_VLANDB_STATS_PAD BRIDGE_XSTATS_PAD FRA_PAD
     FRA_UNUSED2 FRA_UNUSED3 FRA_UNUSED4 FRA_UNUSED5 IFLA_ADDRESS IFLA_AF_SPEC IFLA_BOND_AD_ACTOR_SYSTEM

@@ -6,6 +6,7 @@ from typing import Any, List, Tuple
 
 TOP = os.path.normpath(os.path.join(os.path.dirname(os.path.abspath(__file__)), "..", "..", ".."))
 sys.path.append(os.path.join(TOP, "tools", "oracle"))
+import deep                 # type: ignore[import]  # noqa: E402
 import linkoracle           # type: ignore[import]  # noqa: E402
 import linkshow             # type: ignore[import]  # noqa: E402
 import vectors              # type: ignore[import]  # noqa: E402
@@ -37,6 +38,11 @@ def captures(kind: str) -> List[Tuple[int, List[bytes]]]:
         limit, *words = case.split(" ")
         result.append((int(limit), [bytes.fromhex(word) for word in words]))
     return result
+
+
+def deep_captures() -> List[Tuple[bytes, str]]:
+    """Captures whose lists are as deep as 65 kB allow, and their lines, by the independent implementation."""
+    return [(capture, str(linkshow.lines(capture)[0])) for capture in (deep.peers(), deep.next_hops())]
 
 
 def clear_numbers(capture: bytes) -> bytes:

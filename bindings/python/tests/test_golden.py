@@ -46,7 +46,7 @@ class Golden(unittest.TestCase):
     def test_numbers_are_left_out_by_default(self) -> None:
         linkcap.golden(self.capture, self.path, update=True)
         first, *rest = self.read().splitlines()
-        self.assertEqual(first, "# linkcap lines, format 3")
+        self.assertEqual(first, "# linkcap lines, format 4")
         self.assertEqual(rest[0], "RTM_GETLINK flags 0x301 (REQUEST | ROOT | MATCH)")
         self.assertEqual(rest[1:], sample("lo-request.lines").decode().splitlines()[1:])
         linkcap.golden(self.capture, self.path)
@@ -83,8 +83,8 @@ class Golden(unittest.TestCase):
         lines = linkcap.lines(self.capture, numbers=False)
         self.write(lines)
         linkcap.golden(self.capture, self.path)
-        self.write("# linkcap lines, format 2\n" + lines.replace("lo", "hi"))
-        with self.assertRaisesRegex(AssertionError, "has lines of format 2, and this linkcap writes format 3"):
+        self.write("# linkcap lines, format 3\n" + lines.replace("lo", "hi"))
+        with self.assertRaisesRegex(AssertionError, "has lines of format 3, and this linkcap writes format 4"):
             linkcap.golden(self.capture, self.path)
 
     def test_format_is_that_of_linkshow(self) -> None:
@@ -181,7 +181,7 @@ class Program(unittest.TestCase):
             self.assertEqual(self.run_program(*arguments).returncode, 3, arguments)
         self.assertEqual(self.run_program("norm", os.path.join(TOP, "missing")).returncode, 2)
         version = self.run_program("--version").stdout.decode()
-        self.assertTrue(version.startswith(f"linkcap {linkcap.__version__} (interface 2, lines 3), library "), version)
+        self.assertTrue(version.startswith(f"linkcap {linkcap.__version__} (interface 2, lines 4), library "), version)
         self.assertIn(linkcap.LIBRARY_PATH, version)
 
 

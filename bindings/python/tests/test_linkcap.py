@@ -1,6 +1,7 @@
 """Tests of the calls, over the stored vectors and at the edges: `python3 -m unittest` in this folder, or pytest."""
 import array
 import io
+import json
 import mmap
 import os
 import pickle
@@ -12,7 +13,7 @@ import unittest
 from typing import Any, Callable, Dict, List, Optional, Tuple
 
 import linkcap
-from support import captures, cases, clear_numbers, header_constants, is_legal, means_the_same, results, sample, selected_lines
+from support import captures, cases, clear_numbers, deep_captures, header_constants, is_legal, means_the_same, results, sample, selected_lines
 
 Result = Tuple[bytes, Optional[linkcap.Fault]]
 Call = Callable[..., object]
@@ -145,6 +146,26 @@ class Vectors(unittest.TestCase):
             except linkcap.Fault as fault:
                 texts.append(f"{fault.written.decode()}{fault.words}\n")
             self.assertTrue("".join(texts) == result, case[:200])
+
+    def test_deep_captures(self) -> None:
+        """Peers in peers and next hops in next hops, as deep as 65 kB allow, in a thread with a stack of 256 KiB."""
+        for capture, expected in deep_captures():
+            shown: List[str] = []
+
+            def show(capture: bytes = capture) -> None:
+                shown.append(linkcap.lines(capture))
+                shown.append(json.dumps(linkcap.to_json(capture)))
+
+            threading.stack_size(256 << 10)
+            try:
+                thread = threading.Thread(target=show)
+                thread.start()
+            finally:
+                threading.stack_size(0)
+            thread.join()
+            self.assertEqual(len(shown), 2)
+            self.assertTrue(shown[0] == expected)
+            self.assertLessEqual(len(shown[0]), 44 * len(capture))
 
     def test_quirks(self) -> None:
         inputs, expected = captures("spelling"), results("spelling")

@@ -387,3 +387,36 @@ fn eight_threads() {
         }
     });
 }
+
+/// Returns an attribute, with its padding.
+fn attribute(kind: u16, payload: &[u8]) -> Vec<u8> {
+    let length = u16::try_from(4 + payload.len()).expect("a short payload");
+    let mut bytes = [length.to_le_bytes(), kind.to_le_bytes()].concat();
+    bytes.extend_from_slice(payload);
+    bytes.resize((bytes.len() + 3) & !3, 0);
+    bytes
+}
+
+/// Returns a link message with peers in peers: IFLA_LINKINFO, IFLA_INFO_DATA and VETH_INFO_PEER at each level.
+fn peers(levels: usize) -> Vec<u8> {
+    let header = vec![0; 16];
+    let mut peer = header.clone();
+    for _ in 0..levels {
+        let info = [attribute(1, b"veth\0"), attribute(2, &attribute(1, &peer))].concat();
+        peer = [header.clone(), attribute(18, &info)].concat();
+    }
+    let length = u32::try_from(16 + peer.len()).expect("a short message");
+    [&length.to_le_bytes()[..], &[16, 0, 1, 0], &[0; 8], &peer].concat()
+}
+
+/// A stack of 256 KiB is enough for every capture, and lines are at most 44 times as long.
+#[test]
+fn deep_captures_are_shown_with_a_small_stack() {
+    let capture = peers(1600);
+    let size = capture.len();
+    let show = move || (linkcap::lines(&capture, DEFAULT_LIMIT).expect("a legal capture"), linkcap::normalize(&capture, DEFAULT_LIMIT));
+    let thread = std::thread::Builder::new().stack_size(256 << 10).spawn(show).expect("a thread");
+    let (lines, text) = thread.join().expect("lines");
+    assert!(size < lines.len() && lines.len() <= 44 * size);
+    assert_eq!(text.expect("a legal capture").len(), size);
+}

@@ -5,6 +5,7 @@
 mod bytes_lines;
 mod cuts;
 mod kind_names;
+mod levels;
 mod names;
 mod remaining;
 mod whole;
@@ -12,6 +13,7 @@ mod whole;
 pub use bytes_lines::{push_bytes_line, push_refused_body};
 pub use cuts::{first_word, level, line_len, line_words, split_line, split_word};
 pub use kind_names::{has_byte_order_bit, has_nested_bit, push_kind_name};
+pub use levels::DEEPEST_LEVEL;
 pub use names::{COUNTERS, INDEXES, is_among};
 pub use remaining::{Omission, is_header, is_index_field, push_remaining};
 pub use whole::is_whole;

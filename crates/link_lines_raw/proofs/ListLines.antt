@@ -11,7 +11,7 @@ use Rattle.link_lines_values.proofs.OneLine.{fields_are_lines, is_line_checked}
 use Rattle.link_lines_raw.specs.declared.lists.ListedBy.TheVariants as L
 use Rattle.link_lines_raw.specs.declared.raw_tables.RawTable.{RawTable}
 use Rattle.link_lines_raw.specs.declared.rows.RawBy.TheVariants as R
-use Rattle.link_lines_raw.specs.Attributes.{after_name, encapsulation, has_nested_bit, holds_lines, named_text, nested_word, next_hop_line, raw_row, raw_text, record_words}
+use Rattle.link_lines_raw.specs.Attributes.{after_name, encapsulation, has_nested_bit, is_shown, named_text, nested_word, next_hop_line, raw_row, raw_text, record_words}
 use Rattle.link_lines_raw.specs.Coverage.{determines_raw, is_line_determined, is_line_word}
 use Rattle.link_lines_raw.specs.Lines.{Line}
 use Rattle.link_lines_raw.specs.Lists.{Listed, attributes_if_known, first_part, head_line, head_of, inside_lines, lines_inside, lines_within, listed_in, listed_lines, named_head, named_list, next_lines, part_head, part_list, part_text, shown_head, shown_list}
@@ -51,17 +51,17 @@ nested_by : (b : Bool) → IsLine (cond b (codes " nested") [])
 nested_by true = is_line_checked (codes " nested") refl
 nested_by false = record {}
 
-named_by : (t : RawTable) (w : List ℕ) (e : Attribute) (o : Option (Named Raw)) → raw_row t e.kind ≡ o → IsLine (named_text o w e) × Starts (named_text o w e)
-named_by t w e None h = (kind_line e.kind e.payload, omega arith)
-named_by t w e (Some row) h =
+named_by : (level : ℕ) (t : RawTable) (w : List ℕ) (e : Attribute) (o : Option (Named Raw)) → raw_row t e.kind ≡ o → IsLine (named_text level o w e) × Starts (named_text level o w e)
+named_by level t w e None h = (kind_line e.kind e.payload, omega arith)
+named_by level t w e (Some row) h =
     let f = row_facts t e.kind row h in
-    let rest = lines_joined (nested_word e.kind) (after_name row.1 w e.payload) (nested_by (has_nested_bit e.kind)) (name_line row.1 w e.payload f.determined) in
-    (lines_joined row.0 (nested_word e.kind ++ after_name row.1 w e.payload) (word_line row.0 f.word) rest, starts_joined row.0 (nested_word e.kind ++ after_name row.1 w e.payload) f.starts)
+    let rest = lines_joined (nested_word e.kind) (after_name level row.1 w e.payload) (nested_by (has_nested_bit e.kind)) (name_line level row.1 w e.payload f.determined) in
+    (lines_joined row.0 (nested_word e.kind ++ after_name level row.1 w e.payload) (word_line row.0 f.word) rest, starts_joined row.0 (nested_word e.kind ++ after_name level row.1 w e.payload) f.starts)
 
 -- The text of an attribute's line is one line, and doesn't begin with a space.
-pub text_is_line : (t : RawTable) (w : List ℕ) (e : Attribute) → IsLine (raw_text t w e) × Starts (raw_text t w e)
+pub text_is_line : (level : ℕ) (t : RawTable) (w : List ℕ) (e : Attribute) → IsLine (raw_text level t w e) × Starts (raw_text level t w e)
 unfolding raw_text
-text_is_line t w e = named_by t w e (raw_row t e.kind) refl
+text_is_line level t w e = named_by level t w e (raw_row t e.kind) refl
 
 -- ---- lists
 
@@ -90,8 +90,8 @@ either_determined : (b : Bool) (o : Option (Listed × List ℕ)) → AreDetermin
 either_determined true o h = h
 either_determined false o h = record {}
 
-pub shown_determined : (raw : Raw) (w p : List ℕ) → determines_raw raw ≡ true → AreDetermined (shown_list raw w p)
-shown_determined raw w p h = either_determined (holds_lines raw w p) (listed_in raw w p) (listed_determined raw w p h)
+pub shown_determined : (level : ℕ) (raw : Raw) (w p : List ℕ) → determines_raw raw ≡ true → AreDetermined (shown_list level raw w p)
+shown_determined level raw w p h = either_determined (is_shown level raw w p) (listed_in raw w p) (listed_determined raw w p h)
 
 -- A head, if there is one, is one line, and doesn't begin with a space.
 abbrev pub IsHeadLine : Option (List ℕ) → Type 0
@@ -110,16 +110,16 @@ head_line_of (R.Head line table) p h = (words_are_line line (take (total_size li
 head_line_of (R.Hops table) p h = record {}
 head_line_of (R.Records line) p h = record {}
 
-pub shown_head_line : (raw : Raw) (w p : List ℕ) → determines_raw raw ≡ true → IsHeadLine (shown_head raw w p)
-shown_head_line raw w p h = either_head (holds_lines raw w p) (head_of raw p) (head_line_of raw p h)
+pub shown_head_line : (level : ℕ) (raw : Raw) (w p : List ℕ) → determines_raw raw ≡ true → IsHeadLine (shown_head level raw w p)
+shown_head_line level raw w p h = either_head (is_shown level raw w p) (head_of raw p) (head_line_of raw p h)
 
-named_head_line : (t : RawTable) (w : List ℕ) (e : Attribute) (o : Option (Named Raw)) → raw_row t e.kind ≡ o → IsHeadLine (named_head o w e)
-named_head_line t w e None h = record {}
-named_head_line t w e (Some row) h = shown_head_line row.1 w e.payload (row_facts t e.kind row h).determined
+named_head_line : (level : ℕ) (t : RawTable) (w : List ℕ) (e : Attribute) (o : Option (Named Raw)) → raw_row t e.kind ≡ o → IsHeadLine (named_head level o w e)
+named_head_line level t w e None h = record {}
+named_head_line level t w e (Some row) h = shown_head_line level row.1 w e.payload (row_facts t e.kind row h).determined
 
-named_determined : (t : RawTable) (w : List ℕ) (e : Attribute) (o : Option (Named Raw)) → raw_row t e.kind ≡ o → AreDetermined (named_list o w e)
-named_determined t w e None h = record {}
-named_determined t w e (Some row) h = shown_determined row.1 w e.payload (row_facts t e.kind row h).determined
+named_determined : (level : ℕ) (t : RawTable) (w : List ℕ) (e : Attribute) (o : Option (Named Raw)) → raw_row t e.kind ≡ o → AreDetermined (named_list level o w e)
+named_determined level t w e None h = record {}
+named_determined level t w e (Some row) h = shown_determined level row.1 w e.payload (row_facts t e.kind row h).determined
 
 pub heads_are_lines : (level : ℕ) (o : Option (List ℕ)) → IsHeadLine o → AreLines (head_line level o)
 heads_are_lines level None h = record {}
@@ -130,18 +130,18 @@ unfolding next_hop_line layout_fields number_texts
 next_hop_determined = refl
 
 -- What is known of the lines of a part.
-record PartLines (listed : Listed) (e : Attribute) : Type 0 where
-  text : IsLine (part_text listed e) × Starts (part_text listed e)
-  head : IsHeadLine (part_head listed e)
-  list : AreDetermined (part_list listed e)
+record PartLines (level : ℕ) (listed : Listed) (e : Attribute) : Type 0 where
+  text : IsLine (part_text level listed e) × Starts (part_text level listed e)
+  head : IsHeadLine (part_head level listed e)
+  list : AreDetermined (part_list level listed e)
 
-part_is_lines : (listed : Listed) (e : Attribute) → IsDetermined listed → PartLines listed e
+part_is_lines : (level : ℕ) (listed : Listed) (e : Attribute) → IsDetermined listed → PartLines level listed e
 unfolding part_text part_head part_list
-part_is_lines (L.Attributes t w) e h = record { text = text_is_line t w e; head = named_head_line t w e (raw_row t e.kind) refl; list = named_determined t w e (raw_row t e.kind) refl }
-part_is_lines (L.NextHops t) e h =
+part_is_lines level (L.Attributes t w) e h = record { text = text_is_line (level + 1) t w e; head = named_head_line (level + 1) t w e (raw_row t e.kind) refl; list = named_determined (level + 1) t w e (raw_row t e.kind) refl }
+part_is_lines level (L.NextHops t) e h =
     let p = take 6 (drop 2 e.payload) in
     record { text = (words_are_line next_hop_line p next_hop_determined, (words_start next_hop_line p next_hop_determined).1); head = record {}; list = record {} }
-part_is_lines (L.Records line) e h = record { text = (words_are_line line e.payload h, (words_start line e.payload h).1); head = record {}; list = record {} }
+part_is_lines level (L.Records line) e h = record { text = (words_are_line line e.payload h, (words_start line e.payload h).1); head = record {}; list = record {} }
 
 pub lines_of_both : (a b : List Line) → AreLines a → AreLines b → AreLines (a ++ b)
 lines_of_both [] b h k = k
@@ -158,10 +158,10 @@ inside_are_lines n level (Some x) h d = h level x.0 x.1 d
 next_are_lines : (n level : ℕ) (listed : Listed) (o : Option (Attribute × List ℕ)) → AllLines n → IsDetermined listed → AreLines (next_lines (λ l m b. lines_within n l m b) level listed o)
 next_are_lines n level listed None h d = record {}
 next_are_lines n level listed (Some x) h d =
-    let f = part_is_lines listed x.0 d in (
+    let f = part_is_lines level listed x.0 d in (
       f.text,
-      lines_of_both (head_line (level + 1) (part_head listed x.0)) _ (heads_are_lines (level + 1) (part_head listed x.0) f.head)
-          (lines_of_both (lines_inside (λ l m b. lines_within n l m b) (level + 1) (part_list listed x.0)) _ (inside_are_lines n (level + 1) (part_list listed x.0) h f.list) (h level listed x.1 d)),
+      lines_of_both (head_line (level + 1) (part_head level listed x.0)) _ (heads_are_lines (level + 1) (part_head level listed x.0) f.head)
+          (lines_of_both (lines_inside (λ l m b. lines_within n l m b) (level + 1) (part_list level listed x.0)) _ (inside_are_lines n (level + 1) (part_list level listed x.0) h f.list) (h level listed x.1 d)),
     )
 
 within_lines : (n : ℕ) → AllLines n
@@ -180,6 +180,6 @@ option_lines level (Some x) h = listed_are_lines level x.0 x.1 h
 pub below_are_lines : (level : ℕ) (o : Option (List ℕ)) (l : Option (Listed × List ℕ)) → IsHeadLine o → AreDetermined l → AreLines (head_line level o ++ inside_lines level l)
 below_are_lines level o l h k = lines_of_both (head_line level o) (inside_lines level l) (heads_are_lines level o h) (option_lines level l k)
 
-pub attribute_lines : (level : ℕ) (t : RawTable) (w : List ℕ) (e : Attribute) → AreLines (head_line level (named_head (raw_row t e.kind) w e) ++ inside_lines level (named_list (raw_row t e.kind) w e))
+pub attribute_lines : (level : ℕ) (t : RawTable) (w : List ℕ) (e : Attribute) → AreLines (head_line level (named_head level (raw_row t e.kind) w e) ++ inside_lines level (named_list level (raw_row t e.kind) w e))
 attribute_lines level t w e =
-    below_are_lines level (named_head (raw_row t e.kind) w e) (named_list (raw_row t e.kind) w e) (named_head_line t w e (raw_row t e.kind) refl) (named_determined t w e (raw_row t e.kind) refl)
+    below_are_lines level (named_head level (raw_row t e.kind) w e) (named_list level (raw_row t e.kind) w e) (named_head_line level t w e (raw_row t e.kind) refl) (named_determined level t w e (raw_row t e.kind) refl)

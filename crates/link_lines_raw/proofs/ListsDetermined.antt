@@ -35,11 +35,11 @@ use Rattle.link_lines_raw.proofs.Words.{cut_word, not_unnamed, space_ends}
 
 -- The lines below the line of an attribute.
 abbrev pub under : ℕ → RawTable → List ℕ → Attribute → List Line
-under level t w e = head_line level (named_head (raw_row t e.kind) w e) ++ inside_lines level (named_list (raw_row t e.kind) w e)
+under level t w e = head_line level (named_head level (raw_row t e.kind) w e) ++ inside_lines level (named_list level (raw_row t e.kind) w e)
 
 -- The line of an attribute, and those below it.
 abbrev block : ℕ → RawTable → List ℕ → Attribute → List Line
-block level t w e = (level, raw_text t w e) ∷ under (level + 1) t w e
+block level t w e = (level, raw_text (level + 1) t w e) ∷ under (level + 1) t w e
 
 abbrev lines_of : ℕ → RawTable → List ℕ → List Attribute → List Line
 lines_of level t w es = flat_map (block level t w) es
@@ -52,11 +52,11 @@ lines_are : (level : ℕ) (t : RawTable) (w : List ℕ) (es : List Attribute) �
 unfolding list_text first_part part_text part_head part_list
 lines_are level t w [] = none level (L.Attributes t w) [] no_attribute
 lines_are level t w (e ∷ es) =
-    let head = head_line (level + 1) (named_head (raw_row t e.kind) w e) in
-    let list = inside_lines (level + 1) (named_list (raw_row t e.kind) w e) in
+    let head = head_line (level + 1) (named_head (level + 1) (raw_row t e.kind) w e) in
+    let list = inside_lines (level + 1) (named_list (level + 1) (raw_row t e.kind) w e) in
     next level (L.Attributes t w) (list_text (e ∷ es)) e (list_text es) (first_attribute_text e (list_text es))
-    ∙ ap (λ z. (level, raw_text t w e) ∷ (head ++ (list ++ z))) (lines_are level t w es)
-    ∙ ap (λ z. (level, raw_text t w e) ∷ z) (sym (append_assoc head list (lines_of level t w es)))
+    ∙ ap (λ z. (level, raw_text (level + 1) t w e) ∷ (head ++ (list ++ z))) (lines_are level t w es)
+    ∙ ap (λ z. (level, raw_text (level + 1) t w e) ∷ z) (sym (append_assoc head list (lines_of level t w es)))
 
 lines_under : (level : ℕ) (t : RawTable) (w : List ℕ) (es : List Attribute) → IsUnder (level + 1) (lines_of level t w es)
 lines_under level t w [] = record {}
@@ -70,7 +70,7 @@ Pairs P es fs = ⊥
 
 -- Two attributes have the same line, and the same lines below it.
 pub record Alike (level : ℕ) (t : RawTable) (w v : List ℕ) (e f : Attribute) : Type 0 where
-  pub text : raw_text t w e ≡ raw_text t v f
+  pub text : raw_text (level + 1) t w e ≡ raw_text (level + 1) t v f
   pub lines : under (level + 1) t w e ≡ under (level + 1) t v f
 
 blocks : (level : ℕ) (t : RawTable) (w v : List ℕ) (es fs : List Attribute) → lines_of level t w es ≡ lines_of level t v fs → Pairs (Alike level t w v) es fs
@@ -78,10 +78,10 @@ blocks level t w v [] [] h = record {}
 blocks level t w v [] (f ∷ fs) h = absurd cc
 blocks level t w v (e ∷ es) [] h = absurd cc
 blocks level t w v (e ∷ es) (f ∷ fs) h =
-    let own_e = named_head (raw_row t e.kind) w e in
-    let own_f = named_head (raw_row t f.kind) v f in
+    let own_e = named_head (level + 1) (raw_row t e.kind) w e in
+    let own_f = named_head (level + 1) (raw_row t f.kind) v f in
     let c = span (level + 1) (under (level + 1) t w e) (under (level + 1) t v f) (lines_of level t w es) (lines_of level t v fs)
-    (below_deep (level + 1) own_e (named_list (raw_row t e.kind) w e)) (below_deep (level + 1) own_f (named_list (raw_row t f.kind) v f)) (lines_under level t w es) (lines_under level t v fs) (ap (drop 1) h) in
+    (below_deep (level + 1) own_e (named_list (level + 1) (raw_row t e.kind) w e)) (below_deep (level + 1) own_f (named_list (level + 1) (raw_row t f.kind) v f)) (lines_under level t w es) (lines_under level t v fs) (ap (drop 1) h) in
     (record { text = ap first_text h; lines = c.0 }, blocks level t w v es fs c.1)
 
 -- ---- one attribute
@@ -102,32 +102,32 @@ word_space true s h = refl
 word_space false s h = h
 
 -- Two attributes with rows and the same text have the same kind, and the same text after their names.
-pub record SameKind (t : RawTable) (w v : List ℕ) (e f : Attribute) (x y : Named Raw) : Type 0 where
+pub record SameKind (level : ℕ) (t : RawTable) (w v : List ℕ) (e f : Attribute) (x y : Named Raw) : Type 0 where
   pub kind : e.kind ≡ f.kind
   pub row : x ≡ y
-  pub after : after_name x.1 w e.payload ≡ after_name x.1 v f.payload
+  pub after : after_name level x.1 w e.payload ≡ after_name level x.1 v f.payload
 
-named_kind : (t : RawTable) (w v : List ℕ) (e f : Attribute) (x y : Named Raw) → IsEncodable e → IsEncodable f → raw_row t e.kind ≡ Some x → raw_row t f.kind ≡ Some y → named_text (Some x) w e ≡ named_text (Some y) v f → SameKind t w v e f x y
-named_kind t w v e f x y a b h i same =
+named_kind : (level : ℕ) (t : RawTable) (w v : List ℕ) (e f : Attribute) (x y : Named Raw) → IsEncodable e → IsEncodable f → raw_row t e.kind ≡ Some x → raw_row t f.kind ≡ Some y → named_text level (Some x) w e ≡ named_text level (Some y) v f → SameKind level t w v e f x y
+named_kind level t w v e f x y a b h i same =
     let m = row_facts t e.kind x h in
     let n = row_facts t f.kind y i in
-    let own = after_name x.1 w e.payload in
-    let other = after_name y.1 v f.payload in
+    let own = after_name level x.1 w e.payload in
+    let other = after_name level y.1 v f.payload in
     let cut = cut_word x.0 y.0 (nested_word e.kind ++ own) (nested_word f.kind ++ other) m.word n.word
-    (space_ends _ (word_space (has_nested_bit e.kind) own (name_space x.1 w e.payload))) (space_ends _ (word_space (has_nested_bit f.kind) other (name_space y.1 v f.payload))) same in
+    (space_ends _ (word_space (has_nested_bit e.kind) own (name_space level x.1 w e.payload))) (space_ends _ (word_space (has_nested_bit f.kind) other (name_space level y.1 v f.payload))) same in
     let bits = nested_by (has_nested_bit e.kind) (has_nested_bit f.kind) own other
-    (λ s j. unnested x.1 w e.payload s m.determined a.payload j) (λ s j. unnested y.1 v f.payload s n.determined b.payload j) (name_space x.1 w e.payload) (name_space y.1 v f.payload) cut.1 in
+    (λ s j. unnested level x.1 w e.payload s m.determined a.payload j) (λ s j. unnested level y.1 v f.payload s n.determined b.payload j) (name_space level x.1 w e.payload) (name_space level y.1 v f.payload) cut.1 in
     let kinds : e.kind ≡ f.kind = kind_by e.kind f.kind (has_nested_bit e.kind) a.kind b.kind refl (sym bits.0) (is_row t e.kind x h).bit (is_row t f.kind y i).bit (names_determined t e.kind f.kind x y h i cut.0) in
     let one : x ≡ y = same_Some x y (sym h ∙ ap (raw_row t) kinds ∙ i) in
-    record { kind = kinds; row = one; after = bits.1 ∙ ap (λ z. after_name z.1 v f.payload) (sym one) }
+    record { kind = kinds; row = one; after = bits.1 ∙ ap (λ z. after_name level z.1 v f.payload) (sym one) }
 
 -- Two attributes without a row, or two with one; never one of each.
-either_kind : (t : RawTable) (w v : List ℕ) (e f : Attribute) (a b : Option (Named Raw)) → IsEncodable e → IsEncodable f → raw_row t e.kind ≡ a → raw_row t f.kind ≡ b → named_text a w e ≡ named_text b v f →
-    ((a ≡ None) × (e ≡ f)) ⊎ ((x : Named Raw) × (y : Named Raw) × (raw_row t e.kind ≡ Some x) × (raw_row t f.kind ≡ Some y) × SameKind t w v e f x y)
-either_kind t w v e f None None a b h i same = inl (refl, unnamed_determined e f a b same)
-either_kind t w v e f None (Some y) a b h i same = let n = row_facts t f.kind y i in absurd (not_unnamed y.0 (nested_word f.kind ++ after_name y.1 v f.payload) _ n.starts n.upper (sym same))
-either_kind t w v e f (Some x) None a b h i same = let n = row_facts t e.kind x h in absurd (not_unnamed x.0 (nested_word e.kind ++ after_name x.1 w e.payload) _ n.starts n.upper same)
-either_kind t w v e f (Some x) (Some y) a b h i same = inr (x, y, h, i, named_kind t w v e f x y a b h i same)
+either_kind : (level : ℕ) (t : RawTable) (w v : List ℕ) (e f : Attribute) (a b : Option (Named Raw)) → IsEncodable e → IsEncodable f → raw_row t e.kind ≡ a → raw_row t f.kind ≡ b → named_text level a w e ≡ named_text level b v f →
+    ((a ≡ None) × (e ≡ f)) ⊎ ((x : Named Raw) × (y : Named Raw) × (raw_row t e.kind ≡ Some x) × (raw_row t f.kind ≡ Some y) × SameKind level t w v e f x y)
+either_kind level t w v e f None None a b h i same = inl (refl, unnamed_determined e f a b same)
+either_kind level t w v e f None (Some y) a b h i same = let n = row_facts t f.kind y i in absurd (not_unnamed y.0 (nested_word f.kind ++ after_name level y.1 v f.payload) _ n.starts n.upper (sym same))
+either_kind level t w v e f (Some x) None a b h i same = let n = row_facts t e.kind x h in absurd (not_unnamed x.0 (nested_word e.kind ++ after_name level x.1 w e.payload) _ n.starts n.upper same)
+either_kind level t w v e f (Some x) (Some y) a b h i same = inr (x, y, h, i, named_kind level t w v e f x y a b h i same)
 
 same_attribute : (e f : Attribute) → e.kind ≡ f.kind → e.payload ≡ f.payload → e ≡ f
 same_attribute e f k p i = record { kind = k i; payload = p i }
@@ -137,24 +137,24 @@ pub record Simple (t : RawTable) (e f : Attribute) : Type 0 where
   pub kind : e.kind ≡ f.kind
   pub value : (x : Named Raw) → raw_row t e.kind ≡ Some x → is_value x.1 ≡ true → e ≡ f
 
-value_is : (raw : Raw) (w v p q : List ℕ) → is_value raw ≡ true → determines_raw raw ≡ true → AreBytes p → AreBytes q → after_name raw w p ≡ after_name raw v q → p ≡ q
+value_is : (level : ℕ) (raw : Raw) (w v p q : List ℕ) → is_value raw ≡ true → determines_raw raw ≡ true → AreBytes p → AreBytes q → after_name level raw w p ≡ after_name level raw v q → p ≡ q
 unfolding after_name
-value_is (R.Value shown) w v p q h d a b e = raw_values_determined.determined shown p q d a b e
-value_is raw w v p q h d a b e = absurd cc
+value_is level (R.Value shown) w v p q h d a b e = raw_values_determined.determined shown p q d a b e
+value_is level raw w v p q h d a b e = absurd cc
 
-simple_by : (t : RawTable) (w v : List ℕ) (e f : Attribute) → IsEncodable e → IsEncodable f →
-    ((raw_row t e.kind ≡ None) × (e ≡ f)) ⊎ ((x : Named Raw) × (y : Named Raw) × (raw_row t e.kind ≡ Some x) × (raw_row t f.kind ≡ Some y) × SameKind t w v e f x y) → Simple t e f
-simple_by t w v e f a b (inl h) = record { kind = ap (λ z. z.kind) h.1; value = λ x i j. h.1 }
-simple_by t w v e f a b (inr (x, y, h, i, s)) = record {
+simple_by : (level : ℕ) (t : RawTable) (w v : List ℕ) (e f : Attribute) → IsEncodable e → IsEncodable f →
+    ((raw_row t e.kind ≡ None) × (e ≡ f)) ⊎ ((x : Named Raw) × (y : Named Raw) × (raw_row t e.kind ≡ Some x) × (raw_row t f.kind ≡ Some y) × SameKind level t w v e f x y) → Simple t e f
+simple_by level t w v e f a b (inl h) = record { kind = ap (λ z. z.kind) h.1; value = λ x i j. h.1 }
+simple_by level t w v e f a b (inr (x, y, h, i, s)) = record {
   kind = s.kind;
   value = λ z j k.
       let one : x ≡ z = same_Some x z (sym h ∙ j) in
-      same_attribute e f s.kind (value_is x.1 w v e.payload f.payload (ap (λ r. is_value r.1) one ∙ k) (row_facts t e.kind x h).determined a.payload b.payload s.after);
+      same_attribute e f s.kind (value_is level x.1 w v e.payload f.payload (ap (λ r. is_value r.1) one ∙ k) (row_facts t e.kind x h).determined a.payload b.payload s.after);
 }
 
 simple : (level : ℕ) (t : RawTable) (w v : List ℕ) (e f : Attribute) → IsEncodable e → IsEncodable f → Alike level t w v e f → Simple t e f
 unfolding raw_text
-simple level t w v e f a b h = simple_by t w v e f a b (either_kind t w v e f (raw_row t e.kind) (raw_row t f.kind) a b refl refl h.text)
+simple level t w v e f a b h = simple_by (level + 1) t w v e f a b (either_kind (level + 1) t w v e f (raw_row t e.kind) (raw_row t f.kind) a b refl refl h.text)
 
 all_simple : (level : ℕ) (t : RawTable) (w v : List ℕ) (es fs : List Attribute) → AreEncodable es → AreEncodable fs → Pairs (Alike level t w v) es fs → Pairs (Simple t) es fs
 all_simple level t w v [] [] a b h = record {}
@@ -192,24 +192,24 @@ abbrev pub SameTables : RawTable → List ℕ → List ℕ → Type 0
 SameTables t w v = (l k : ℕ) (x : Named Raw) → raw_row t l ≡ Some x → x.1 ≡ R.Encapsulation k → encapsulation k w ≡ encapsulation k v
 
 module _ (n : ℕ) (shorter : ShorterDetermined n) where
-  named : (level : ℕ) (t : RawTable) (w v : List ℕ) (e f : Attribute) (x y : Named Raw) → length e.payload < n → IsEncodable e → IsEncodable f → SameTables t w v → raw_row t e.kind ≡ Some x → raw_row t f.kind ≡ Some y → SameKind t w v e f x y →
+  named : (level : ℕ) (t : RawTable) (w v : List ℕ) (e f : Attribute) (x y : Named Raw) → length e.payload < n → IsEncodable e → IsEncodable f → SameTables t w v → raw_row t e.kind ≡ Some x → raw_row t f.kind ≡ Some y → SameKind level t w v e f x y →
       under level t w e ≡ under level t v f → e ≡ f
   named level t w v e f x y l a b types h i s lines =
       let facts = row_facts t e.kind x h in
       let own : below level x.1 w e.payload ≡ below level x.1 v f.payload =
-      ap (λ o. head_line level (named_head o w e) ++ inside_lines level (named_list o w e)) (sym h) ∙ lines ∙ ap (λ o. head_line level (named_head o v f) ++ inside_lines level (named_list o v f)) (i ∙ ap (λ z. Some z) (sym s.row)) in
+      ap (λ o. head_line level (named_head level o w e) ++ inside_lines level (named_list level o w e)) (sym h) ∙ lines ∙ ap (λ o. head_line level (named_head level o v f) ++ inside_lines level (named_list level o v f)) (i ∙ ap (λ z. Some z) (sym s.row)) in
       same_attribute e f s.kind
       (payload_determined n shorter (hops_determined n shorter) records_determined level x.1 w v e.payload f.payload facts.determined l a.payload b.payload (λ k j. types e.kind k x h j) s.after own)
 
   attribute_by : (level : ℕ) (t : RawTable) (w v : List ℕ) (e f : Attribute) → length e.payload < n → IsEncodable e → IsEncodable f → SameTables t w v → under level t w e ≡ under level t v f →
-      ((raw_row t e.kind ≡ None) × (e ≡ f)) ⊎ ((x : Named Raw) × (y : Named Raw) × (raw_row t e.kind ≡ Some x) × (raw_row t f.kind ≡ Some y) × SameKind t w v e f x y) → e ≡ f
+      ((raw_row t e.kind ≡ None) × (e ≡ f)) ⊎ ((x : Named Raw) × (y : Named Raw) × (raw_row t e.kind ≡ Some x) × (raw_row t f.kind ≡ Some y) × SameKind level t w v e f x y) → e ≡ f
   attribute_by level t w v e f l a b types lines (inl h) = h.1
   attribute_by level t w v e f l a b types lines (inr (x, y, h, i, s)) = named level t w v e f x y l a b types h i s lines
 
   -- An attribute is determined by its text and the lines below it.
-  pub attribute_determined : (level : ℕ) (t : RawTable) (w v : List ℕ) (e f : Attribute) → length e.payload < n → IsEncodable e → IsEncodable f → SameTables t w v → raw_text t w e ≡ raw_text t v f → under level t w e ≡ under level t v f → e ≡ f
+  pub attribute_determined : (level : ℕ) (t : RawTable) (w v : List ℕ) (e f : Attribute) → length e.payload < n → IsEncodable e → IsEncodable f → SameTables t w v → raw_text level t w e ≡ raw_text level t v f → under level t w e ≡ under level t v f → e ≡ f
   unfolding raw_text
-  attribute_determined level t w v e f l a b types text lines = attribute_by level t w v e f l a b types lines (either_kind t w v e f (raw_row t e.kind) (raw_row t f.kind) a b refl refl text)
+  attribute_determined level t w v e f l a b types text lines = attribute_by level t w v e f l a b types lines (either_kind level t w v e f (raw_row t e.kind) (raw_row t f.kind) a b refl refl text)
 
   attributes : (level : ℕ) (t : RawTable) (w v : List ℕ) (es fs : List Attribute) → SameTables t w v → AllByRecursion (λ e. length e.payload < n) es → AreEncodable es → AreEncodable fs → Pairs (Alike level t w v) es fs → es ≡ fs
   attributes level t w v [] [] types l a b h = refl

@@ -7,18 +7,18 @@ use Rattle.link_lines_raw.proofs.Spans.{lines_joined_text, no_text, part_is}
 use Rattle.link_lines_raw.proofs.Unfolding.{next, none}
 
 rest_text : (level : ℕ) (m : Listed) (rest : List ℕ) (e : Attribute) (after : List ℕ) → first_part m rest ≡ Some (e, after) →
-    lines_text (listed_lines level m rest) ≡ part_with_head level m e ++ (lines_text (inside_lines (level + 1) (part_list m e)) ++ lines_text (listed_lines level m after))
+    lines_text (listed_lines level m rest) ≡ part_with_head level m e ++ (lines_text (inside_lines (level + 1) (part_list level m e)) ++ lines_text (listed_lines level m after))
 rest_text level m rest e after h =
-    let inside = inside_lines (level + 1) (part_list m e) in
+    let inside = inside_lines (level + 1) (part_list level m e) in
     let more = listed_lines level m after in
     ap lines_text (next level m rest e after h) ∙ lines_joined_text (part_lines level m e) (inside ++ more) ∙ ap (λ z. z ++ lines_text (inside ++ more)) (part_is level m e)
     ∙ ap (λ z. part_with_head level m e ++ z) (lines_joined_text inside more)
 
 pub loop_step : (level : ℕ) (m : Listed) (rest : List ℕ) (e : Attribute) (after before now whole : List ℕ) → first_part m rest ≡ Some (e, after) → before ++ lines_text (listed_lines level m rest) ≡ whole →
-    now ≡ (before ++ part_with_head level m e) ++ lines_text (inside_lines (level + 1) (part_list m e)) → now ++ lines_text (listed_lines level m after) ≡ whole
+    now ≡ (before ++ part_with_head level m e) ++ lines_text (inside_lines (level + 1) (part_list level m e)) → now ++ lines_text (listed_lines level m after) ≡ whole
 loop_step level m rest e after before now whole h w n =
     let own = part_with_head level m e in
-    let inside = lines_text (inside_lines (level + 1) (part_list m e)) in
+    let inside = lines_text (inside_lines (level + 1) (part_list level m e)) in
     let more = lines_text (listed_lines level m after) in
     ap (λ z. z ++ more) n ∙ append_assoc (before ++ own) inside more ∙ append_assoc before own (inside ++ more) ∙ sym (ap (λ z. before ++ z) (rest_text level m rest e after h)) ∙ w
 

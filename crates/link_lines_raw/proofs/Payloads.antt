@@ -1,5 +1,5 @@
 -- What follows a name, and the lines below it, determine a payload, provided that lines determine shorter lists.
-use Rattle.std.proofs.Common.{◌≡◌, ℕ, ◌<◌, Bool, true, false, cond, List, [], ◌∷◌, ◌++◌, length, take, drop, get_or, Option, Some, None, refl, sym, ap, ◌∙◌, arith}
+use Rattle.std.proofs.Common.{◌≡◌, ℕ, ◌+◌, ◌<◌, Bool, true, false, cond, List, [], ◌∷◌, ◌++◌, length, take, drop, get_or, Option, Some, None, refl, sym, ap, ◌∙◌, arith}
 use Rattle.std.specs.Prelude.{◌&&◌, nat_le, codes}
 use Rattle.std.proofs.lemmas.Bool.{and_parts}
 use Rattle.std.proofs.lemmas.List.{append_cancel_left, length-drop}
@@ -18,7 +18,8 @@ use Rattle.link_lines_values.specs.Values.{are_fields_on_a_line}
 use Rattle.link_lines_raw.specs.declared.lists.ListedBy.TheVariants as L
 use Rattle.link_lines_raw.specs.declared.raw_tables.RawTable.{RawTable}
 use Rattle.link_lines_raw.specs.declared.rows.RawBy.TheVariants as R
-use Rattle.link_lines_raw.specs.Attributes.{after_name, are_next_hops_after, are_records_after, encapsulation, holds_lines, is_headed, is_known, is_whole, plain_bytes, record_words}
+use Rattle.link_lines_raw.specs.Attributes.{after_name, are_next_hops_after, are_records_after, encapsulation, holds_lines, is_headed, is_known, is_shown, is_whole, levels_below, plain_bytes, record_words}
+use Rattle.link_lines_parts.specs.Levels.{deepest_level}
 use Rattle.link_lines_raw.specs.Coverage.{determines_raw, is_line_determined, is_line_word}
 use Rattle.link_lines_raw.specs.Lines.{Line}
 use Rattle.link_lines_raw.specs.Lists.{attributes_if_known, head_line, head_of, inside_lines, listed_in, listed_lines, shown_head, shown_list}
@@ -41,37 +42,37 @@ either_line : (b : Bool) (p : List ℕ) → IsLine (cond b [] (plain_bytes p))
 either_line true p = record {}
 either_line false p = plain_line p
 
-pub name_space : (raw : Raw) (list p : List ℕ) → BeginsWithSpace (after_name raw list p)
+pub name_space : (level : ℕ) (raw : Raw) (list p : List ℕ) → BeginsWithSpace (after_name level raw list p)
 unfolding after_name
-name_space (R.Value shown) list p = raw_values_determined.space shown p
-name_space (R.List table) list p = either_space _ p
-name_space (R.Encapsulation kind) list p = either_space _ p
-name_space (R.Head line table) list p = either_space _ p
-name_space (R.Hops table) list p = either_space _ p
-name_space (R.Records line) list p = either_space _ p
+name_space level (R.Value shown) list p = raw_values_determined.space shown p
+name_space level (R.List table) list p = either_space _ p
+name_space level (R.Encapsulation kind) list p = either_space _ p
+name_space level (R.Head line table) list p = either_space _ p
+name_space level (R.Hops table) list p = either_space _ p
+name_space level (R.Records line) list p = either_space _ p
 
-pub name_line : (raw : Raw) (list p : List ℕ) → determines_raw raw ≡ true → IsLine (after_name raw list p)
+pub name_line : (level : ℕ) (raw : Raw) (list p : List ℕ) → determines_raw raw ≡ true → IsLine (after_name level raw list p)
 unfolding after_name
-name_line (R.Value shown) list p h = raw_values_determined.line shown p h
-name_line (R.List table) list p h = either_line _ p
-name_line (R.Encapsulation kind) list p h = either_line _ p
-name_line (R.Head line table) list p h = either_line _ p
-name_line (R.Hops table) list p h = either_line _ p
-name_line (R.Records line) list p h = either_line _ p
+name_line level (R.Value shown) list p h = raw_values_determined.line shown p h
+name_line level (R.List table) list p h = either_line _ p
+name_line level (R.Encapsulation kind) list p h = either_line _ p
+name_line level (R.Head line table) list p h = either_line _ p
+name_line level (R.Hops table) list p h = either_line _ p
+name_line level (R.Records line) list p h = either_line _ p
 
 -- No text after a name begins with the word ` nested`.
 not_plain : (b : Bool) (p s : List ℕ) → cond b [] (plain_bytes p) ≡ codes " nested" ++ s → ⊥
 not_plain true p s e = absurd cc
 not_plain false p s e = let second : ◌≡◌ {A = ℕ} 98 110 = ap (λ l. get_or l 1 0) e in omega arith
 
-pub unnested : (raw : Raw) (list p s : List ℕ) → determines_raw raw ≡ true → AreBytes p → BeginsWithSpace s → after_name raw list p ≡ codes " nested" ++ s → ⊥
+pub unnested : (level : ℕ) (raw : Raw) (list p s : List ℕ) → determines_raw raw ≡ true → AreBytes p → BeginsWithSpace s → after_name level raw list p ≡ codes " nested" ++ s → ⊥
 unfolding after_name
-unnested (R.Value shown) list p s h a b e = raw_values_determined.unnested shown p s h a b e
-unnested (R.List table) list p s h a b e = not_plain _ p s e
-unnested (R.Encapsulation kind) list p s h a b e = not_plain _ p s e
-unnested (R.Head line table) list p s h a b e = not_plain _ p s e
-unnested (R.Hops table) list p s h a b e = not_plain _ p s e
-unnested (R.Records line) list p s h a b e = not_plain _ p s e
+unnested level (R.Value shown) list p s h a b e = raw_values_determined.unnested shown p s h a b e
+unnested level (R.List table) list p s h a b e = not_plain _ p s e
+unnested level (R.Encapsulation kind) list p s h a b e = not_plain _ p s e
+unnested level (R.Head line table) list p s h a b e = not_plain _ p s e
+unnested level (R.Hops table) list p s h a b e = not_plain _ p s e
+unnested level (R.Records line) list p s h a b e = not_plain _ p s e
 
 -- ---- records with a line of their own
 
@@ -114,13 +115,13 @@ RecordsDetermined = (level : ℕ) (line : RecordLine) (p q : List ℕ) → deter
 
 -- The lines below an attribute's line.
 abbrev pub below : ℕ → Raw → List ℕ → List ℕ → List Line
-below level raw list p = head_line level (shown_head raw list p) ++ inside_lines level (shown_list raw list p)
+below level raw list p = head_line level (shown_head level raw list p) ++ inside_lines level (shown_list level raw list p)
 
 -- The lines of a payload that is shown in lines.
 abbrev inside : ℕ → Raw → List ℕ → List ℕ → List Line
 inside level raw list p = head_line level (head_of raw p) ++ inside_lines level (listed_in raw list p)
 
-below_is : (level : ℕ) (raw : Raw) (list p : List ℕ) → holds_lines raw list p ≡ true → below level raw list p ≡ inside level raw list p
+below_is : (level : ℕ) (raw : Raw) (list p : List ℕ) → is_shown level raw list p ≡ true → below level raw list p ≡ inside level raw list p
 below_is level raw list p h = ap (λ b. head_line level (cond b (head_of raw p) None) ++ inside_lines level (cond b (listed_in raw list p) None)) h
 
 -- Two lists have the same table of what a row encapsulates.
@@ -135,10 +136,11 @@ either_by false false p q a d h e = bytes_determined.bytes p q a d (ap (drop 6) 
 
 -- What follows the name of a payload that may be shown in lines.
 either : (raw : Raw) (level : ℕ) (w v p q : List ℕ) → AreBytes p → AreBytes q → (holds_lines raw w p ≡ true → holds_lines raw v q ≡ true → inside level raw w p ≡ inside level raw v q → p ≡ q) →
-    cond (holds_lines raw w p) [] (plain_bytes p) ≡ cond (holds_lines raw v q) [] (plain_bytes q) → below level raw w p ≡ below level raw v q → p ≡ q
+    cond (is_shown level raw w p) [] (plain_bytes p) ≡ cond (is_shown level raw v q) [] (plain_bytes q) → below level raw w p ≡ below level raw v q → p ≡ q
 either raw level w v p q a b h e under =
-    either_by (holds_lines raw w p) (holds_lines raw v q) p q a b
-    (λ i j. h i j (sym (below_is level raw w p i) ∙ under ∙ below_is level raw v q j)) e
+    let in_reach = nat_le (level + levels_below raw) deepest_level in
+    either_by (is_shown level raw w p) (is_shown level raw v q) p q a b
+    (λ i j. h (and_parts in_reach _ i).1 (and_parts in_reach _ j).1 (sym (below_is level raw w p i) ∙ under ∙ below_is level raw v q j)) e
 
 module _ (n : ℕ) (lists : ShorterDetermined n) (hops : HopsDetermined n) (records : RecordsDetermined) where
   known : (level : ℕ) (p q : List ℕ) (o : Option RawTable) → length p < n → AreBytes p → AreBytes q → (is_known o && is_whole p) ≡ true → (is_known o && is_whole q) ≡ true →
@@ -159,7 +161,7 @@ module _ (n : ℕ) (lists : ShorterDetermined n) (hops : HopsDetermined n) (reco
       both_parts m p q (words_determined line (take m p) (take m q) d (AreBytes-take m p a) (AreBytes-take m q b) r.0 s.0 words)
       (lists level t (drop m p) (drop m q) (omega (arith, length-drop m p, l)) (AreBytes-drop m p a) (AreBytes-drop m q b) r.1 s.1 (ap (drop 1) e))
 
-  pub payload_determined : (level : ℕ) (raw : Raw) (w v p q : List ℕ) → determines_raw raw ≡ true → length p < n → AreBytes p → AreBytes q → SameTypes raw w v → after_name raw w p ≡ after_name raw v q → below level raw w p ≡ below level raw v q → p ≡ q
+  pub payload_determined : (level : ℕ) (raw : Raw) (w v p q : List ℕ) → determines_raw raw ≡ true → length p < n → AreBytes p → AreBytes q → SameTypes raw w v → after_name level raw w p ≡ after_name level raw v q → below level raw w p ≡ below level raw v q → p ≡ q
   unfolding after_name
   payload_determined level (R.Value shown) w v p q d l a b t e under = raw_values_determined.determined shown p q d a b e
   payload_determined level (R.List table) w v p q d l a b t e under = either (R.List table) level w v p q a b (λ i j u. lists level table p q l a b i j u) e under

@@ -34,7 +34,7 @@ all_at f n [] e h = e
 all_at f zero (t ∷ ts) e h = (and_parts (f t) (list_all f ts) h).0
 all_at f (suc n) (t ∷ ts) e h = all_at f n ts e (and_parts (f t) (list_all f ts) h).1
 
-in_table : (f : List (NameRowOf Raw) → Bool) (n : ℕ) → f [] ≡ true → in_each f ≡ true → f (raw_rows_of n) ≡ true
+pub in_table : (f : List (NameRowOf Raw) → Bool) (n : ℕ) → f [] ≡ true → in_each f ≡ true → f (raw_rows_of n) ≡ true
 unfolding raw_rows_of
 in_table f n e h = search (chosen f, all_at f, first_holds, others_hold) depth 18
 

@@ -64,8 +64,8 @@ next_deep : (n level : ℕ) (listed : Listed) (o : Option (Attribute × List ℕ
 next_deep n level listed None h = record {}
 next_deep n level listed (Some x) h = (
   omega arith,
-  deep_joined level (head_line (level + 1) (part_head listed x.0)) _ (less_deep level _ (head_deep (level + 1) (part_head listed x.0)))
-      (deep_joined level (lines_inside (λ l m b. lines_within n l m b) (level + 1) (part_list listed x.0)) _ (less_deep level _ (inside_deep n (level + 1) (part_list listed x.0) h))
+  deep_joined level (head_line (level + 1) (part_head level listed x.0)) _ (less_deep level _ (head_deep (level + 1) (part_head level listed x.0)))
+      (deep_joined level (lines_inside (λ l m b. lines_within n l m b) (level + 1) (part_list level listed x.0)) _ (less_deep level _ (inside_deep n (level + 1) (part_list level listed x.0) h))
       (h level listed x.1)),
 )
 
@@ -153,8 +153,8 @@ head_is level (Some t) = append-nil (line_text (level, t))
 -- The text of a part's lines.
 pub part_is : (level : ℕ) (listed : Listed) (e : Attribute) → lines_text (part_lines level listed e) ≡ part_with_head level listed e
 part_is level listed e =
-    sym (append-nil (lines_text (part_lines level listed e))) ∙ line_parts (level, part_text listed e) (head_line (level + 1) (part_head listed e)) []
-    ∙ ap (λ z. indent level ++ (part_text listed e ++ 10 ∷ z)) (append-nil (lines_text (head_line (level + 1) (part_head listed e))) ∙ head_is (level + 1) (part_head listed e))
+    sym (append-nil (lines_text (part_lines level listed e))) ∙ line_parts (level, part_text level listed e) (head_line (level + 1) (part_head level listed e)) []
+    ∙ ap (λ z. indent level ++ (part_text level listed e ++ 10 ∷ z)) (append-nil (lines_text (head_line (level + 1) (part_head level listed e))) ∙ head_is (level + 1) (part_head level listed e))
 
 -- The text of a head and of a list below it.
 pub below_is_text : (level : ℕ) (o : Option (List ℕ)) (l : Option (Listed × List ℕ)) → lines_text (head_line level o ++ inside_lines level l) ≡ head_text level o ++ lines_text (inside_lines level l)

@@ -11,8 +11,9 @@ use Rattle.link_lines_values.specs.Records.{total_size}
 use Rattle.link_lines_raw.specs.declared.lists.ListedBy.TheVariants as L
 use Rattle.link_lines_raw.specs.declared.raw_tables.RawTable.{RawTable}
 use Rattle.link_lines_raw.specs.declared.rows.RawBy.TheVariants as R
-use Rattle.link_lines_raw.specs.Attributes.{encapsulation, holds_lines, is_first_record, is_next_hop, raw_row}
-use Rattle.link_lines_raw.specs.Lists.{Listed, attributes_if_known, first_bytes, first_part, inside_lines, is_part, lines_inside, lines_within, listed_in, listed_lines, named_list, next_lines, part_lines, part_list}
+use Rattle.link_lines_raw.specs.Attributes.{encapsulation, is_first_record, is_next_hop, is_shown, levels_below, raw_row}
+use Rattle.link_lines_parts.specs.Levels.{deepest_level}
+use Rattle.link_lines_raw.specs.Lists.{Listed, attributes_if_known, first_bytes, first_part, inside_lines, is_part, lines_inside, lines_within, listed_in, listed_lines, levels_of, named_list, next_lines, part_lines, part_list, shown_list}
 use Rattle.link_lines_raw.specs.Names.{Named}
 use Rattle.link_lines_raw.specs.Rows.{Raw, RecordLine}
 
@@ -37,26 +38,26 @@ either_within : (n : ℕ) (b : Bool) (o : Option (Listed × List ℕ)) → Withi
 either_within n true o h = h
 either_within n false o h = record {}
 
-named_within : (n : ℕ) (o : Option (Named Raw)) (list : List ℕ) (e : Attribute) → length e.payload < n → Within n (named_list o list e)
-named_within n None list e h = record {}
-named_within n (Some row) list e h = either_within n (holds_lines row.1 list e.payload) (listed_in row.1 list e.payload) (listed_within n row.1 list e.payload h)
+named_within : (n level : ℕ) (o : Option (Named Raw)) (list : List ℕ) (e : Attribute) → length e.payload < n → Within n (named_list level o list e)
+named_within n level None list e h = record {}
+named_within n level (Some row) list e h = either_within n (is_shown level row.1 list e.payload) (listed_in row.1 list e.payload) (listed_within n row.1 list e.payload h)
 
 -- A part of what is listed, and what it lists, are shorter than the bytes.
-pub record Smaller (listed : Listed) (bytes : List ℕ) (e : Attribute) (rest : List ℕ) : Type 0 where
+pub record Smaller (level : ℕ) (listed : Listed) (bytes : List ℕ) (e : Attribute) (rest : List ℕ) : Type 0 where
   pub rest_shorter : length rest < length bytes
-  pub within : Within (length bytes) (part_list listed e)
+  pub within : Within (length bytes) (part_list level listed e)
 
 aligned : (n : ℕ) → n ≤ nla_align n
 aligned n = omega arith
 
-attribute_smaller : (table : RawTable) (list bytes : List ℕ) (e : Attribute) (rest : List ℕ) → first_attribute bytes ≡ Some (e, rest) → Smaller (L.Attributes table list) bytes e rest
+attribute_smaller : (level : ℕ) (table : RawTable) (list bytes : List ℕ) (e : Attribute) (rest : List ℕ) → first_attribute bytes ≡ Some (e, rest) → Smaller level (L.Attributes table list) bytes e rest
 unfolding part_list
-attribute_smaller table list bytes e rest h =
+attribute_smaller level table list bytes e rest h =
     let a = aligned (attribute_length e) in
     let b = sized bytes e rest h in
     record {
       rest_shorter = omega (arith, a, b.within, b.rest_length);
-      within = named_within (length bytes) (raw_row table e.kind) list e (omega (arith, b.within));
+      within = named_within (length bytes) (level + 1) (raw_row table e.kind) list e (omega (arith, b.within));
     }
 
 -- The first bytes are there, and what follows them is shorter.
@@ -85,9 +86,9 @@ hop_sizes bytes h =
     let c = and_parts (nat_le (u16_at 0 bytes) (length bytes)) _ b.1 in
     record { header = leb-true 8 (length bytes) a.0; low = leb-true 8 (u16_at 0 bytes) b.0; high = leb-true (u16_at 0 bytes) (length bytes) c.0 }
 
-hop_smaller : (table : RawTable) (bytes : List ℕ) (e : Attribute) (rest : List ℕ) → IsFirst (u16_at 0 bytes) bytes e rest (is_next_hop bytes) → Smaller (L.NextHops table) bytes e rest
+hop_smaller : (level : ℕ) (table : RawTable) (bytes : List ℕ) (e : Attribute) (rest : List ℕ) → IsFirst (u16_at 0 bytes) bytes e rest (is_next_hop bytes) → Smaller level (L.NextHops table) bytes e rest
 unfolding part_list
-hop_smaller table bytes e rest f =
+hop_smaller level table bytes e rest f =
     let h = hop_sizes bytes f.holds in
     let n = u16_at 0 bytes in
     record {
@@ -95,9 +96,9 @@ hop_smaller table bytes e rest f =
       within = subst (λ p. length (drop 8 p) < length bytes) f.payload_is (omega (arith, length-drop 8 (take n bytes), length-take n bytes, h.low, h.high));
     }
 
-record_smaller : (line : RecordLine) (bytes : List ℕ) (e : Attribute) (rest : List ℕ) → IsFirst (total_size line.1) bytes e rest (is_first_record line.1 bytes) → Smaller (L.Records line) bytes e rest
+record_smaller : (level : ℕ) (line : RecordLine) (bytes : List ℕ) (e : Attribute) (rest : List ℕ) → IsFirst (total_size line.1) bytes e rest (is_first_record line.1 bytes) → Smaller level (L.Records line) bytes e rest
 unfolding part_list
-record_smaller line bytes e rest f =
+record_smaller level line bytes e rest f =
     let n = total_size line.1 in
     let a = and_parts (nat_le 1 n) _ f.holds in
     let b = and_parts (nat_le n (length bytes)) _ a.1 in
@@ -106,11 +107,11 @@ record_smaller line bytes e rest f =
       within = record {};
     }
 
-pub part_smaller : (listed : Listed) (bytes : List ℕ) (e : Attribute) (rest : List ℕ) → first_part listed bytes ≡ Some (e, rest) → Smaller listed bytes e rest
+pub part_smaller : (level : ℕ) (listed : Listed) (bytes : List ℕ) (e : Attribute) (rest : List ℕ) → first_part listed bytes ≡ Some (e, rest) → Smaller level listed bytes e rest
 unfolding first_part
-part_smaller (L.Attributes table list) bytes e rest h = attribute_smaller table list bytes e rest h
-part_smaller (L.NextHops table) bytes e rest h = hop_smaller table bytes e rest (first_bytes_are (u16_at 0 bytes) bytes e rest (is_next_hop bytes) h)
-part_smaller (L.Records line) bytes e rest h = record_smaller line bytes e rest (first_bytes_are (total_size line.1) bytes e rest (is_first_record line.1 bytes) h)
+part_smaller level (L.Attributes table list) bytes e rest h = attribute_smaller level table list bytes e rest h
+part_smaller level (L.NextHops table) bytes e rest h = hop_smaller level table bytes e rest (first_bytes_are (u16_at 0 bytes) bytes e rest (is_next_hop bytes) h)
+part_smaller level (L.Records line) bytes e rest h = record_smaller level line bytes e rest (first_bytes_are (total_size line.1) bytes e rest (is_first_record line.1 bytes) h)
 
 -- ---- any number of steps that suffices
 
@@ -124,12 +125,12 @@ same_inside m n level size (Some x) i w h k = i level x.0 x.1 (omega (arith, w, 
 same_next : (m n level : ℕ) (listed : Listed) (bytes : List ℕ) → Agree m n → length bytes ≤ suc m → length bytes ≤ suc n → (o : Option (Attribute × List ℕ)) → first_part listed bytes ≡ o → next_lines (λ l d b. lines_within m l d b) level listed o ≡ next_lines (λ l d b. lines_within n l d b) level listed o
 same_next m n level listed bytes i p q None h = refl
 same_next m n level listed bytes i p q (Some x) h =
-    let s = part_smaller listed bytes x.0 x.1 h in
-    ap (λ z. part_lines level listed x.0 ++ (z ++ lines_within m level listed x.1)) (same_inside m n (level + 1) (length bytes) (part_list listed x.0) i s.within p q)
-    ∙ ap (λ z. part_lines level listed x.0 ++ (lines_inside (λ l d b. lines_within n l d b) (level + 1) (part_list listed x.0) ++ z)) (i level listed x.1 (omega (arith, s.rest_shorter, p)) (omega (arith, s.rest_shorter, q)))
+    let s = part_smaller level listed bytes x.0 x.1 h in
+    ap (λ z. part_lines level listed x.0 ++ (z ++ lines_within m level listed x.1)) (same_inside m n (level + 1) (length bytes) (part_list level listed x.0) i s.within p q)
+    ∙ ap (λ z. part_lines level listed x.0 ++ (lines_inside (λ l d b. lines_within n l d b) (level + 1) (part_list level listed x.0) ++ z)) (i level listed x.1 (omega (arith, s.rest_shorter, p)) (omega (arith, s.rest_shorter, q)))
 
 no_part : (listed : Listed) (x : Attribute × List ℕ) → first_part listed [] ≡ Some x → ⊥
-no_part listed x h = let s = (part_smaller listed [] x.0 x.1 h).rest_shorter in omega (arith, s)
+no_part listed x h = let s = (part_smaller 0 listed [] x.0 x.1 h).rest_shorter in omega (arith, s)
 
 none_next : (n level : ℕ) (listed : Listed) (o : Option (Attribute × List ℕ)) → first_part listed [] ≡ o → next_lines (λ l d b. lines_within n l d b) level listed o ≡ []
 none_next n level listed None h = refl
@@ -151,14 +152,14 @@ inside_is n level size (Some x) w h = enough n (length x.1) level x.0 x.1 (omega
 
 -- The lines of the first part, of what it lists, and of the parts after it.
 pub next : (level : ℕ) (listed : Listed) (bytes : List ℕ) (e : Attribute) (after : List ℕ) → first_part listed bytes ≡ Some (e, after) →
-    listed_lines level listed bytes ≡ part_lines level listed e ++ (inside_lines (level + 1) (part_list listed e) ++ listed_lines level listed after)
+    listed_lines level listed bytes ≡ part_lines level listed e ++ (inside_lines (level + 1) (part_list level listed e) ++ listed_lines level listed after)
 unfolding listed_lines lines_within
 next level listed [] e after h = absurd (no_part listed (e, after) h)
 next level listed (b ∷ bytes) e after h =
-    let s = part_smaller listed (b ∷ bytes) e after h in
+    let s = part_smaller level listed (b ∷ bytes) e after h in
     ap (λ o. next_lines (λ l d z. lines_within (length bytes) l d z) level listed o) h
-    ∙ ap (λ z. part_lines level listed e ++ (z ++ lines_within (length bytes) level listed after)) (inside_is (length bytes) (level + 1) (suc (length bytes)) (part_list listed e) s.within (omega arith))
-    ∙ ap (λ z. part_lines level listed e ++ (inside_lines (level + 1) (part_list listed e) ++ z)) (enough (length bytes) (length after) level listed after (omega (arith, s.rest_shorter)) (omega arith))
+    ∙ ap (λ z. part_lines level listed e ++ (z ++ lines_within (length bytes) level listed after)) (inside_is (length bytes) (level + 1) (suc (length bytes)) (part_list level listed e) s.within (omega arith))
+    ∙ ap (λ z. part_lines level listed e ++ (inside_lines (level + 1) (part_list level listed e) ++ z)) (enough (length bytes) (length after) level listed after (omega (arith, s.rest_shorter)) (omega arith))
 
 pub none : (level : ℕ) (listed : Listed) (bytes : List ℕ) → first_part listed bytes ≡ None → listed_lines level listed bytes ≡ []
 unfolding listed_lines lines_within
@@ -183,3 +184,40 @@ part_is_part (L.Records line) bytes e rest h =
     let a = and_parts (nat_le 1 n) _ f.holds in
     let b = and_parts (nat_le n (length bytes)) _ a.1 in
     subst (λ p. (length p == n) ≡ true) f.payload_is (eq-eqb (length (take n bytes)) n (omega (arith, length-take n bytes, leb-true n (length bytes) b.0)))
+
+-- ---- what a part lists isn't too deep
+
+-- The lines of what is listed, if anything, are in reach at this level.
+abbrev pub InReach : ℕ → Option (Listed × List ℕ) → Type 0
+InReach level None = ⊤
+InReach level (Some x) = level + levels_of x.0 ≤ deepest_level
+
+known_in_reach : (level : ℕ) (p : List ℕ) (o : Option RawTable) → level ≤ deepest_level → InReach level (attributes_if_known o p)
+known_in_reach level p None h = record {}
+known_in_reach level p (Some t) h = omega (arith, h)
+
+listed_in_reach : (level : ℕ) (raw : Raw) (list p : List ℕ) → level + levels_below raw ≤ deepest_level → InReach level (listed_in raw list p)
+listed_in_reach level (R.Value shown) list p h = record {}
+listed_in_reach level (R.List table) list p h = h
+listed_in_reach level (R.Encapsulation kind) list p h = known_in_reach level p (encapsulation kind list) (omega (arith, h))
+listed_in_reach level (R.Head line table) list p h = h
+listed_in_reach level (R.Hops table) list p h = h
+listed_in_reach level (R.Records line) list p h = h
+
+shown_by : (level : ℕ) (raw : Raw) (list p : List ℕ) (b : Bool) → is_shown level raw list p ≡ b → InReach level (cond b (listed_in raw list p) None)
+shown_by level raw list p true h =
+    listed_in_reach level raw list p (leb-true (level + levels_below raw) deepest_level (and_parts (nat_le (level + levels_below raw) deepest_level) _ h).0)
+shown_by level raw list p false h = record {}
+
+pub shown_in_reach : (level : ℕ) (raw : Raw) (list p : List ℕ) → InReach level (shown_list level raw list p)
+shown_in_reach level raw list p = shown_by level raw list p (is_shown level raw list p) refl
+
+pub named_in_reach : (level : ℕ) (o : Option (Named Raw)) (list : List ℕ) (e : Attribute) → InReach level (named_list level o list e)
+named_in_reach level None list e = record {}
+named_in_reach level (Some row) list e = shown_in_reach level row.1 list e.payload
+
+pub part_in_reach : (level : ℕ) (listed : Listed) (e : Attribute) → level + levels_of listed ≤ deepest_level → InReach (level + 1) (part_list level listed e)
+unfolding part_list
+part_in_reach level (L.Attributes table list) e h = named_in_reach (level + 1) (raw_row table e.kind) list e
+part_in_reach level (L.NextHops table) e h = omega (arith, h)
+part_in_reach level (L.Records line) e h = record {}

@@ -1,5 +1,5 @@
 -- Raw attributes: the row of a kind, whole lists, and what of a payload is shown.
-use Rattle.std.specs.Prelude.{ℕ, zero, suc, ◌-◌, ◌/◌, ◌%◌, ◌==◌, ◌&&◌, not, nat_le, Bool, true, false, cond, List}
+use Rattle.std.specs.Prelude.{ℕ, zero, suc, ◌+◌, ◌-◌, ◌/◌, ◌%◌, ◌==◌, ◌&&◌, not, nat_le, Bool, true, false, cond, List}
 use Rattle.std.specs.Prelude.{[], ◌∷◌, ◌++◌, length, take, drop, Option, Some, None, codes, option_map}
 use Rattle.std.specs.Fmt.{decimal}
 use Rattle.netlink_packet_core_grammar.specs.Attributes.{Attribute, attribute_length, first_attribute, nla_align}
@@ -12,6 +12,7 @@ use Rattle.link_lines_values.specs.Exact.{raw_value}
 use Rattle.link_lines_values.specs.Records.{Field, fields_text, is_record, total_size}
 use Rattle.link_lines_values.specs.declared.values.ShownBy.TheVariants as V
 pub use Rattle.link_lines_parts.specs.KindNames.{has_byte_order_bit, has_nested_bit, index_name, nested_word}
+use Rattle.link_lines_parts.specs.Levels.{deepest_level}
 pub use Rattle.link_lines_parts.specs.Whole.{is_padded, is_whole, is_whole_after, is_whole_attribute, padded_length}
 use Rattle.link_lines_raw.specs.declared.raw_tables.RawTable.{RawTable}
 use Rattle.link_lines_raw.specs.declared.raw_tables.TheConstants.{ACTION, ENCAP_BPF, ENCAP_ILA, ENCAP_IOAM6, ENCAP_IP}
@@ -144,25 +145,35 @@ holds_lines (R.Head line table) list bytes = is_headed line bytes
 holds_lines (R.Hops table) list bytes = are_next_hops_after 0 bytes
 holds_lines (R.Records line) list bytes = are_records_after line.1 0 bytes
 
+-- The levels that the lines of a payload take, beyond the first: a next hop's attributes are one level deeper than it.
+abbrev pub levels_below : Raw → ℕ
+levels_below (R.Hops table) = 1
+levels_below raw = 0
+
+-- Whether lines show a payload, the first at this level: if the payload is exactly what its row says, and no line is too
+-- deep.
+abbrev pub is_shown : ℕ → Raw → List ℕ → List ℕ → Bool
+is_shown level raw list bytes = nat_le (level + levels_below raw) deepest_level && holds_lines raw list bytes
+
 -- The word `bytes` and the bytes in hex.
 abbrev pub plain_bytes : List ℕ → List ℕ
 plain_bytes bytes = codes " bytes" ++ bytes_text bytes
 
--- What follows an attribute's name on the same line: a value, or nothing if lines below show the payload, or else the
--- bytes.
-unfoldable pub after_name : Raw → List ℕ → List ℕ → List ℕ
-after_name (R.Value shown) list bytes = raw_value shown bytes
-after_name raw list bytes = cond (holds_lines raw list bytes) [] (plain_bytes bytes)
+-- What follows an attribute's name on the same line: a value, or nothing if lines below show the payload, the first at
+-- this level, or else the bytes.
+unfoldable pub after_name : ℕ → Raw → List ℕ → List ℕ → List ℕ
+after_name level (R.Value shown) list bytes = raw_value shown bytes
+after_name level raw list bytes = cond (is_shown level raw list bytes) [] (plain_bytes bytes)
 
 -- A kind as a number, and the bytes of a payload.
 abbrev pub unnamed_text : ℕ → List ℕ → List ℕ
 unnamed_text kind bytes = codes "kind " ++ (four_digits kind ++ bytes_text bytes)
 
--- The text of an attribute's line: its name, or its kind as a number and the bytes.
-abbrev pub named_text : Option (Named Raw) → List ℕ → Attribute → List ℕ
-named_text None list e = unnamed_text e.kind e.payload
-named_text (Some row) list e = row.0 ++ (nested_word e.kind ++ after_name row.1 list e.payload)
+-- The text of an attribute's line: its name, or its kind as a number and the bytes. `level` is that of the lines below.
+abbrev pub named_text : ℕ → Option (Named Raw) → List ℕ → Attribute → List ℕ
+named_text level None list e = unnamed_text e.kind e.payload
+named_text level (Some row) list e = row.0 ++ (nested_word e.kind ++ after_name level row.1 list e.payload)
 
--- The text of the line of a raw attribute in a table; `list` is the list that it is in.
-unfoldable pub raw_text : RawTable → List ℕ → Attribute → List ℕ
-raw_text table list e = named_text (raw_row table e.kind) list e
+-- The text of the line of a raw attribute in a table; `list` is the list that it is in, `level` that of the lines below.
+unfoldable pub raw_text : ℕ → RawTable → List ℕ → Attribute → List ℕ
+raw_text level table list e = named_text level (raw_row table e.kind) list e

@@ -23,18 +23,18 @@ pub record IsEncodable (e : Attribute) : Type 0 where
 -- The text of a raw attribute's line is one line. With the lines below it, it determines the attribute, whatever less
 -- deep lines follow.
 pub record RawAttributesAreDetermined : Type 0 where
-  pub line : (table : RawTable) (e : Attribute) → IsLine (raw_text table [] e)
+  pub line : (level : ℕ) (table : RawTable) (e : Attribute) → IsLine (raw_text level table [] e)
   pub determined : (level : ℕ) (table : RawTable) (e f : Attribute) (s t : List ℕ) → IsEncodable e → IsEncodable f →
-      IsShallow level s → IsShallow level t → raw_text table [] e ≡ raw_text table [] f →
+      IsShallow level s → IsShallow level t → raw_text level table [] e ≡ raw_text level table [] f →
       lines_text (raw_below level table e) ++ s ≡ lines_text (raw_below level table f) ++ t → (e ≡ f) × (s ≡ t)
 
 -- What follows a name begins with a space or is empty, and is on the name's line. With the lines below it, it
 -- determines a payload if the row does, whatever less deep lines follow.
 pub record HeldPayloadsAreDetermined : Type 0 where
-  pub line : (raw : Raw) (p : List ℕ) → determines_raw raw ≡ true → IsLine (after_name raw [] p)
-  pub space : (raw : Raw) (p : List ℕ) → BeginsWithSpace (after_name raw [] p)
+  pub line : (level : ℕ) (raw : Raw) (p : List ℕ) → determines_raw raw ≡ true → IsLine (after_name level raw [] p)
+  pub space : (level : ℕ) (raw : Raw) (p : List ℕ) → BeginsWithSpace (after_name level raw [] p)
   pub determined : (level : ℕ) (raw : Raw) (p q s t : List ℕ) → determines_raw raw ≡ true → AreBytes p →
-      AreBytes q → IsShallow level s → IsShallow level t → after_name raw [] p ≡ after_name raw [] q →
+      AreBytes q → IsShallow level s → IsShallow level t → after_name level raw [] p ≡ after_name level raw [] q →
       lines_text (held_lines level raw p) ++ s ≡ lines_text (held_lines level raw q) ++ t → (p ≡ q) × (s ≡ t)
 
 -- The lines of a body determine it, among the bodies of one message type, requests or not, whatever less deep lines

@@ -9,7 +9,7 @@ use Rattle.link_lines_raw.specs.declared.lists.ListedBy.{ListedBy}
 use Rattle.link_lines_raw.specs.declared.lists.ListedBy.TheVariants as L
 use Rattle.link_lines_raw.specs.declared.raw_tables.RawTable.{RawTable}
 use Rattle.link_lines_raw.specs.declared.rows.RawBy.TheVariants as R
-use Rattle.link_lines_raw.specs.Attributes.{encapsulation, holds_lines, is_first_record, is_next_hop, next_hop_line}
+use Rattle.link_lines_raw.specs.Attributes.{encapsulation, is_first_record, is_next_hop, is_shown, next_hop_line}
 use Rattle.link_lines_raw.specs.Attributes.{raw_row, raw_text, record_words}
 use Rattle.link_lines_raw.specs.Lines.{Line, line_text}
 use Rattle.link_lines_raw.specs.Names.{Named}
@@ -32,30 +32,30 @@ first_part (L.Attributes table list) bytes = first_attribute bytes
 first_part (L.NextHops table) bytes = first_bytes (is_next_hop bytes) (u16_at 0 bytes) bytes
 first_part (L.Records line) bytes = first_bytes (is_first_record line.1 bytes) (total_size line.1) bytes
 
--- The text of the line of a part.
-unfoldable pub part_text : Listed → Attribute → List ℕ
-part_text (L.Attributes table list) e = raw_text table list e
-part_text (L.NextHops table) e = record_words next_hop_line (take 6 (drop 2 e.payload))
-part_text (L.Records line) e = record_words line e.payload
+-- The text of the line of a part, at this level.
+unfoldable pub part_text : ℕ → Listed → Attribute → List ℕ
+part_text level (L.Attributes table list) e = raw_text (level + 1) table list e
+part_text level (L.NextHops table) e = record_words next_hop_line (take 6 (drop 2 e.payload))
+part_text level (L.Records line) e = record_words line e.payload
 
 -- The text of the line that is below an attribute's line and before its list: that of the record at the start.
 abbrev pub head_of : Raw → List ℕ → Option (List ℕ)
 head_of (R.Head line table) bytes = Some (record_words line (take (total_size line.1) bytes))
 head_of raw bytes = None
 
--- The head of a payload that is shown in lines.
-abbrev pub shown_head : Raw → List ℕ → List ℕ → Option (List ℕ)
-shown_head raw list bytes = cond (holds_lines raw list bytes) (head_of raw bytes) None
+-- The head of a payload that is shown in lines, the first at this level.
+abbrev pub shown_head : ℕ → Raw → List ℕ → List ℕ → Option (List ℕ)
+shown_head level raw list bytes = cond (is_shown level raw list bytes) (head_of raw bytes) None
 
--- The head of the payload of an attribute with or without a row.
-abbrev pub named_head : Option (Named Raw) → List ℕ → Attribute → Option (List ℕ)
-named_head None list e = None
-named_head (Some row) list e = shown_head row.1 list e.payload
+-- The head of the payload of an attribute with or without a row; `level` is that of the lines below the attribute's.
+abbrev pub named_head : ℕ → Option (Named Raw) → List ℕ → Attribute → Option (List ℕ)
+named_head level None list e = None
+named_head level (Some row) list e = shown_head level row.1 list e.payload
 
--- The text of the line below the line of a part and before its list, if it has one.
-unfoldable pub part_head : Listed → Attribute → Option (List ℕ)
-part_head (L.Attributes table list) e = named_head (raw_row table e.kind) list e
-part_head listed e = None
+-- The text of the line below the line of a part, which has this level, and before its list, if it has one.
+unfoldable pub part_head : ℕ → Listed → Attribute → Option (List ℕ)
+part_head level (L.Attributes table list) e = named_head (level + 1) (raw_row table e.kind) list e
+part_head level listed e = None
 
 -- Attributes of a table that bytes consist of.
 abbrev pub attributes_in : RawTable → List ℕ → Listed × List ℕ
@@ -75,20 +75,25 @@ listed_in (R.Head line table) list bytes = Some (attributes_in table (drop (tota
 listed_in (R.Hops table) list bytes = Some (L.NextHops table, bytes)
 listed_in (R.Records line) list bytes = Some (L.Records line, bytes)
 
--- What a payload lists that is shown in lines.
-abbrev pub shown_list : Raw → List ℕ → List ℕ → Option (Listed × List ℕ)
-shown_list raw list bytes = cond (holds_lines raw list bytes) (listed_in raw list bytes) None
+-- What a payload lists that is shown in lines, the first at this level.
+abbrev pub shown_list : ℕ → Raw → List ℕ → List ℕ → Option (Listed × List ℕ)
+shown_list level raw list bytes = cond (is_shown level raw list bytes) (listed_in raw list bytes) None
 
--- What the payload of an attribute with or without a row lists.
-abbrev pub named_list : Option (Named Raw) → List ℕ → Attribute → Option (Listed × List ℕ)
-named_list None list e = None
-named_list (Some row) list e = shown_list row.1 list e.payload
+-- What the payload of an attribute with or without a row lists; `level` is that of the lines below the attribute's.
+abbrev pub named_list : ℕ → Option (Named Raw) → List ℕ → Attribute → Option (Listed × List ℕ)
+named_list level None list e = None
+named_list level (Some row) list e = shown_list level row.1 list e.payload
 
--- What a part lists below its line, if anything.
-unfoldable pub part_list : Listed → Attribute → Option (Listed × List ℕ)
-part_list (L.Attributes table list) e = named_list (raw_row table e.kind) list e
-part_list (L.NextHops table) e = Some (attributes_in table (drop 8 e.payload))
-part_list (L.Records line) e = None
+-- What a part lists below its line, which has this level, if anything.
+unfoldable pub part_list : ℕ → Listed → Attribute → Option (Listed × List ℕ)
+part_list level (L.Attributes table list) e = named_list (level + 1) (raw_row table e.kind) list e
+part_list level (L.NextHops table) e = Some (attributes_in table (drop 8 e.payload))
+part_list level (L.Records line) e = None
+
+-- The levels that the lines of what is listed take, beyond the first.
+abbrev pub levels_of : Listed → ℕ
+levels_of (L.NextHops table) = 1
+levels_of listed = 0
 
 -- A line of this level, if there is a text.
 abbrev pub head_line : ℕ → Option (List ℕ) → List Line
@@ -97,7 +102,7 @@ head_line level (Some text) = (level, text) ∷ []
 
 -- The line of a part, and the line of its head one level deeper.
 abbrev pub part_lines : ℕ → Listed → Attribute → List Line
-part_lines level listed e = (level, part_text listed e) ∷ head_line (level + 1) (part_head listed e)
+part_lines level listed e = (level, part_text level listed e) ∷ head_line (level + 1) (part_head level listed e)
 
 -- The lines of what a part lists, if anything, given the lines of lists.
 abbrev pub lines_inside : (ℕ → Listed → List ℕ → List Line) → ℕ → Option (Listed × List ℕ) → List Line
@@ -109,7 +114,7 @@ abbrev pub next_lines : (ℕ → Listed → List ℕ → List Line) → ℕ → 
 next_lines list level listed None = []
 next_lines list level listed (Some x) =
     part_lines level listed x.0 ++
-    (lines_inside list (level + 1) (part_list listed x.0) ++ list level listed x.1)
+    (lines_inside list (level + 1) (part_list level listed x.0) ++ list level listed x.1)
 
 -- The lines of what is listed, computed in at most n steps.
 unfoldable pub lines_within : ℕ → ℕ → Listed → List ℕ → List Line
@@ -126,19 +131,16 @@ abbrev pub inside_lines : ℕ → Option (Listed × List ℕ) → List Line
 inside_lines level None = []
 inside_lines level (Some x) = listed_lines level x.0 x.1
 
--- The lines below the line of a part.
-abbrev pub below_lines : ℕ → Listed → Attribute → List Line
-below_lines level listed e = head_line level (part_head listed e) ++ inside_lines level (part_list listed e)
-
 -- The lines below the line of an attribute with or without a row, in a list without types of encapsulation.
 abbrev pub raw_below : ℕ → RawTable → Attribute → List Line
 raw_below level table e =
-    head_line level (named_head (raw_row table e.kind) [] e) ++
-    inside_lines level (named_list (raw_row table e.kind) [] e)
+    head_line level (named_head level (raw_row table e.kind) [] e) ++
+    inside_lines level (named_list level (raw_row table e.kind) [] e)
 
 -- The lines of what a payload holds, below the line of its attribute.
 abbrev pub held_lines : ℕ → Raw → List ℕ → List Line
-held_lines level raw bytes = head_line level (shown_head raw [] bytes) ++ inside_lines level (shown_list raw [] bytes)
+held_lines level raw bytes =
+    head_line level (shown_head level raw [] bytes) ++ inside_lines level (shown_list level raw [] bytes)
 
 -- The text of the line of a head, if there is one.
 abbrev pub head_text : ℕ → Option (List ℕ) → List ℕ
@@ -148,7 +150,7 @@ head_text level (Some text) = line_text (level, text)
 -- The text of the line of a part, and of the line of its head one level deeper.
 abbrev pub part_with_head : ℕ → Listed → Attribute → List ℕ
 part_with_head level listed e =
-    indent level ++ (part_text listed e ++ 10 ∷ head_text (level + 1) (part_head listed e))
+    indent level ++ (part_text level listed e ++ 10 ∷ head_text (level + 1) (part_head level listed e))
 
 -- Whether a part is one of what is listed.
 abbrev pub is_part : Listed → List ℕ → Bool

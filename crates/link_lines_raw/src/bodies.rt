@@ -206,7 +206,6 @@ fn is_record_and_list(line: RecordLine, table: Option<RawTable>, bytes: &[u8]) -
 
 /// Appends the lines of attributes after a record, if there is a table of them.
 fn push_list_of(table: Option<RawTable>, list: &[u8], out: &mut Vec<u8>) -> Result<(), AllocError>
-    requires { length list.now + 1 < 2 ^ 63 }
     ensures ok { OnOk result (out.new.items ≡ out.old.items ++ lines_text (list_lines_of table list.now)) }
 {
     match table {
@@ -223,7 +222,6 @@ fn push_record_and_list(
     bytes: &[u8],
     out: &mut Vec<u8>,
 ) -> Result<bool, AllocError>
-    requires { length bytes.now + 1 < 2 ^ 63 }
     ensures ok { OnOk result (out.new.items ≡ out.old.items ++ text_or_none (record_and_list
         (record_line_of (λ b. b.now) line.entry) table bytes.now)) }
     ensures shown { IfOk result (λ is_shown. is_shown ≡ has_lines (record_and_list
@@ -259,7 +257,6 @@ pub fn push_body(
     body: &[u8],
     out: &mut Vec<u8>,
 ) -> Result<bool, AllocError>
-    requires { length body.now + 1 < 2 ^ 63 }
     ensures ok { OnOk result (out.new.items ≡ out.old.items
         ++ text_or_none (body_lines message_type is_request body.now)) }
     ensures shown { IfOk result (λ is_shown. is_shown ≡ has_lines (body_lines message_type is_request body.now)) }

@@ -1,15 +1,16 @@
 //! The rows of raw attributes by table and kind, and their lines.
 
-ghost use Rattle.std.specs.Prelude.{◌≡◌, ◌<◌, ◌+◌, ◌%◌, ◌^◌, ◌++◌, ◌∷◌, [], true, length, option_map, IfOk, OnOk};
+ghost use Rattle.std.specs.Prelude.{◌≡◌, ◌≤◌, ◌<◌, ◌+◌, ◌%◌, ◌^◌, ◌++◌, ◌∷◌, [], true, length, nat_le, option_map, IfOk, OnOk};
+ghost use Rattle.link_lines_parts.specs.Levels.{deepest_level};
 ghost use Rattle.link_interpreter.specs.Sameness.{attribute_of};
 ghost use Rattle.link_lines_values.specs.DenseRows.{are_dense, find};
 ghost use Rattle.link_lines_values.specs.Indents.{indent};
 ghost use Rattle.link_lines_values.specs.Layouts.{layout_fields};
 ghost use Rattle.link_lines_values.specs.Records.{total_size};
-ghost use Rattle.link_lines_raw.specs.Attributes.{after_name, holds_lines, indexed_row, is_headed, plain_bytes};
+ghost use Rattle.link_lines_raw.specs.Attributes.{after_name, holds_lines, indexed_row, is_headed, is_shown, levels_below, plain_bytes};
 ghost use Rattle.link_lines_raw.specs.Attributes.{proper_row, raw_row, raw_text, record_words, unnamed_text};
 ghost use Rattle.link_lines_raw.specs.Lines.{line_text, lines_text};
-ghost use Rattle.link_lines_raw.specs.Lists.{head_of, head_text, held_lines, is_part, listed_in, listed_lines, named_head, named_list};
+ghost use Rattle.link_lines_raw.specs.Lists.{head_of, head_text, held_lines, is_part, levels_of, listed_in, listed_lines, named_head, named_list};
 ghost use Rattle.link_lines_raw.specs.Lists.{part_list, part_with_head, raw_below, shown_head, shown_list};
 ghost use Rattle.link_lines_raw.specs.Names.{named_of};
 ghost use Rattle.link_lines_raw.specs.Rows.{raw_of, raw_rows_in_code, record_line_of};
@@ -30,7 +31,7 @@ use crate::{
     traffic_rows,
 };
 use link_interpreter::{Attribute, KIND_BOUND};
-use link_lines_parts::{has_byte_order_bit, is_whole, push_kind_name};
+use link_lines_parts::{DEEPEST_LEVEL, has_byte_order_bit, is_whole, push_kind_name};
 use link_lines_values::{
     ExactBy, ShownBy, is_record, look_up, push_bytes, push_four_digits, push_header_fields,
     push_indent, push_raw_value, record_size,
@@ -151,6 +152,24 @@ fn starts_with_record(line: &RecordLine, bytes: &[u8]) -> bool
     size <= bytes.len() && is_record(line.1.fields(), &bytes[..size]) && is_whole(&bytes[size..])
 }
 
+/// Returns whether lines of what an attribute holds aren't too deep if the first has this level.
+fn is_in_reach(level: usize, raw: &Raw) -> bool
+    ensures { result ≡ nat_le (level + levels_below (raw_of (λ b. b.now) raw.now)) deepest_level }
+{
+    match raw {
+        RawBy::Hops(_) => level < DEEPEST_LEVEL,
+        _ => level <= DEEPEST_LEVEL,
+    }
+}
+
+/// Returns whether lines show a payload, the first at this level.
+fn is_shown(level: usize, raw: &Raw, list: &[u8], payload: &[u8]) -> bool
+    ensures { result
+        ≡ is_shown level (raw_of (λ b. b.now) raw.now) list.now payload.now }
+{
+    is_in_reach(level, raw) && holds_lines(raw, list, payload)
+}
+
 /// Appends the word of a record and its fields.
 fn push_record_words(line: RecordLine, bytes: &[u8], out: &mut Vec<u8>) -> Result<(), AllocError>
     requires { length bytes.now ≡ total_size (layout_fields line.1) }
@@ -231,17 +250,17 @@ pub(crate) fn push_after_name<'a>(
     out: &mut Vec<u8>,
 ) -> Result<Option<(Listed<'a>, &'a [u8])>, AllocError>
     ensures ok { OnOk result (out.new.items ≡ out.old.items
-        ++ (after_name (raw_of (λ b. b.now) raw.now) list.now payload.now
-        ++ 10 ∷ head_text level (shown_head (raw_of (λ b. b.now) raw.now) list.now payload.now))) }
+        ++ (after_name level (raw_of (λ b. b.now) raw.now) list.now payload.now
+        ++ 10 ∷ head_text level (shown_head level (raw_of (λ b. b.now) raw.now) list.now payload.now))) }
     ensures list { IfOk result (λ found. option_map (listing (λ b. b.now)) found
-        ≡ shown_list (raw_of (λ b. b.now) raw.now) list.now payload.now) }
+        ≡ shown_list level (raw_of (λ b. b.now) raw.now) list.now payload.now) }
 {
     if let RawBy::Value(shown) = raw {
         push_raw_value(*shown, payload, out)?;
         out.push(b'\n')?;
         return Ok(None);
     }
-    if !holds_lines(raw, list, payload) {
+    if !is_shown(level, raw, list, payload) {
         push_plain_bytes(payload, out)?;
         return Ok(None);
     }
@@ -270,10 +289,10 @@ pub(crate) fn push_attribute<'a>(
     attribute: Attribute<'a>,
     out: &mut Vec<u8>,
 ) -> Result<Option<(Listed<'a>, &'a [u8])>, AllocError>
-    ensures ok { OnOk result (out.new.items ≡ out.old.items ++ (raw_text table list.now (attribute_of attribute.entry)
-        ++ 10 ∷ head_text level (named_head (raw_row table attribute.entry.kind) list.now (attribute_of attribute.entry)))) }
+    ensures ok { OnOk result (out.new.items ≡ out.old.items ++ (raw_text level table list.now (attribute_of attribute.entry)
+        ++ 10 ∷ head_text level (named_head level (raw_row table attribute.entry.kind) list.now (attribute_of attribute.entry)))) }
     ensures list { IfOk result (λ found. option_map (listing (λ b. b.now)) found
-        ≡ named_list (raw_row table attribute.entry.kind) list.now (attribute_of attribute.entry)) }
+        ≡ named_list level (raw_row table attribute.entry.kind) list.now (attribute_of attribute.entry)) }
 {
     match raw_row(table, attribute.kind) {
         Some((name, raw)) => {
@@ -301,7 +320,7 @@ fn push_part<'a>(
     ensures ok { OnOk result (out.new.items ≡ out.old.items ++ part_with_head level
         (listed_of (λ b. b.now) listed.entry) (attribute_of part.entry)) }
     ensures list { IfOk result (λ found. option_map (listing (λ b. b.now)) found
-        ≡ part_list (listed_of (λ b. b.now) listed.entry) (attribute_of part.entry)) }
+        ≡ part_list level (listed_of (λ b. b.now) listed.entry) (attribute_of part.entry)) }
 {
     match listed {
         ListedBy::Attributes(table, list) => {
@@ -320,14 +339,15 @@ fn push_part<'a>(
     }
 }
 
-/// Appends the lines of what is listed, indented for this level.
+/// Appends the lines of what is listed, indented for this level. It calls itself for lists that are
+/// deeper by a level, of which there are at most `DEEPEST_LEVEL`.
 pub(crate) fn push_listed(
     level: usize,
     listed: Listed<'_>,
     bytes: &[u8],
     out: &mut Vec<u8>,
 ) -> Result<(), AllocError>
-    requires { level + length bytes.now < 2 ^ 63 }
+    requires { level + levels_of (listed_of (λ b. b.now) listed) ≤ deepest_level }
     ensures ok { OnOk result (out.new.items ≡ out.old.items ++ lines_text (listed_lines level
         (listed_of (λ b. b.now) listed.entry) bytes.now)) }
 {
@@ -355,8 +375,7 @@ pub fn push_raw(
     attribute: Attribute<'_>,
     out: &mut Vec<u8>,
 ) -> Result<(), AllocError>
-    requires { level + length attribute.payload.now < 2 ^ 63 }
-    ensures ok { OnOk result (out.new.items ≡ out.old.items ++ (raw_text table [] (attribute_of attribute.entry)
+    ensures ok { OnOk result (out.new.items ≡ out.old.items ++ (raw_text level table [] (attribute_of attribute.entry)
         ++ 10 ∷ lines_text (raw_below level table (attribute_of attribute.entry)))) }
 {
     match push_attribute(level, table, &[], attribute, out)? {
@@ -377,9 +396,8 @@ pub fn push_held(
     payload: &[u8],
     out: &mut Vec<u8>,
 ) -> Result<(), AllocError>
-    requires { level + length payload.now < 2 ^ 63 }
     ensures ok { OnOk result (out.new.items ≡ out.old.items
-        ++ (after_name (raw_of (λ b. b.now) raw.now) [] payload.now
+        ++ (after_name level (raw_of (λ b. b.now) raw.now) [] payload.now
         ++ 10 ∷ lines_text (held_lines level (raw_of (λ b. b.now) raw.now) payload.now))) }
 {
     match push_after_name(level, raw, &[], payload, out)? {

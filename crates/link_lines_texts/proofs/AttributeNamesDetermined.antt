@@ -25,7 +25,7 @@ use Rattle.link_lines_texts.proofs.RowsComputed.{all_are_apart, all_are_named, a
 
 -- ---- what holds in each table
 
-in_table : (f : List AttributeRow → Bool) (m : ℕ) → f [] ≡ true → in_each f ≡ true → f (attribute_names_of m) ≡ true
+pub in_table : (f : List AttributeRow → Bool) (m : ℕ) → f [] ≡ true → in_each f ≡ true → f (attribute_names_of m) ≡ true
 unfolding attribute_names_of
 in_table f m e h = search (chosen f, all_at f, first_holds, others_hold) depth 12
 

@@ -20,3 +20,10 @@ pub mod TablesDetermined
 pub mod AttributeNamesDetermined
 pub mod RowsComputed
 pub mod Together
+mod ShortBytes
+mod ShortExact
+mod ShortFrames
+mod ShortLists
+mod ShortNumbers
+mod ShortRawLists
+mod ShortValues

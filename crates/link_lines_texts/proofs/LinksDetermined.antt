@@ -76,19 +76,19 @@ canonical_determined bound scope lists level p q s t short a b h k i j under =
 -- ---- peers inside peers
 
 -- No text is on the line of a peer that is shown as one.
-no_text : (p : List ℕ) → 16 ≤ length p → inside_text PeerInside p ≡ []
-no_text p h = rw (le-leb 16 (length p) h)
+no_text : (level : ℕ) (p : List ℕ) → 16 ≤ length p → inside_text level PeerInside p ≡ []
+no_text level p h = rw (le-leb 16 (length p) h)
 
 -- A peer that is shown as one isn't shown like bytes.
-peer_differs : (p q : List ℕ) → 16 ≤ length p → inside_text PeerInside p ≡ plain_bytes q → ⊥
-peer_differs p q h same = absurd (let none : [] ≡ plain_bytes q = sym (no_text p h) ∙ same in cc)
+peer_differs : (level : ℕ) (p q : List ℕ) → 16 ≤ length p → inside_text level PeerInside p ≡ plain_bytes q → ⊥
+peer_differs level p q h same = absurd (let none : [] ≡ plain_bytes q = sym (no_text level p h) ∙ same in cc)
 
 -- Two peers inside a peer, each shown as a peer or as bytes.
 inner_by : (bound : ℕ) (scope : Scope) → FamiliesDetermined bound bytes_peer (in_peer scope) → (level : ℕ) (p q s t : List ℕ) (x y : Bool) → is_canonical_peer p ≡ x → is_canonical_peer q ≡ y → length p < suc bound → AreBytes p → AreBytes q → IsShallow level s → IsShallow level t →
-    inside_text (cond x PeerInside Plain) p ≡ inside_text (cond y PeerInside Plain) q → below level scope (cond x PeerInside Plain) p ++ s ≡ below level scope (cond y PeerInside Plain) q ++ t → (p ≡ q) × (s ≡ t)
+    inside_text level (cond x PeerInside Plain) p ≡ inside_text level (cond y PeerInside Plain) q → below level scope (cond x PeerInside Plain) p ++ s ≡ below level scope (cond y PeerInside Plain) q ++ t → (p ≡ q) × (s ≡ t)
 inner_by bound scope lists level p q s t false false h k short a b i j same under = (bytes_are_determined.bytes p q a b (ap (drop 6) same), under)
-inner_by bound scope lists level p q s t true false h k short a b i j same under = absurd (peer_differs p q (found_canonical p a h).size same)
-inner_by bound scope lists level p q s t false true h k short a b i j same under = absurd (peer_differs q p (found_canonical q b k).size (sym same))
+inner_by bound scope lists level p q s t true false h k short a b i j same under = absurd (peer_differs level p q (found_canonical p a h).size same)
+inner_by bound scope lists level p q s t false true h k short a b i j same under = absurd (peer_differs level q p (found_canonical q b k).size (sym same))
 inner_by bound scope lists level p q s t true true h k short a b i j same under = canonical_determined bound scope lists level p q s t short a b (found_canonical p a h) (found_canonical q b k) i j under
 
 -- Peers are determined inside a peer, by induction on the bound: their lists are shorter than they are.

@@ -31,12 +31,11 @@ use Rattle.link_tables.specs.Tables.{is_link_info}
 use Rattle.link_lines_raw.specs.Lines.{lines_text}
 use Rattle.link_lines_raw.specs.Lists.{held_lines}
 use Rattle.link_lines_raw.specs.Names.{all_named_rows}
-use Rattle.link_lines_values.proofs.BytesDetermined.{bytes_determined as bytes_are_determined}
 use Rattle.link_lines_texts.specs.declared.attributes.ListTable.{ListTable}
 use Rattle.link_lines_texts.specs.Coverage.{format, has_row, holds_shown, is_in, is_info_kind, kind_inside, kinds_listed, names_shown, rows_shown, shape_determines}
 use Rattle.link_lines_texts.proofs.ShapesDetermined.{shapes_determined}
 use Rattle.link_lines_texts.specs.AttributeNames.{Name, info_attribute_names, link_names, family_names, attribute_name_of, attribute_names_of}
-use Rattle.link_lines_texts.proofs.ListsDetermined.{InsideDetermined, NestedDetermined, RowsDetermined, lists_determined}
+use Rattle.link_lines_texts.proofs.ListsDetermined.{InsideDetermined, NestedDetermined, RowsDetermined, lists_determined, words_determined}
 use Rattle.link_lines_texts.proofs.AttributeNamesDetermined.{found, names_determined}
 use Rattle.link_lines_texts.proofs.RowsComputed.{info_is_named}
 
@@ -62,9 +61,6 @@ held_determined : (bound : ℕ) (scope : Scope) (r : Rule) (kept : Kept) → det
 held_determined bound scope r kept h level p q x y short o u sx sy same under =
     held_payloads_determined.determined level kept p q x y h o.bytes u.bytes sx sy same
     (sym (no_list (lines_text (held_lines level kept p)) x) ∙ under ∙ no_list (lines_text (held_lines level kept q)) y)
-
-pub words_determined : (bound : ℕ) (scope : Scope) (r : Rule) → InsideDetermined bound scope r (λ p. PlainInside)
-words_determined bound scope r level p q x y short o u sx sy same under = (bytes_are_determined.bytes p q o.bytes u.bytes (ap (drop 6) same), under)
 
 -- What follows a name that doesn't depend on the kinds in force.
 abbrev pub settled : Scope → Inside → List ℕ → Inside

@@ -1,5 +1,5 @@
 -- How the payloads of attributes with names are shown.
-use Rattle.std.specs.Prelude.{ℕ, Bool, true, cond, ◌&&◌, List, Option, Some, None, bytes_eq, codes}
+use Rattle.std.specs.Prelude.{ℕ, nat_le, Bool, true, cond, ◌&&◌, List, Option, Some, None, bytes_eq, codes}
 use Rattle.attribute_tables_grammar.specs.Lists.{Context}
 use Rattle.link_message_grammar.specs.Body.{link_peer}
 use Rattle.link_tables.specs.declared.rows.Held.{Held as TableHeld}
@@ -7,6 +7,7 @@ use Rattle.link_tables.specs.declared.rows.Held.TheVariants.{List as HeldList}
 use Rattle.link_tables.specs.declared.table.Table.{Table}
 use Rattle.link_tables.specs.declared.table.TheConstants.{LINK_INFO}
 use Rattle.link_tables.specs.InForce.{data_under, port_data_under}
+use Rattle.link_lines_parts.specs.Levels.{deepest_level}
 use Rattle.link_lines_values.specs.declared.fields.Layout.{Layout}
 use Rattle.link_lines_values.specs.declared.number_tables.Numbers.{Numbers}
 use Rattle.link_lines_values.specs.declared.values.ShownBy.{ShownBy}
@@ -84,6 +85,17 @@ known_inside scope c PortData p = inside_held (port_data_under c.port_kind)
 known_inside scope c (Settings shown) p = cond scope.is_request Plain (Value shown)
 known_inside scope c Peer p = peer_inside scope.is_in_peer p
 known_inside scope c inside p = inside
+
+-- The way in which a payload is shown if the lines of a list may be shown below its name, or may not: then as bytes.
+abbrev pub if_reached : Bool → Inside → Inside
+if_reached b Peer = cond b Peer Plain
+if_reached b (Nested table) = cond b (Nested table) Plain
+if_reached b inside = inside
+
+-- The way in which a payload is shown if the lines below its name have this level: a list or a peer that is too deep as
+-- bytes.
+abbrev pub within_reach : ℕ → Inside → Inside
+within_reach level inside = if_reached (nat_le level deepest_level) inside
 
 -- Whether the text after a name is on the name's line.
 abbrev pub is_inside_on_a_line : Inside → Bool

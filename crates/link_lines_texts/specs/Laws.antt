@@ -1,5 +1,5 @@
 -- The laws of lines, which the functions of `laws` have as contracts.
-use Rattle.std.specs.Prelude.{◌≡◌, ℕ, ◌+◌, ◌^◌, ◌<◌, ◌↔◌, true, false, List, [], ◌++◌, length, take, drop, Some}
+use Rattle.std.specs.Prelude.{◌≡◌, ℕ, ◌+◌, ◌*◌, ◌^◌, ◌<◌, ◌≤◌, ◌↔◌, true, false, List, [], ◌++◌, length, take, drop, Some}
 use Rattle.std.specs.Prelude.{None, Ok}
 use Rattle.std.specs.List.{list_all}
 use Rattle.netlink_packet_core_grammar.specs.Attributes.{Attribute, nla_align, first_attribute}
@@ -12,6 +12,7 @@ use Rattle.link_capture_grammar.specs.Same.{SameCapture}
 use Rattle.link_message_grammar.specs.LinkMessage.{unspec, bridge, inet_6, other, link_table}
 use Rattle.link_lines_texts.specs.Coverage.{has_line, holds_shown, in_each, is_info_kind, raw_names_differ}
 use Rattle.link_lines_texts.specs.declared.attributes.ListTable.{ListTable}
+use Rattle.link_lines_texts.specs.Growth.{factor}
 use Rattle.link_lines_texts.specs.Lists.{list_inside, list_lines, nested_lines, next_in, attribute_lines, rest_lines}
 use Rattle.link_lines_texts.specs.Format.{Inside.Nested}
 use Rattle.link_lines_texts.specs.declared.raw_tables.TheConstants.{RAW_TABLES}
@@ -31,7 +32,7 @@ pub record ListsUnfoldByAttributes : Type 0 where
       first_attribute bytes ≡ Some (e, after) →
       rest_lines level m c bytes ≡
       attribute_lines level m c e ++
-      (nested_lines (level + 1) (list_inside m c e) ++ rest_lines level m (next_in m.table c e) after)
+      (nested_lines (level + 1) (list_inside level m c e) ++ rest_lines level m (next_in m.table c e) after)
   pub none : (level : ℕ) (m : ListTable) (c : Context) (bytes : List ℕ) → first_attribute bytes ≡ None →
       rest_lines level m c bytes ≡ []
 
@@ -81,3 +82,8 @@ LinesWithoutNumbersDetermineClearedTexts = (limit : ℕ) (s t : List ℕ) → li
 abbrev pub LinesDetermineMeanings : Type 0
 LinesDetermineMeanings = (limit : ℕ) (a b : List ℕ) → limit < 2 ^ 32 → AreBytes a → AreBytes b → IsLegal limit a →
     IsLegal limit b → (lines everything limit a ≡ lines everything limit b) ↔ SameCapture limit a b
+
+-- The lines of a normal text are at most `factor` times as long as the text.
+abbrev pub LinesAreShort : Type 0
+LinesAreShort = (choice : Choice) (text : List ℕ) → AreBytes text →
+    length (text_lines choice text) ≤ factor * length text

@@ -3,6 +3,7 @@ pub mod RawTables
 pub mod Captures
 pub mod Coverage
 pub mod Frames
+pub mod Growth
 pub mod Laws
 pub mod Links
 pub mod Lists

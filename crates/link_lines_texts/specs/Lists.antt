@@ -15,7 +15,7 @@ use Rattle.link_lines_raw.specs.Lists.{held_lines, raw_below}
 use Rattle.link_lines_texts.specs.declared.attributes.ListTable.{ListTable}
 use Rattle.link_lines_texts.specs.declared.format.Scope.{Scope}
 use Rattle.link_lines_texts.specs.Format.{Inside, Inside.Value, Inside.Plain, Inside.Held, Inside.Peer, Inside.Nested}
-use Rattle.link_lines_texts.specs.Format.{known_inside}
+use Rattle.link_lines_texts.specs.Format.{known_inside, within_reach}
 use Rattle.link_lines_texts.specs.Links.{link_header_line}
 use Rattle.link_tables.specs.declared.table.Table.{Table}
 use Rattle.link_tables.specs.Tables.{family_table, is_link_info}
@@ -31,13 +31,13 @@ abbrev pub of_link : Scope → List ℕ → ListTable
 of_link scope b = record { table = family_table (slice_index b 0); scope = scope }
 
 -- The text on an attribute's line, after its name: a value; bytes; or what a raw attribute holds, if it is on the line.
--- A peer without a header, which no normal text has, is shown as bytes.
-abbrev pub inside_text : Inside → List ℕ → List ℕ
-inside_text (Value shown) p = value_text shown p
-inside_text Plain p = plain_bytes p
-inside_text (Held raw) p = after_name raw [] p
-inside_text Peer p = cond (nat_le 16 (length p)) [] (bytes_text p)
-inside_text inside p = []
+-- A peer without a header, which no normal text has, is shown as bytes. `level` is that of the lines below.
+abbrev pub inside_text : ℕ → Inside → List ℕ → List ℕ
+inside_text level (Value shown) p = value_text shown p
+inside_text level Plain p = plain_bytes p
+inside_text level (Held raw) p = after_name level raw [] p
+inside_text level Peer p = cond (nat_le 16 (length p)) [] (bytes_text p)
+inside_text level inside p = []
 
 -- The lines below an attribute's line, but not those of a list with a table: for a peer, that of its header; those of
 -- what a raw attribute holds.
@@ -60,31 +60,35 @@ inside_list scope (Nested t) p = Some (record { table = t; scope = scope }, p)
 inside_list scope Peer p = peer_list scope p
 inside_list scope inside p = None
 
+-- The way in which an attribute's payload is shown under a name; `level` is that of the lines below.
+abbrev pub inside_under : ℕ → ListTable → Context → Name → List ℕ → Inside
+inside_under level m c t p = within_reach level (known_inside m.scope c t.1 p)
+
 -- The text of an attribute: under its name, or as a raw one if it has no row.
-abbrev pub named_attribute_text : ListTable → Context → Option Name → Attribute → List ℕ
-named_attribute_text m c None e = raw_text (raw_table m.table) [] e
-named_attribute_text m c (Some t) e = t.0 ++ inside_text (known_inside m.scope c t.1 e.payload) e.payload
+abbrev pub named_attribute_text : ℕ → ListTable → Context → Option Name → Attribute → List ℕ
+named_attribute_text level m c None e = raw_text level (raw_table m.table) [] e
+named_attribute_text level m c (Some t) e = t.0 ++ inside_text level (inside_under level m c t e.payload) e.payload
 
 -- The lines below an attribute's line, but not those of a list with a table.
 abbrev pub named_attribute_header : ℕ → ListTable → Context → Option Name → Attribute → List ℕ
 named_attribute_header level m c None e = lines_text (raw_below level (raw_table m.table) e)
-named_attribute_header level m c (Some t) e = header_inside level (known_inside m.scope c t.1 e.payload) e.payload
+named_attribute_header level m c (Some t) e = header_inside level (inside_under level m c t e.payload) e.payload
 
 -- The line of an attribute, and those below it, but not those of a list with a table.
 unfoldable pub attribute_lines : ℕ → ListTable → Context → Attribute → List ℕ
 attribute_lines level m c e =
     let attribute_name_row = attribute_name_of m.table.0 (proper_kind e.kind) in
-    indent level ++ (named_attribute_text m c attribute_name_row e ++
+    indent level ++ (named_attribute_text (level + 1) m c attribute_name_row e ++
     10 ∷ named_attribute_header (level + 1) m c attribute_name_row e)
 
--- The list in an attribute whose name has been looked up.
-abbrev pub named_attribute_list : ListTable → Context → Option Name → Attribute → Option (ListTable × List ℕ)
-named_attribute_list m c None e = None
-named_attribute_list m c (Some t) e = inside_list m.scope (known_inside m.scope c t.1 e.payload) e.payload
+-- The list in an attribute whose name has been looked up, if lines of this level may show one.
+abbrev pub named_attribute_list : ℕ → ListTable → Context → Option Name → Attribute → Option (ListTable × List ℕ)
+named_attribute_list level m c None e = None
+named_attribute_list level m c (Some t) e = inside_list m.scope (inside_under level m c t e.payload) e.payload
 
--- The list in an attribute, if it holds one.
-unfoldable pub list_inside : ListTable → Context → Attribute → Option (ListTable × List ℕ)
-list_inside m c e = named_attribute_list m c (attribute_name_of m.table.0 (proper_kind e.kind)) e
+-- The list in an attribute whose line has this level, if lines below show one.
+unfoldable pub list_inside : ℕ → ListTable → Context → Attribute → Option (ListTable × List ℕ)
+list_inside level m c e = named_attribute_list (level + 1) m c (attribute_name_of m.table.0 (proper_kind e.kind)) e
 
 -- The lines of the list in an attribute, if there is one, given the lines of lists.
 abbrev pub inside_lines : (ℕ → ListTable → Context → List ℕ → List ℕ) → ℕ → Option (ListTable × List ℕ) → List ℕ
@@ -97,7 +101,7 @@ abbrev pub next_lines : (ℕ → ListTable → Context → List ℕ → List ℕ
 next_lines list level m c None = []
 next_lines list level m c (Some x) =
     attribute_lines level m c x.0 ++
-    (inside_lines list (level + 1) (list_inside m c x.0) ++ list level m (next_in m.table c x.0) x.1)
+    (inside_lines list (level + 1) (list_inside level m c x.0) ++ list level m (next_in m.table c x.0) x.1)
 
 -- The lines of attributes, computed in at most n steps.
 unfoldable pub lines_within : ℕ → ℕ → ListTable → Context → List ℕ → List ℕ

@@ -7,13 +7,16 @@ ghost use Rattle.std.specs.Prelude.{◌≡◌, ◌<◌, ◌≤◌, ◌+◌, ◌^
 ghost use Rattle.link_interpreter.specs.Sameness.{attribute_of};
 ghost use Rattle.link_lines_raw.specs.Attributes.{plain_bytes};
 ghost use Rattle.link_lines_values.specs.Indents.{indent};
-ghost use Rattle.link_lines_texts.specs.Format.{Inside, Inside.Peer, inside_of, known_inside};
+ghost use Rattle.link_lines_parts.specs.Levels.{deepest_level};
+ghost use Rattle.link_lines_texts.specs.Format.{Inside, Inside.Peer, inside_of, known_inside, within_reach};
 ghost use Rattle.link_lines_texts.specs.Lists.{header_inside, inside_list, inside_text, list_inside};
 ghost use Rattle.link_lines_texts.specs.Lists.{list_lines, next_in, attribute_lines, peer_list};
 ghost use Rattle.link_tables.specs.InForce.{in_force};
 
 use crate::attribute_names::attribute_name_of;
-use crate::format::{CAN_STATISTICS, Format, FormatBy, Scope, known_format, or_format};
+use crate::format::{
+    CAN_STATISTICS, Format, FormatBy, Scope, known_format, or_format, within_reach,
+};
 use crate::laws::lists_unfold_by_attributes;
 use crate::links::push_link_header;
 use crate::raw_tables::raw_table;
@@ -53,7 +56,7 @@ fn push_plain_bytes(bytes: &[u8], out: &mut Vec<u8>) -> Result<(), AllocError>
 /// Appends the end of the line with a peer's name, and the line of the peer's header. A peer
 /// without a header, which no normal text has, is shown as bytes on the line of its name.
 fn push_peer(level: usize, payload: &[u8], out: &mut Vec<u8>) -> Result<(), AllocError>
-    ensures ok { OnOk result (out.new.items ≡ out.old.items ++ (inside_text Inside.Peer payload.now
+    ensures ok { OnOk result (out.new.items ≡ out.old.items ++ (inside_text level Inside.Peer payload.now
         ++ 10 ∷ header_inside level Inside.Peer payload.now)) }
 {
     if payload.len() < LINK_HEADER_LEN {
@@ -73,9 +76,8 @@ fn push_payload(
     payload: &[u8],
     out: &mut Vec<u8>,
 ) -> Result<(), AllocError>
-    requires { level + length payload.now < 2 ^ 63 }
     ensures ok { OnOk result (out.new.items ≡ out.old.items
-        ++ (inside_text (inside_of format.now) payload.now
+        ++ (inside_text level (inside_of format.now) payload.now
         ++ 10 ∷ header_inside level (inside_of format.now) payload.now)) }
 {
     match format {
@@ -133,18 +135,17 @@ fn push_known<'a>(
     payload: &'a [u8],
     out: &mut Vec<u8>,
 ) -> Result<Option<(ListTable, &'a [u8])>, AllocError>
-    requires { level + length payload.now < 2 ^ 63 }
     ensures ok { OnOk result (out.new.items ≡ out.old.items
-        ++ (inside_text (known_inside scope (in_force force.entry)
-        (inside_of format.now) payload.now) payload.now
-        ++ 10 ∷ header_inside level (known_inside scope (in_force force.entry)
-        (inside_of format.now) payload.now) payload.now)) }
+        ++ (inside_text level (within_reach level (known_inside scope (in_force force.entry)
+        (inside_of format.now) payload.now)) payload.now
+        ++ 10 ∷ header_inside level (within_reach level (known_inside scope (in_force force.entry)
+        (inside_of format.now) payload.now)) payload.now)) }
     ensures list { IfOk result (λ found. option_map (λ f. (f.0, f.1.now)) found
-        ≡ inside_list scope (known_inside scope (in_force force.entry)
-        (inside_of format.now) payload.now) payload.now) }
+        ≡ inside_list scope (within_reach level (known_inside scope (in_force force.entry)
+        (inside_of format.now) payload.now)) payload.now) }
 {
     let known = known_format(scope, force, format, payload, out)?;
-    let format = or_format(&known, format);
+    let format = within_reach(level, or_format(&known, format));
     push_payload(level, format, payload, out)?;
     Ok(list_of(scope, format, payload))
 }
@@ -160,11 +161,11 @@ fn push_attribute<'a>(
     attribute: Attribute<'a>,
     out: &mut Vec<u8>,
 ) -> Result<Option<(ListTable, &'a [u8])>, AllocError>
-    requires { level + length attribute.payload.now + 1 < 2 ^ 63 }
+    requires { level ≤ deepest_level }
     ensures ok { OnOk result (out.new.items ≡ out.old.items
         ++ attribute_lines level list_table (in_force force.entry) (attribute_of attribute.entry)) }
     ensures list { IfOk result (λ found. option_map (λ f. (f.0, f.1.now)) found
-        ≡ list_inside list_table (in_force force.entry) (attribute_of attribute.entry)) }
+        ≡ list_inside level list_table (in_force force.entry) (attribute_of attribute.entry)) }
 {
     push_indent(level, out)?;
     let Some((name, format)) = attribute_name_of(list_table.table, attribute.kind % KIND_BOUND)
@@ -188,14 +189,15 @@ fn push_attribute<'a>(
     )
 }
 
-/// Appends the lines of a list of attributes of a table, indented for this level.
+/// Appends the lines of a list of attributes of a table, indented for this level. It calls itself for
+/// lists that are deeper by a level, of which there are at most `DEEPEST_LEVEL`.
 pub(crate) fn push_list(
     level: usize,
     list_table: ListTable,
     bytes: &[u8],
     out: &mut Vec<u8>,
 ) -> Result<(), AllocError>
-    requires { level + length bytes.now < 2 ^ 63 }
+    requires { level ≤ deepest_level }
     ensures ok { OnOk result (out.new.items ≡ out.old.items ++ list_lines level list_table bytes.now) }
 {
     lists_unfold_by_attributes();

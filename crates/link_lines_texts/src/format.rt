@@ -1,10 +1,11 @@
 //! How the payloads of attributes with names are shown.
 
 ghost use Rattle.std.specs.Prelude.{◌≡◌, true, unwrap_or, IfOk};
-ghost use Rattle.link_lines_texts.specs.Format.{inside_of, inside_held, known_inside, of_held, peer_inside, statistics_inside};
+ghost use Rattle.link_lines_texts.specs.Format.{inside_of, inside_held, known_inside, of_held, peer_inside, statistics_inside, within_reach};
 ghost use Rattle.link_tables.specs.InForce.{held_in_force, in_force};
 
 use crate::canonical_peers::is_canonical_peer;
+use link_lines_parts::DEEPEST_LEVEL;
 use link_lines_raw::{Raw, RawBy, RawTable};
 use link_lines_values::device_layouts::CAN_DEVICE_STATS;
 use link_lines_values::{ExactBy, Shown, ShownBy};
@@ -139,5 +140,21 @@ pub(crate) fn or_format<'a>(known: &'a Option<Format>, format: &'a Format) -> &'
     match known {
         Some(known) => known,
         None => format,
+    }
+}
+
+/// How a list or a peer is shown whose lines would be too deep.
+const TOO_DEEP: &Format = &FormatBy::Plain;
+
+/// Returns a format if lines of this level may be below the attribute's name, and otherwise that in
+/// which bytes are shown in place of a list or a peer.
+pub(crate) fn within_reach(level: usize, format: &Format) -> &Format
+    ensures { inside_of result.now ≡ within_reach level (inside_of format.now) }
+{
+    match format {
+        FormatBy::Peer | FormatBy::List(_, _) | FormatBy::LinkInfo if level > DEEPEST_LEVEL => {
+            TOO_DEEP
+        }
+        _ => format,
     }
 }

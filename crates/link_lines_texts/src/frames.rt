@@ -215,7 +215,6 @@ fn push_other(
     body: &[u8],
     out: &mut Vec<u8>,
 ) -> Result<(), AllocError>
-    requires { length body.now + 1 < 2 ^ 63 }
     ensures ok { OnOk result (out.new.items ≡ out.old.items ++ other_lines message_type is_request body.now) }
 {
     if is_property_type(message_type) {
@@ -246,7 +245,6 @@ fn push_body(
     body: &[u8],
     out: &mut Vec<u8>,
 ) -> Result<(), AllocError>
-    requires { length body.now + 1 < 2 ^ 63 }
     ensures ok { OnOk result (out.new.items
         ≡ out.old.items ++ body_lines numbers message_type is_request body.now) }
 {

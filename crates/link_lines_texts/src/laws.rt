@@ -1,7 +1,7 @@
 //! Laws of the definitions: each function has an empty body, and its contract holds for all values.
 #![tactic(auto, using(crate::proofs::Together::laws))]
 
-ghost use Rattle.link_lines_texts.specs.Laws.{AcceptedFramesHaveLines, LinesAreJoined, LinesUnfoldByFrames};
+ghost use Rattle.link_lines_texts.specs.Laws.{AcceptedFramesHaveLines, LinesAreJoined, LinesAreShort, LinesUnfoldByFrames};
 ghost use Rattle.link_lines_texts.specs.Laws.{LinesDetermineMeanings, LinesDetermineTexts};
 ghost use Rattle.link_lines_texts.specs.Laws.{LinesWithoutNumbersDetermineClearedTexts};
 ghost use Rattle.link_lines_texts.specs.Laws.{ListsUnfoldByAttributes, RowsAreDetermined};
@@ -76,4 +76,9 @@ pub fn lines_without_numbers_determine_cleared_texts()
 /// Two legal captures have the same lines if and only if they mean the same.
 pub fn lines_determine_meanings()
     ensures { LinesDetermineMeanings }
+{}
+
+/// The lines of a normal text are at most 44 times as long as the text.
+pub fn lines_are_short()
+    ensures { LinesAreShort }
 {}

@@ -16,7 +16,7 @@ use link_capture_grammar::fault::CaptureFault;
 const VERSION: u32 = 2;
 
 /// The format version of normal texts and lines.
-const FORMAT: u32 = 3;
+const FORMAT: u32 = 4;
 
 /// A fault of one of two captures.
 fn of_side(fault: CaptureFault, second: bool) -> SideFault

@@ -17,7 +17,7 @@ returns-in-Some c =
     let tells = sym c.in_ok-listed.ensures.list ∙ ap (option_map (listing (λ b. b.now))) c.in-Some.is in
     record {
       ok = on_ok_weaker c.push_listed.result
-          (λ h. held_text c.args.out.now.items (after_name raw [] p) c.args.level (shown_head raw [] p) (shown_list raw [] p) after c.push_listed.new.out.items c.in_ok-listed.ensures.ok
+          (λ h. held_text c.args.out.now.items (after_name c.args.level raw [] p) c.args.level (shown_head c.args.level raw [] p) (shown_list c.args.level raw [] p) after c.push_listed.new.out.items c.in_ok-listed.ensures.ok
           (h ∙ ap (λ o. after ++ lines_text (inside_lines c.args.level o)) (sym tells))) c.push_listed.ensures.ok;
     }
 
@@ -27,4 +27,4 @@ returns-in-None c =
     let p = c.args.payload.now in
     let after = c.push_after_name.new.out.items in
     let tells = sym c.in_ok-listed.ensures.list ∙ ap (option_map (listing (λ b. b.now))) c.in-None.is in
-    record { ok = held_text c.args.out.now.items (after_name raw [] p) c.args.level (shown_head raw [] p) (shown_list raw [] p) after after c.in_ok-listed.ensures.ok (nothing_text after c.args.level (shown_list raw [] p) tells) }
+    record { ok = held_text c.args.out.now.items (after_name c.args.level raw [] p) c.args.level (shown_head c.args.level raw [] p) (shown_list c.args.level raw [] p) after after c.in_ok-listed.ensures.ok (nothing_text after c.args.level (shown_list c.args.level raw [] p) tells) }

@@ -17,7 +17,7 @@ returns-in-Some c =
     let tells = sym c.in_ok-listed.ensures.list ∙ ap (option_map (listing (λ b. b.now))) c.in-Some.is in
     record {
       ok = on_ok_weaker c.push_listed.result
-          (λ h. held_text c.args.out.now.items (raw_text c.args.table [] e) c.args.level (named_head row [] e) (named_list row [] e) after c.push_listed.new.out.items c.in_ok-listed.ensures.ok
+          (λ h. held_text c.args.out.now.items (raw_text c.args.level c.args.table [] e) c.args.level (named_head c.args.level row [] e) (named_list c.args.level row [] e) after c.push_listed.new.out.items c.in_ok-listed.ensures.ok
           (h ∙ ap (λ o. after ++ lines_text (inside_lines c.args.level o)) (sym tells))) c.push_listed.ensures.ok;
     }
 
@@ -27,4 +27,4 @@ returns-in-None c =
     let row = raw_row c.args.table e.kind in
     let after = c.push_attribute.new.out.items in
     let tells = sym c.in_ok-listed.ensures.list ∙ ap (option_map (listing (λ b. b.now))) c.in-None.is in
-    record { ok = held_text c.args.out.now.items (raw_text c.args.table [] e) c.args.level (named_head row [] e) (named_list row [] e) after after c.in_ok-listed.ensures.ok (nothing_text after c.args.level (named_list row [] e) tells) }
+    record { ok = held_text c.args.out.now.items (raw_text c.args.level c.args.table [] e) c.args.level (named_head c.args.level row [] e) (named_list c.args.level row [] e) after after c.in_ok-listed.ensures.ok (nothing_text after c.args.level (named_list c.args.level row [] e) tells) }

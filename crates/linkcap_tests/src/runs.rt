@@ -25,7 +25,13 @@ pub(crate) const TEXT: [u8; 68] = [
     0, 0, 0, 0, 0, 0, 0, 0, 0,
 ];
 
-/// The normal text of that request, and the first bytes of another message.
+/// The normal text of that request alone.
+const REQUEST: [u8; 48] = [
+    48, 0, 0, 0, 18, 0, 1, 3, 52, 14, 249, 90, 0, 0, 0, 0, 0, 0, 0, 0, 0, 0, 0, 0, 0, 0, 0, 0, 0,
+    0, 0, 0, 8, 0, 29, 0, 9, 0, 0, 0, 7, 0, 3, 0, 108, 111, 0, 0,
+];
+
+/// The same, and the first bytes of another message.
 const BEGUN: [u8; 58] = [
     48, 0, 0, 0, 18, 0, 1, 3, 52, 14, 249, 90, 0, 0, 0, 0, 0, 0, 0, 0, 0, 0, 0, 0, 0, 0, 0, 0, 0,
     0, 0, 0, 8, 0, 29, 0, 9, 0, 0, 0, 7, 0, 3, 0, 108, 111, 0, 0, 48, 0, 0, 0, 18, 0, 1, 3, 52, 14,
@@ -92,15 +98,15 @@ type Case = (
 const CASES: [Case; 9] = [
     (
         "few bytes a call",
-        &TEXT,
+        &REQUEST,
         STEADY,
         (5, 1000, false),
         "ok",
-        &TEXT,
+        &REQUEST,
     ),
     (
         "a write that fails is told at the bytes taken",
-        &TEXT,
+        &REQUEST,
         STEADY,
         (5, 4, true),
         "write failed at 20",
@@ -108,7 +114,7 @@ const CASES: [Case; 9] = [
     ),
     (
         "a write that takes nothing has failed",
-        &TEXT,
+        &REQUEST,
         STEADY,
         (5, 4, false),
         "write failed at 20",
@@ -140,7 +146,7 @@ const CASES: [Case; 9] = [
     ),
     (
         "a read that fails inside the first message leaves nothing written",
-        &TEXT,
+        &REQUEST,
         (30, 1, true),
         STEADY,
         "read failed at 30",

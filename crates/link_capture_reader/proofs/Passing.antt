@@ -10,7 +10,7 @@ use Rattle.netlink_packet_core_grammar.specs.Attributes.{nla_align}
 use Rattle.link_capture_grammar.specs.Captures.{first_frame, first_fault, fault_after_under, texts, texts_after_under, shifted, reach, reach_by, HeaderIsAllowed, IsLegal, StopsAt}
 use Rattle.link_capture_grammar.specs.Laws.{CapturesUnfoldByFrames, FramesAreIndependent}
 use Rattle.link_capture_grammar.proofs.Frames.{shifted_add}
-use Rattle.link_capture_reader.specs.Readers.{Resumes}
+use Rattle.link_capture_reader.specs.Readers.{IsAcceptedOrCut, Resumes}
 use Rattle.link_capture_reader.specs.Walks.{ReadsTo, Faults, RunsOutOfMemory, Passed}
 
 -- an empty capture has no fault and no texts
@@ -154,9 +154,15 @@ module _ (go : CapturesUnfoldByFrames link_body) where
   then_faults limit c m start at left t old out new fault w l a e o h = λ n.
       let q = h n in (q.0, then_fault limit c m start at left fault w l a q.1, then_texts limit c m left t old w l e o q.2)
 
-  pub then_runs_out : (limit : ℕ) (c : List ℕ) (m start at : ℕ) (left t old out new : List ℕ) (fault : CaptureFault) → Passed limit c m → left ≡ drop m c → at ≡ start + m → texts limit (take m c) ≡ t → out ≡ old ++ t → RunsOutOfMemory limit at left out new fault → RunsOutOfMemory limit start c old new fault
-  then_runs_out limit c m start at left t old out new fault w l a e o h = λ n.
-      let q = h n in (m + q.0, omega (arith, q.1, a), then_stop limit c m q.0 left w l q.2, then_stop_texts limit c m q.0 left t old w l e o q.3)
+  pub then_runs_out : (R S : Type 0) (limit : ℕ) (c : List ℕ) (m start at : ℕ) (left t old out new : List ℕ) (fault : CaptureFault) → (S → R) → Passed limit c m → left ≡ drop m c → at ≡ start + m → texts limit (take m c) ≡ t → out ≡ old ++ t → RunsOutOfMemory R limit at left out new fault → RunsOutOfMemory S limit start c old new fault
+  then_runs_out R S limit c m start at left t old out new fault reserved w l a e o h = λ n.
+      let q = h n in (
+        m + q.0,
+        omega (arith, q.1, a),
+        then_stop limit c m q.0 left w l q.2,
+        then_stop_texts limit c m q.0 left t old w l e o q.3,
+        λ r. subst (IsAcceptedOrCut limit) (ap (drop q.0) l ∙ drop-drop q.0 m c) (q.4 (reserved r)),
+      )
 
   -- one frame further
   pub passed_fault : (limit : ℕ) (c : List ℕ) (at : ℕ) (frame : ℕ × List ℕ) → Passed limit c at → first_frame limit (drop at c) ≡ Ok frame → IsLegal limit (take (at + nla_align frame.0) c)

@@ -1,6 +1,6 @@
 -- The strings that a reader is consistent with, after another piece.
 use Rattle.std.proofs.Common.{◌≡◌, ◌≢◌, ℕ, ◌+◌, ◌-◌, ◌^◌, ◌<◌, ◌≤◌, ◌⊎◌, inl, inr, Option, None, Some, Err, List, [], ◌++◌, length, take, drop, sym, ap, subst, ◌∙◌, refl, arith, length-append}
-use Rattle.std.proofs.lemmas.List.{length-drop, append-nil, drop_all, drop-append-le, nil_from_length}
+use Rattle.std.proofs.lemmas.List.{length-drop, append-nil, drop_all, drop-append-le, drop-drop, nil_from_length}
 use Rattle.std.proofs.Math.Seq.{drop-append-add}
 use Rattle.netlink_packet_core_grammar.specs.Attributes.{nla_align}
 use Rattle.link_capture_grammar.specs.Body.{link_body}
@@ -10,7 +10,7 @@ use Rattle.link_capture_grammar.specs.declared.fault.FaultKind.TheVariants.{Cut,
 use Rattle.link_capture_grammar.specs.Captures.{first_frame, first_frame_under, first_fault, texts, shifted, reach, reach_by, StopsAt, IsOfFrames}
 use Rattle.link_capture_grammar.specs.Laws.{FramesAreIndependent, CapturesUnfoldByFrames, FaultsAreAtFrames}
 use Rattle.link_capture_reader.proofs.Passing.{fault_nil, texts_nil, left_fault, left_stop_texts, then_resumes, then_stop, resume_passed, resume_texts}
-use Rattle.link_capture_reader.specs.Readers.{IsReader, IsConsistentWith, Resumes, Gains, FeedFault}
+use Rattle.link_capture_reader.specs.Readers.{CanKeep, IsAcceptedOrCut, IsReader, IsConsistentWith, Resumes, Gains, FeedFault}
 use Rattle.link_capture_reader.specs.Walks.{ReadsTo, Faults, RunsOutOfMemory, Passed}
 
 -- an empty string has no frame
@@ -24,11 +24,11 @@ judged None = inl refl
 judged (Some f) = inr (f, refl)
 
 -- a reader that has read nothing
-pub new_reader : (limit : ℕ) → 16 ≤ limit → IsReader (record { limit = limit; accepted = 0; kept = []; owed = 0; failed = None })
-new_reader limit h = record { limit = h; cut = cut_nil limit; small = omega arith; inside = omega arith; owed = inl refl; padding = omega arith; failed = tt }
+pub new_reader : (limit capacity : ℕ) → 16 ≤ limit → IsReader (record { limit = limit; accepted = 0; kept = []; capacity = capacity; owed = 0; failed = None })
+new_reader limit capacity h = record { limit = h; cut = cut_nil limit; small = omega arith; inside = omega arith; owed = inl refl; padding = omega arith; failed = tt }
 
-pub new_is_consistent : (limit : ℕ) → IsConsistentWith (record { limit = limit; accepted = 0; kept = []; owed = 0; failed = None }) []
-new_is_consistent limit = record { unfailed = refl; accepted = refl; rest = subst (λ f. Resumes f [] [] 0) (sym (fault_nil limit)) (refl, refl) }
+pub new_is_consistent : (limit capacity : ℕ) → IsConsistentWith (record { limit = limit; accepted = 0; kept = []; capacity = capacity; owed = 0; failed = None }) []
+new_is_consistent limit capacity = record { unfailed = refl; accepted = refl; rest = subst (λ f. Resumes f [] [] 0) (sym (fault_nil limit)) (refl, refl) }
 
 -- a piece that has only padding
 module _ (go : CapturesUnfoldByFrames link_body) where
@@ -108,46 +108,53 @@ owed_after go limit s p kept owed start old new more then w h = (
 )
 
 -- a fault of a frame, by its kind
-feed_fault : (limit : ℕ) (s p old new : List ℕ) (kind : FaultKind) (at : ℕ) → kind ≢ Cut → IsOfFrames kind → length s + length p < 2 ^ 64 → first_fault limit (s ++ p) ≡ Some (record { kind = kind; offset = at }) → Gains limit s (s ++ p) old new → FeedFault limit s p old new kind at
-feed_fault limit s p old new Cut at c k l f g = c refl
-feed_fault limit s p old new Memory at c k l f g = absurd k
-feed_fault limit s p old new Read at c k l f g = k
-feed_fault limit s p old new Write at c k l f g = k
-feed_fault limit s p old new TooLong at c k l f g = absurd k
-feed_fault limit s p old new Failed at c k l f g = k
-feed_fault limit s p old new kind at c k l f g = (l, f, g)
+feed_fault : (R : Type 0) (limit : ℕ) (s p old new : List ℕ) (kind : FaultKind) (at : ℕ) → kind ≢ Cut → IsOfFrames kind → length s + length p < 2 ^ 64 → first_fault limit (s ++ p) ≡ Some (record { kind = kind; offset = at }) → Gains limit s (s ++ p) old new → FeedFault R limit s p old new kind at
+feed_fault R limit s p old new Cut at c k l f g = c refl
+feed_fault R limit s p old new Memory at c k l f g = absurd k
+feed_fault R limit s p old new Read at c k l f g = k
+feed_fault R limit s p old new Write at c k l f g = k
+feed_fault R limit s p old new TooLong at c k l f g = absurd k
+feed_fault R limit s p old new Failed at c k l f g = k
+feed_fault R limit s p old new kind at c k l f g = (l, f, g)
 
-memory_fault : (limit : ℕ) (s p old new : List ℕ) (kind : FaultKind) (at : ℕ) → kind ≡ Memory → length s + length p < 2 ^ 64 → StopsAt limit (s ++ p) at → Gains limit s (take at (s ++ p)) old new → FeedFault limit s p old new kind at
-memory_fault limit s p old new kind at e l h g = subst (λ k. FeedFault limit s p old new k at) (sym e) (l, h, g)
+memory_fault : (R : Type 0) (limit : ℕ) (s p old new : List ℕ) (kind : FaultKind) (at : ℕ) → kind ≡ Memory → length s + length p < 2 ^ 64 → StopsAt limit (s ++ p) at → Gains limit s (take at (s ++ p)) old new → (R → IsAcceptedOrCut limit (drop at (s ++ p))) → FeedFault R limit s p old new kind at
+memory_fault R limit s p old new kind at e l h g n = subst (λ k. FeedFault R limit s p old new k at) (sym e) (l, h, g, n)
 
 is_memory : (kind : FaultKind) → (kind ≡ Memory) ⊎ (kind ≢ Memory)
 is_memory Memory = inl refl
 is_memory kind = inr (λ e. cc)
 
-pub faults_on : CapturesUnfoldByFrames link_body → FaultsAreAtFrames link_body → (limit : ℕ) (s p kept : List ℕ) (owed start : ℕ) (old new : List ℕ) (fault : CaptureFault) → length s + length p < 2 ^ 64 → Resumed limit s p kept owed start → Faults limit start (kept ++ drop owed p) old new fault → RunsOutOfMemory limit start (kept ++ drop owed p) old new fault → FeedFault limit s p old new fault.kind fault.offset
-faults_on go frames_independent limit s p kept owed start old new fault l w h k =
+-- memory that was reserved for a piece is reserved for the bytes after its padding
+pub runs_out_of_fewer : (kept : List ℕ) (capacity limit start : ℕ) (p : List ℕ) (owed : ℕ) (old new : List ℕ) (fault : CaptureFault) → RunsOutOfMemory (CanKeep kept capacity (length (drop owed p))) limit start (kept ++ drop owed p) old new fault → RunsOutOfMemory (CanKeep kept capacity (length p)) limit start (kept ++ drop owed p) old new fault
+runs_out_of_fewer kept capacity limit start p owed old new fault h = λ m.
+    let q = h m in
+    let fewer : length (drop owed p) ≤ length p = omega (arith, length-drop owed p) in
+    (q.0, q.1, q.2, q.3, λ r. q.4 (elim r [ inl a ↦ inl a | inr a ↦ inr (omega (arith, a, fewer)) ]))
+
+pub faults_on : (R : Type 0) → CapturesUnfoldByFrames link_body → FaultsAreAtFrames link_body → (limit : ℕ) (s p kept : List ℕ) (owed start : ℕ) (old new : List ℕ) (fault : CaptureFault) → length s + length p < 2 ^ 64 → Resumed limit s p kept owed start → Faults limit start (kept ++ drop owed p) old new fault → RunsOutOfMemory R limit start (kept ++ drop owed p) old new fault → FeedFault R limit s p old new fault.kind fault.offset
+faults_on R go frames_independent limit s p kept owed start old new fault l w h k =
     let d = kept ++ drop owed p in
     elim (is_memory fault.kind) [
       | inl e ↦
           let q = k e in
           let at : fault.offset ≡ reach limit s + q.0 = q.1 ∙ ap (λ n. n + q.0) (sym w.at) in
-          memory_fault limit s p old new fault.kind fault.offset e l
+          memory_fault R limit s p old new fault.kind fault.offset e l
           (subst (StopsAt limit (s ++ p)) (sym at) (then_stop go limit (s ++ p) (reach limit s) q.0 d w.passed w.left q.2)) (
             texts limit (take q.0 d),
             ap (λ n. texts limit (take n (s ++ p))) at ∙ left_stop_texts go limit (s ++ p) (reach limit s) q.0 w.passed ∙ ap (λ t. t ++ texts limit (take q.0 (drop (reach limit s) (s ++ p)))) (resume_texts go limit s p)
                 ∙ ap (λ x. texts limit s ++ texts limit (take q.0 x)) (sym w.left),
             q.3,
-          )
+          ) (λ r. subst (IsAcceptedOrCut limit) (ap (drop q.0) w.left ∙ drop-drop q.0 (reach limit s) (s ++ p) ∙ ap (λ n. drop n (s ++ p)) (sym at)) (q.4 r))
       | inr e ↦
           let q = h e in
           let f : first_fault limit (s ++ p) ≡ Some fault =
           left_fault go limit (s ++ p) (reach limit s) w.passed ∙ ap (λ x. shifted (reach limit s) (first_fault limit x)) (sym w.left) ∙ ap (λ n. shifted n (first_fault limit d)) w.at ∙ q.1 in
-          feed_fault limit s p old new fault.kind fault.offset q.0 (frames_independent limit (s ++ p) fault f).2 l f (texts limit d, gained go limit s p kept owed start w, q.2)
+          feed_fault R limit s p old new fault.kind fault.offset q.0 (frames_independent limit (s ++ p) fault f).2 l f (texts limit d, gained go limit s p kept owed start w, q.2)
     ]
 
 -- what is kept and owed after a string is the state of a reader
-pub resumes_reader : CapturesUnfoldByFrames link_body → FramesAreIndependent link_body → (limit accepted : ℕ) (c kept : List ℕ) (owed : ℕ) → 16 ≤ limit → length c ≤ accepted → Resumes (first_fault limit c) c kept owed → IsReader (record { limit = limit; accepted = accepted; kept = kept; owed = owed; failed = None })
-resumes_reader go independent limit accepted c kept owed h l r =
+pub resumes_reader : CapturesUnfoldByFrames link_body → FramesAreIndependent link_body → (limit accepted : ℕ) (c kept : List ℕ) (capacity owed : ℕ) → 16 ≤ limit → length c ≤ accepted → Resumes (first_fault limit c) c kept owed → IsReader (record { limit = limit; accepted = accepted; kept = kept; capacity = capacity; owed = owed; failed = None })
+resumes_reader go independent limit accepted c kept capacity owed h l r =
     elim (judged (first_fault limit c)) [
       | inl w ↦
           let q = subst (λ f. Resumes f c kept owed) w r in
@@ -177,8 +184,8 @@ resumes_reader go independent limit accepted c kept owed h l r =
     ]
 
 -- a reader after a fault
-pub failed_reader : (limit accepted offset : ℕ) → 16 ≤ limit → IsReader (record { limit = limit; accepted = accepted; kept = []; owed = 0; failed = Some offset })
-failed_reader limit accepted offset h = record { limit = h; cut = cut_nil limit; small = omega arith; inside = omega arith; owed = inl refl; padding = omega arith; failed = refl }
+pub failed_reader : (limit accepted capacity offset : ℕ) → 16 ≤ limit → IsReader (record { limit = limit; accepted = accepted; kept = []; capacity = capacity; owed = 0; failed = Some offset })
+failed_reader limit accepted capacity offset h = record { limit = h; cut = cut_nil limit; small = omega arith; inside = omega arith; owed = inl refl; padding = omega arith; failed = refl }
 
 -- no frame is cut if none of its bytes is there
 pub nothing_cut : FaultsAreAtFrames link_body → (limit : ℕ) (s : List ℕ) (owed : ℕ) → Resumes (first_fault limit s) s [] owed → first_fault limit s ≡ None

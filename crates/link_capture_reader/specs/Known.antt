@@ -1,11 +1,9 @@
 -- The numbers and bytes that the devices of this crate hold.
-use Rattle.std.specs.Prelude.{ℕ, List, Option, vec_capacity}
-use Rattle.std.specs.declared.io.ErrorKind.{ErrorKind}
+use Rattle.std.specs.Prelude.{ℕ, List, vec_capacity}
 use Rattle.link_capture_reader.specs.declared.sources.SliceSource.{SliceSource}
 use Rattle.link_capture_reader.specs.declared.sources.ReadSource.{ReadSource}
 use Rattle.link_capture_reader.specs.declared.sinks.VecSink.{VecSink}
 use Rattle.link_capture_reader.specs.declared.sinks.WriteSink.{WriteSink}
-use Rattle.link_capture_reader.specs.declared.files.HostFiles.{HostFiles}
 
 -- The bytes of a slice that are still to come.
 abbrev pub slice_rest : SliceSource → List ℕ
@@ -46,11 +44,3 @@ sink_writer s = s.writer
 -- How often the writer of a sink failed.
 abbrev pub sink_failures : {W : Type 0} → WriteSink W → ℕ
 sink_failures s = s.failures
-
--- How often the file system of the process was asked for a file.
-abbrev pub host_asked : HostFiles → ℕ
-host_asked files = files.asked
-
--- The reason why the last file of the process couldn't be opened; None if it was opened.
-abbrev pub host_refusal : HostFiles → Option ErrorKind
-host_refusal files = files.refusal

@@ -1,5 +1,5 @@
 -- How each result of the engine relates to the bytes that were read and those that were written.
-use Rattle.std.specs.Prelude.{◌<◌, ◌≡◌, ℕ, ◌+◌, ◌-◌, ◌^◌, ◌≤◌, min, List, ◌++◌, length, take, Option, None, Some}
+use Rattle.std.specs.Prelude.{◌<◌, ◌≡◌, ℕ, ◌+◌, ◌-◌, ◌^◌, ◌≤◌, min, List, ◌++◌, length, take, drop, Option, None, Some}
 use Rattle.std.specs.Prelude.{Result, Ok, Err}
 use Rattle.std.specs.Io.KnownBytes.{Consumes, Appends}
 use Rattle.link_capture_grammar.specs.declared.fault.FaultKind.{FaultKind}
@@ -7,6 +7,7 @@ use Rattle.link_capture_grammar.specs.declared.fault.FaultKind.TheVariants.{Cut,
 use Rattle.link_capture_grammar.specs.declared.fault.CaptureFault.{CaptureFault}
 use Rattle.link_capture_grammar.specs.Captures.{first_fault, texts, StopsAt, IsLegal}
 use Rattle.link_capture_reader.specs.Devices.{Rises}
+use Rattle.link_capture_reader.specs.Readers.{IsAcceptedOrCut}
 
 -- The bytes so far have no fault, or a cut frame, which more bytes may complete.
 abbrev pub IsOpen : Option CaptureFault → Type 0
@@ -27,12 +28,13 @@ pub record PassesLength (limit : ℕ) (s w : List ℕ) (at : ℕ) : Type 0 where
   pub written : w ≡ texts limit (take at s)
 
 -- What holds if s was read, w was written, and a fault of this kind is returned at the offset `at`. The propositions
--- ended, read_failed and write_failed are what the devices reported. For `Memory` nothing is said about capacity, since
--- reads have sizes that no contract sees.
+-- ended, read_failed and write_failed are what the devices reported. Memory runs out only at a frame that is accepted, or
+-- cut in what was read; nothing is said about capacity, since reads have sizes that no contract sees.
 abbrev pub OutcomeAt : Type 0 → Type 0 → Type 0 → ℕ → List ℕ → List ℕ → FaultKind → ℕ → Type 0
 OutcomeAt ended read_failed write_failed limit s w Cut at = ended ×
     (first_fault limit s ≡ Some (record { kind = Cut; offset = at })) × (w ≡ texts limit s)
-OutcomeAt ended read_failed write_failed limit s w Memory at = StopsAt limit s at × (w ≡ texts limit (take at s))
+OutcomeAt ended read_failed write_failed limit s w Memory at =
+    StopsAt limit s at × IsAcceptedOrCut limit (drop at s) × (w ≡ texts limit (take at s))
 OutcomeAt ended read_failed write_failed limit s w Read at = read_failed × (at ≡ length s) ×
     IsOpen (first_fault limit s) × (w ≡ texts limit s)
 OutcomeAt ended read_failed write_failed limit s w Write at = write_failed × (at ≡ min (length w) (2 ^ 64 - 1)) ×

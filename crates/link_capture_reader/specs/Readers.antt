@@ -7,12 +7,13 @@ use Rattle.link_capture_grammar.specs.declared.fault.CaptureFault.{CaptureFault}
 use Rattle.netlink_packet_core_grammar.specs.Attributes.{nla_align}
 use Rattle.link_capture_grammar.specs.Captures.{first_frame, first_fault, texts, StopsAt}
 
--- The state of a reader: its limit, how many bytes it has accepted, the bytes of the cut frame, how many bytes of
--- padding are owed, and the offset of the first fault.
+-- The state of a reader: its limit, how many bytes it has accepted, the bytes of the cut frame, how many bytes it can
+-- keep without an allocation, how many bytes of padding are owed, and the offset of the first fault.
 pub record ReaderState : Type 0 where
   pub limit : ℕ
   pub accepted : ℕ
   pub kept : List ℕ
+  pub capacity : ℕ
   pub owed : ℕ
   pub failed : Option ℕ
 
@@ -34,9 +35,18 @@ Resumes None s kept owed = (kept ≡ []) × (owed ≡ nla_align (length s) - len
 Resumes (Some fault) s kept owed = (fault.kind ≡ Cut) × (kept ≡ drop fault.offset s) × (owed ≡ 0)
 
 -- The state of a reader without a fault.
-abbrev pub unfailed : ℕ → ℕ → List ℕ → ℕ → ReaderState
-unfailed limit accepted kept owed =
-    record { limit = limit; accepted = accepted; kept = kept; owed = owed; failed = None }
+abbrev pub unfailed : ℕ → ℕ → List ℕ → ℕ → ℕ → ReaderState
+unfailed limit accepted kept capacity owed =
+    record { limit = limit; accepted = accepted; kept = kept; capacity = capacity; owed = owed; failed = None }
+
+-- A frame that is cut can be continued by so many bytes without an allocation; or none is cut, and these bytes are kept.
+abbrev pub CanKeep : List ℕ → ℕ → ℕ → Type 0
+CanKeep kept capacity size = (kept ≡ []) ⊎ (length kept + size ≤ capacity)
+
+-- The first frame of c is accepted, and its text had to be written; or it is cut, and its bytes had to be kept.
+abbrev pub IsAcceptedOrCut : ℕ → List ℕ → Type 0
+IsAcceptedOrCut limit c =
+    ((frame : ℕ × List ℕ) × (first_frame limit c ≡ Ok frame)) ⊎ (first_frame limit c ≡ Err Cut)
 
 -- The reader is consistent with the string s: it has met no fault, and it has accepted and kept what a reader of s has.
 pub record IsConsistentWith (r : ReaderState) (s : List ℕ) : Type 0 where
@@ -48,16 +58,19 @@ pub record IsConsistentWith (r : ReaderState) (s : List ℕ) : Type 0 where
 abbrev pub Gains : ℕ → List ℕ → List ℕ → List ℕ → List ℕ → Type 0
 Gains limit s t old new = (more : List ℕ) × (texts limit t ≡ texts limit s ++ more) × (new ≡ old ++ more)
 
--- What holds if `feed` returns a fault of this kind at the offset `at`: s was accepted before, and this piece was fed.
-abbrev pub FeedFault : ℕ → List ℕ → List ℕ → List ℕ → List ℕ → FaultKind → ℕ → Type 0
-FeedFault limit s piece old new Memory at = (length s + length piece < 2 ^ 64) × StopsAt limit (s ++ piece) at ×
-    Gains limit s (take at (s ++ piece)) old new
-FeedFault limit s piece old new TooLong at = (2 ^ 64 ≤ length s + length piece) × (at ≡ length s) × (new ≡ old)
-FeedFault limit s piece old new Cut at = ⊥
-FeedFault limit s piece old new Read at = ⊥
-FeedFault limit s piece old new Write at = ⊥
-FeedFault limit s piece old new Failed at = ⊥
-FeedFault limit s piece old new kind at =
+-- What holds if `feed` returns a fault of this kind at the offset `at`: s was accepted before, and this piece was fed. If
+-- memory was reserved, it runs out only at a frame that is accepted or cut.
+abbrev pub FeedFault : Type 0 → ℕ → List ℕ → List ℕ → List ℕ → List ℕ → FaultKind → ℕ → Type 0
+FeedFault reserved limit s piece old new Memory at =
+    (length s + length piece < 2 ^ 64) × StopsAt limit (s ++ piece) at ×
+    Gains limit s (take at (s ++ piece)) old new × (reserved → IsAcceptedOrCut limit (drop at (s ++ piece)))
+FeedFault reserved limit s piece old new TooLong at =
+    (2 ^ 64 ≤ length s + length piece) × (at ≡ length s) × (new ≡ old)
+FeedFault reserved limit s piece old new Cut at = ⊥
+FeedFault reserved limit s piece old new Read at = ⊥
+FeedFault reserved limit s piece old new Write at = ⊥
+FeedFault reserved limit s piece old new Failed at = ⊥
+FeedFault reserved limit s piece old new kind at =
     (length s + length piece < 2 ^ 64) × (first_fault limit (s ++ piece) ≡ Some (record { kind = kind; offset = at })) ×
     Gains limit s (s ++ piece) old new
 

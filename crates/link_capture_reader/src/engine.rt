@@ -9,7 +9,9 @@ use super::devices::{Sink, Source};
 use super::first::{FirstBytes, keep_first};
 use super::reader::CaptureReader;
 use link_capture_grammar::fault::{CaptureFault, FaultKind};
-use link_capture_grammar::laws::texts_of_a_prefix_stay;
+use link_capture_grammar::laws::{
+    captures_unfold_by_frames, faults_are_at_frames, frames_are_independent, texts_of_a_prefix_stay,
+};
 use std::alloc::Global;
 
 /// Writes all of `bytes` to a sink to which `written` bytes were written before, and returns how
@@ -50,9 +52,9 @@ pub fn write_all<K: Sink>(sink: &mut K, bytes: &[u8], written: u64) -> Result<u6
 /// # Errors
 ///
 /// The capture's first fault, with its offset; `Read` at the number of bytes read; `Write` at the
-/// number of bytes taken; `Memory` at the start of a frame, if an allocation fails; `TooLong` at
-/// the number of bytes accepted. Before any fault but `Write`, the texts of the frames before it
-/// are written.
+/// number of bytes taken; `Memory` at the start of a frame that is accepted, or cut in what was
+/// read, if an allocation fails; `TooLong` at the number of bytes accepted. Before any fault but
+/// `Write`, the texts of the frames before it are written.
 pub fn normalize<S: Source, K: Sink>(
     alloc: Global,
     source: &mut S,
@@ -66,11 +68,15 @@ pub fn normalize<S: Source, K: Sink>(
         (Rises (S.failures source.old) (S.failures source.new))
         (Rises (K.failures sink.old) (K.failures sink.new)) limit result }
 {
+    captures_unfold_by_frames();
+    frames_are_independent();
+    faults_are_at_frames();
     let mut reader = CaptureReader::new(alloc, limit);
     let mut buffer = [0u8; 65536];
     let mut out = Vec::new(alloc);
     let mut written = 0u64;
     'pieces: loop {
+        reader.reserve(buffer.len())?;
         let Ok(size) = source.read(&mut buffer) else {
             return Err(CaptureFault {
                 kind: FaultKind::Read,

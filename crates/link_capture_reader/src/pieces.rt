@@ -1,11 +1,11 @@
 //! What is held between two pieces of a capture, and how it is continued by one more piece.
 
-ghost use Rattle.std.specs.Prelude.{◌≡◌, ◌≢◌, ◌+◌, ◌-◌, ◌^◌, ◌<◌, ◌≤◌, ◌++◌, ◌⊎◌, ℕ, List, [], length, take, max, IfOk};
-ghost use Rattle.std.specs.Prelude.{IfErr, OnOk, OnErr, Err};
+ghost use Rattle.std.specs.Prelude.{◌≡◌, ◌≢◌, ◌+◌, ◌-◌, ◌^◌, ◌<◌, ◌≤◌, ◌++◌, ◌⊎◌, ℕ, List, [], length, take, max, vec_capacity, IfOk};
+ghost use Rattle.std.specs.Prelude.{IfErr, OnOk, OnErr, Err, ⊤};
 ghost use Rattle.netlink_packet_core.specs.Attributes.{nla_align};
 ghost use Rattle.netlink_packet_core.specs.Frames.{frame_length};
 ghost use Rattle.link_capture_grammar.specs.Captures.{first_frame, first_fault, HeaderIsAllowed, IsOfFrames};
-ghost use Rattle.link_capture_reader.specs.Readers.{IsReader, Resumes, Gains, FeedFault, MemoryFaultIsJustified, unfailed};
+ghost use Rattle.link_capture_reader.specs.Readers.{CanKeep, IsReader, Resumes, Gains, FeedFault, MemoryFaultIsJustified, unfailed};
 ghost use Rattle.link_capture_reader.specs.Walks.{ReadsTo, Faults, RunsOutOfMemory};
 
 use super::frames::push_frames;
@@ -41,6 +41,8 @@ fn fill(kept: &mut Vec<u8>, piece: &[u8], size: usize) -> Result<usize, AllocErr
     ensures moved { IfOk result (λ n. kept.new.items ≡ kept.old.items ++ take n piece.now) }
     ensures enough { IfOk result (λ n. (n ≡ length piece.now) ⊎ (size ≤ length kept.new.items)) }
     ensures exact { OnOk result (length kept.new.items ≤ max size (length kept.old.items)) }
+    ensures capacity { vec_capacity kept.old ≤ vec_capacity kept.new }
+    ensures full { OnErr result (vec_capacity kept.old < length kept.old.items + length piece.now) }
 {
     let count = size.saturating_sub(kept.len()).min(piece.len());
     kept.extend_from_slice(&piece[..count])?;
@@ -95,6 +97,7 @@ fn complete_frame(kept: &mut Vec<u8>, piece: &[u8], limit: u32) -> Result<usize,
     ensures judged { IfOk result
         (λ n. (n ≡ length piece.now) ⊎ (first_frame limit kept.new.items ≢ Err FaultKind.Cut)) }
     ensures exact { OnOk result (length kept.new.items ≤ max 16 (frame_length kept.new.items)) }
+    ensures full { OnErr result (vec_capacity kept.old < length kept.old.items + length piece.now) }
 {
     let header = fill(kept, piece, NETLINK_HEADER_LEN)?;
     if kept.len() < NETLINK_HEADER_LEN {
@@ -132,10 +135,10 @@ impl Pending {
     /// is unspecified.
     pub(crate) fn accept(&mut self, piece: &[u8], out: &mut Vec<u8>) -> Result<(), CaptureFault>
         requires reader { IsReader
-            (unfailed self.old.limit self.old.accepted self.old.kept.items self.old.owed) }
+            (unfailed self.old.limit self.old.accepted self.old.kept.items (vec_capacity self.old.kept) self.old.owed) }
         ensures fits { OnOk result (self.old.accepted + length piece.now < 2 ^ 64) }
         ensures reader { OnOk result (IsReader
-            (unfailed self.new.limit self.new.accepted self.new.kept.items self.new.owed)) }
+            (unfailed self.new.limit self.new.accepted self.new.kept.items (vec_capacity self.new.kept) self.new.owed)) }
         ensures ok { OnOk result ((s : List ℕ) → self.old.accepted ≡ length s
             → Resumes (first_fault self.old.limit s) s self.old.kept.items self.old.owed
             → Resumes (first_fault self.old.limit (s ++ piece.now)) (s ++ piece.now)
@@ -143,8 +146,8 @@ impl Pending {
             × Gains self.old.limit s (s ++ piece.now) out.old.items out.new.items) }
         ensures fault { IfErr result (λ fault. (s : List ℕ) → self.old.accepted ≡ length s
             → Resumes (first_fault self.old.limit s) s self.old.kept.items self.old.owed
-            → FeedFault self.old.limit s piece.now out.old.items out.new.items
-            fault.kind fault.offset) }
+            → FeedFault (CanKeep self.old.kept.items (vec_capacity self.old.kept) (length piece.now))
+            self.old.limit s piece.now out.old.items out.new.items fault.kind fault.offset) }
         ensures capacity { IfErr result (λ fault. self.old.kept.items ≡ [] → self.old.owed ≡ 0
             → MemoryFaultIsJustified self.old.limit self.old.accepted piece.now fault out.old) }
         ensures accepted { OnOk result (self.new.accepted ≡ self.old.accepted + length piece.now) }
@@ -195,7 +198,8 @@ impl Pending {
             out.old.items out.new.items self.new.kept.items self.new.owed) }
         ensures fault { IfErr result (λ fault. Faults self.old.limit start
             (self.old.kept.items ++ bytes.now) out.old.items out.new.items fault) }
-        ensures memory { IfErr result (λ fault. RunsOutOfMemory self.old.limit start
+        ensures memory { IfErr result (λ fault. RunsOutOfMemory
+            (CanKeep self.old.kept.items (vec_capacity self.old.kept) (length bytes.now)) self.old.limit start
             (self.old.kept.items ++ bytes.now) out.old.items out.new.items fault) }
         ensures capacity { IfErr result (λ fault. self.old.kept.items ≡ []
             → MemoryFaultIsJustified self.old.limit start bytes.now fault out.old) }
@@ -262,7 +266,7 @@ impl Pending {
             out.old.items out.new.items self.new.kept.items self.new.owed) }
         ensures fault { IfErr result (λ fault. Faults self.old.limit start bytes.now
             out.old.items out.new.items fault) }
-        ensures memory { IfErr result (λ fault. RunsOutOfMemory self.old.limit start bytes.now
+        ensures memory { IfErr result (λ fault. RunsOutOfMemory ⊤ self.old.limit start bytes.now
             out.old.items out.new.items fault) }
         ensures capacity { IfErr result
             (λ fault. MemoryFaultIsJustified self.old.limit start bytes.now fault out.old) }

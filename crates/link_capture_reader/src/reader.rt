@@ -1,8 +1,9 @@
 //! The reader of captures that come in pieces.
 
-ghost use Rattle.std.specs.Prelude.{◌≡◌, ◌+◌, ◌^◌, ◌<◌, ◌≤◌, ◌++◌, ℕ, List, [], length, OnOk, OnErr, IfErr, IfSome, None, Some, Err};
+ghost use Rattle.std.specs.Prelude.{◌≡◌, ◌≢◌, ◌+◌, ◌^◌, ◌<◌, ◌≤◌, ◌++◌, ℕ, List, [], length, vec_capacity};
+ghost use Rattle.std.specs.Prelude.{OnOk, OnErr, IfErr, IfSome, None, Some, Err};
 ghost use Rattle.link_capture_grammar.specs.Captures.{first_fault};
-ghost use Rattle.link_capture_reader.specs.Readers.{ReaderState, IsReader, IsConsistentWith, Gains, FeedFault, MemoryFaultIsJustified};
+ghost use Rattle.link_capture_reader.specs.Readers.{ReaderState, CanKeep, IsReader, IsConsistentWith, Gains, FeedFault, MemoryFaultIsJustified};
 
 use super::pieces::Pending;
 use link_capture_grammar::fault::{CaptureFault, FaultKind};
@@ -29,6 +30,7 @@ impl Model for CaptureReader {
       limit = r.pending.limit;
       accepted = r.pending.accepted;
       kept = r.pending.kept.items;
+      capacity = vec_capacity r.pending.kept;
       owed = r.pending.owed;
       failed = r.failed;
     } };
@@ -37,6 +39,7 @@ impl Model for CaptureReader {
       limit = r.pending.limit;
       accepted = r.pending.accepted;
       kept = r.pending.kept.items;
+      capacity = vec_capacity r.pending.kept;
       owed = r.pending.owed;
       failed = r.failed;
     }) };
@@ -62,6 +65,40 @@ impl CaptureReader {
         }
     }
 
+    /// Returns the offset of the frame that is cut.
+    fn cut_offset(&self) -> u64
+        requires { self.now.kept ≢ [] }
+        ensures { (s : List ℕ) → IsConsistentWith self.now s → first_fault self.now.limit s
+            ≡ Some (record { kind = FaultKind.Cut; offset = result }) }
+    {
+        faults_are_at_frames();
+        self.pending.accepted - self.pending.kept.len() as u64
+    }
+
+    /// Reserves memory for a piece of this size, if a frame is cut: for such a piece `feed` runs
+    /// out of memory only at a frame that is accepted, or cut again.
+    ///
+    /// # Errors
+    ///
+    /// `Memory`, at the offset of the cut frame, if an allocation fails. The reader may be used
+    /// again.
+    pub fn reserve(&mut self, size: usize) -> Result<(), CaptureFault>
+        ensures ok { OnOk result (CanKeep self.new.kept self.new.capacity size) }
+        ensures kind { IfErr result (λ fault. fault.kind ≡ FaultKind.Memory) }
+        // An allocation fails only if a frame is cut, and the fault is at it.
+        ensures offset { IfErr result (λ fault. (s : List ℕ) → IsConsistentWith self.old s
+            → first_fault self.old.limit s ≡ Some (record { kind = FaultKind.Cut; offset = fault.offset })) }
+        ensures others { self.new ≡ record self.old { capacity = self.new.capacity } }
+    {
+        if self.pending.kept.is_empty() || self.pending.kept.reserve(size).is_ok() {
+            return Ok(());
+        }
+        Err(CaptureFault {
+            kind: FaultKind::Memory,
+            offset: self.cut_offset(),
+        })
+    }
+
     /// Takes the next piece of the capture, and appends the text of each frame that is now whole,
     /// with its padding, to `out`.
     ///
@@ -76,10 +113,11 @@ impl CaptureReader {
         ensures ok { OnOk result ((s : List ℕ) → IsConsistentWith self.old s
             → (length s + length piece.now < 2 ^ 64) × IsConsistentWith self.new (s ++ piece.now)
             × Gains self.old.limit s (s ++ piece.now) out.old.items out.new.items) }
-        // The fault is that of the capture with the piece, and the texts before it are in `out`.
+        // The fault is that of the capture with the piece, and the texts before it are in `out`. If
+        // memory was reserved, it runs out only at a frame that is accepted or cut.
         ensures fault { IfErr result (λ fault. (s : List ℕ) → IsConsistentWith self.old s
-            → FeedFault self.old.limit s piece.now out.old.items out.new.items
-            fault.kind fault.offset) }
+            → FeedFault (CanKeep self.old.kept self.old.capacity (length piece.now)) self.old.limit
+            s piece.now out.old.items out.new.items fault.kind fault.offset) }
         // If no bytes were kept and no padding is owed, an allocation fails only for a text for
         // which `out` lacked capacity, or for the bytes of a cut frame.
         ensures capacity { IfErr result (λ fault. self.old.kept ≡ [] → self.old.owed ≡ 0
@@ -134,7 +172,7 @@ impl CaptureReader {
         }
         Err(CaptureFault {
             kind: FaultKind::Cut,
-            offset: self.pending.accepted - self.pending.kept.len() as u64,
+            offset: self.cut_offset(),
         })
     }
 

@@ -1,6 +1,8 @@
 //! Sources: the bytes of a slice, and those of a reader.
 
-ghost use Rattle.std.specs.Prelude.{◌≡◌, Some};
+ghost use Rattle.std.specs.Prelude.{◌≡◌, ◌≤◌, Some, length, drop, IfOk};
+ghost use Rattle.std.specs.Io.KnownBytes.{ReadConsumes};
+ghost use Rattle.link_capture_reader.specs.Devices.{counted, is_end, read_failed};
 ghost use Rattle.link_capture_reader.specs.Known.{slice_rest, slice_ends_reported, source_reader, source_failures, source_ends_reported};
 
 use super::devices::{DeviceFailed, Source};
@@ -33,7 +35,16 @@ impl Source for SliceSource<'_> {
 
     ghost ends_reported = { λ s. s.ends_reported };
 
-    fn read(&mut self, buffer: &mut [u8]) -> Result<usize, DeviceFailed> {
+    /// Reads as many bytes as remain and fit, and leaves the rest of the buffer as it is.
+    fn read(&mut self, buffer: &mut [u8]) -> Result<usize, DeviceFailed>
+        ensures within { IfOk result (λ n. n ≤ length buffer.new) }
+        ensures bytes { ReadConsumes (Some (slice_rest self.old)) (Some (slice_rest self.new))
+            result buffer.new }
+        ensures failures { 0 ≡ counted (read_failed result) 0 }
+        ensures ends { slice_ends_reported self.new
+            ≡ counted (is_end result (length buffer.new)) (slice_ends_reported self.old) }
+        ensures unused { IfOk result (λ n. drop n buffer.new ≡ drop n buffer.old) }
+    {
         let count = self.rest.len().min(buffer.len());
         let (first, rest) = self.rest.split_at(count);
         buffer[..count].copy_from_slice(first);

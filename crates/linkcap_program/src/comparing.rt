@@ -1,9 +1,11 @@
 //! Compares the captures in two files.
 
-ghost use Rattle.std.specs.Prelude.{◌≡◌, Ok, IfOk, IfErr, OnOk};
+ghost use Rattle.std.specs.Prelude.{◌≡◌, ◌∷◌, [], Result, Ok, IfOk, IfErr};
 ghost use Rattle.std.specs.Process.{exit_status};
-ghost use Rattle.link_capture_reader.specs.States.{sink_state};
-ghost use Rattle.linkcap_program.specs.Comparisons.{Holds, IsUnread, CannotRead, Compares, opened, openings};
+ghost use Rattle.std.specs.declared.io.ErrorKind.{ErrorKind};
+ghost use Rattle.link_capture_reader.specs.Files.{files_of, opening, then_opened};
+ghost use Rattle.link_capture_reader.specs.States.{sink_state, source_state};
+ghost use Rattle.linkcap_program.specs.Comparisons.{IsRead, IsUnread, Compares};
 ghost use Rattle.linkcap_program.specs.Runs.{SameRun, SameReported, same_line};
 
 use super::lines::line;
@@ -28,13 +30,15 @@ fn read_side<F: FileSystem>(
     name: &str,
     second: bool,
 ) -> Result<Vec<u8>, SideFault>
-    ensures ok { IfOk result (λ bytes. Holds (F.contents files.old name.now) bytes.items) }
-    ensures opened { OnOk result (openings F.asked F.refusal files.new
-        ≡ opened (openings F.asked F.refusal files.old)) }
+    ensures ok { IfOk result (λ bytes. (outcome : Result F.File ErrorKind)
+        × (F.openings files.new ≡ then_opened (F.openings files.old) (opening name.now outcome ∷ []))
+        × IsRead (source_state F.File.to_come F.File.failures F.File.ends_reported)
+        (F.contents files.old name.now) outcome bytes.items) }
     ensures side { IfErr result (λ e. e.second ≡ second) }
-    ensures fault { IfErr result
-        (λ e. CannotRead (IsUnread F.File.to_come F.File.failures (F.contents files.old name.now))
-        (openings F.asked F.refusal files.old) (openings F.asked F.refusal files.new) e.fault) }
+    ensures fault { IfErr result (λ e. (outcome : Result F.File ErrorKind)
+        × (F.openings files.new ≡ then_opened (F.openings files.old) (opening name.now outcome ∷ []))
+        × IsUnread (source_state F.File.to_come F.File.failures F.File.ends_reported)
+        (F.contents files.old name.now) outcome e.fault) }
     ensures contents { F.contents files.new ≡ F.contents files.old }
 {
     let Ok(mut file) = files.open(name) else {
@@ -49,9 +53,10 @@ fn read_side<F: FileSystem>(
     }
 }
 
-/// Returns whether the captures in two files mean the same under a limit. Each file is opened once
-/// and read, the first one first, before their captures are judged; so a missing file is reported
-/// before a fault of the other capture.
+/// Returns whether the captures in two files mean the same under a limit. The first file is opened
+/// once and read, then the second, and then their captures are judged; so a missing file is
+/// reported before a fault of the other capture. If the first can't be read, the second isn't
+/// opened.
 ///
 /// # Errors
 ///
@@ -65,9 +70,8 @@ pub fn compare<F: FileSystem>(
     second: &str,
     limit: u32,
 ) -> Result<bool, SideFault>
-    ensures { Compares (IsUnread F.File.to_come F.File.failures)
-        (F.contents files.old first.now) (F.contents files.old second.now)
-        (openings F.asked F.refusal files.old) (openings F.asked F.refusal files.new) limit result }
+    ensures { Compares (files_of (source_state F.File.to_come F.File.failures F.File.ends_reported)
+        F.contents F.openings files.old files.new) first.now second.now limit result }
 {
     let left = read_side(alloc, files, first, false)?;
     let right = read_side(alloc, files, second, true)?;
@@ -118,11 +122,11 @@ pub fn run_same<F: FileSystem, K: Sink, E: Sink>(
     second: &str,
     limit: u32,
 ) -> ExitCode
-    ensures { SameRun (Compares (IsUnread F.File.to_come F.File.failures)
-        (F.contents files.old first.now) (F.contents files.old second.now)
-        (openings F.asked F.refusal files.old) (openings F.asked F.refusal files.new) limit) (sink_state K.holds K.failures sink.old)
-        (sink_state K.holds K.failures sink.new) (sink_state E.holds E.failures errors.old)
-        (sink_state E.holds E.failures errors.new) (exit_status result) }
+    ensures { SameRun (Compares (files_of (source_state F.File.to_come F.File.failures F.File.ends_reported)
+        F.contents F.openings files.old files.new) first.now second.now limit)
+        (sink_state K.holds K.failures sink.old) (sink_state K.holds K.failures sink.new)
+        (sink_state E.holds E.failures errors.old) (sink_state E.holds E.failures errors.new)
+        (exit_status result) }
 {
     let outcome = compare(alloc, files, first, second, limit);
     report(sink, errors, outcome)

@@ -1,13 +1,14 @@
 //! The program `linkcap`: writes the normal text of a netlink link capture from standard input to
-//! standard output, or reports whether the captures in two files mean the same. It is a library
-//! under five programs, since a crate has one stored run.
+//! standard output, or reports whether the captures in two files mean the same. It is a library,
+//! since a crate has one stored run: tests run it on devices of their own.
 #![tactic(auto)]
 
 ghost use Rattle.std.specs.Prelude.{◌≡◌, map, string_bytes};
 ghost use Rattle.std.specs.Process.{exit_status};
+ghost use Rattle.link_capture_reader.specs.Files.{files_of};
 ghost use Rattle.link_capture_reader.specs.States.{sink_state, source_state};
 ghost use Rattle.linkcap_program.specs.Runs.{RunsAsAsked, UsageRun, run_of};
-ghost use Rattle.linkcap_program.specs.Comparisons.{Compares, IsUnread, openings};
+ghost use Rattle.linkcap_program.specs.Comparisons.{Compares};
 
 mod comparing;
 mod lines;
@@ -50,9 +51,8 @@ pub fn run<F: FileSystem, S: Source, K: Sink, E: Sink>(
         (files.new ≡ files.old) (source.new ≡ source.old) (sink.new ≡ sink.old)
         (run_of (source_state S.to_come S.failures S.ends_reported) (sink_state K.holds K.failures)
         (sink_state E.holds E.failures) source.old source.new sink.old sink.new errors.old errors.new)
-        (λ first second. Compares (IsUnread F.File.to_come F.File.failures)
-        (F.contents files.old first) (F.contents files.old second)
-        (openings F.asked F.refusal files.old) (openings F.asked F.refusal files.new)) (exit_status result) }
+        (Compares (files_of (source_state F.File.to_come F.File.failures F.File.ends_reported)
+        F.contents F.openings files.old files.new)) (exit_status result) }
 {
     match read_words(arguments) {
         None => run_usage(errors),

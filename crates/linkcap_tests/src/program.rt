@@ -12,42 +12,25 @@ use std::alloc::Global;
 use std::io::ErrorKind;
 use std::test::Fail;
 
-/// Files by their names; how often one was opened, and why the last one wasn't, if no file has its
-/// name.
+/// Files by their names.
 #[derive(Drop)]
-struct SampleFiles {
-    asked: u64,
-    refusal: Option<ErrorKind>,
-}
-
-/// Files of which none was opened yet.
-const FILES: SampleFiles = SampleFiles {
-    asked: 0,
-    refusal: None,
-};
+struct SampleFiles;
 
 impl FileSystem for SampleFiles {
     type File = ReadSource<LimitedReader<'static>>;
 
     ghost contents = { λ _ _. None };
 
-    ghost asked = { λ s. s.asked };
-
-    ghost refusal = { λ s. s.refusal };
+    ghost openings = { λ _. None };
 
     fn open(&mut self, name: &str) -> Result<ReadSource<LimitedReader<'static>>, ErrorKind> {
-        self.asked = self.asked.saturating_add(1);
-        self.refusal = None;
         let rest: &'static [u8] = match name {
             "capture" => &CAPTURE,
             "text" => &TEXT,
             "front" => &TEXT[..48],
             "cut" => &CAPTURE[..63],
             "broken" => &CAPTURE[..16],
-            _ => {
-                self.refusal = Some(ErrorKind::NotFound);
-                return Err(ErrorKind::NotFound);
-            }
+            _ => return Err(ErrorKind::NotFound),
         };
         let plan = Plan {
             size: 1,
@@ -94,7 +77,7 @@ fn run_of_arguments(alloc: Global, arguments: &[String]) -> (Vec<u8>, Vec<u8>) {
     run(
         alloc,
         arguments,
-        &mut FILES,
+        &mut SampleFiles,
         &mut source,
         &mut sink,
         &mut errors,
@@ -131,7 +114,7 @@ fn a_result_that_is_not_printed_is_reported(rt: HostRuntime) {
     let mut errors = WriteSink::new(&mut reported);
     run_same(
         rt.alloc(),
-        &mut FILES,
+        &mut SampleFiles,
         &mut sink,
         &mut errors,
         "capture",

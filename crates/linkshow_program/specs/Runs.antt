@@ -7,7 +7,8 @@ use Rattle.link_capture_grammar.specs.declared.fault.CaptureFault.{CaptureFault}
 use Rattle.link_capture_grammar.specs.declared.fault.FaultKind.{FaultKind}
 use Rattle.link_capture_grammar.specs.declared.fault.FaultKind.TheVariants.{Read, Write}
 use Rattle.link_capture_grammar.specs.Faults.{fault_text}
-use Rattle.link_capture_reader.specs.Devices.{Rises, ReportsItsEnd, risen}
+use Rattle.link_capture_reader.specs.Devices.{Rises, ReportsItsEnd}
+use Rattle.link_capture_reader.specs.Files.{Files, opening, then_opened}
 use Rattle.link_capture_reader.specs.Outcomes.{ReadFault}
 use Rattle.link_capture_quirks.specs.declared.quirk_at.QuirkAt.{QuirkAt}
 use Rattle.link_capture_quirks.specs.QuirkTexts.{quirk_text}
@@ -26,7 +27,7 @@ use Rattle.linkshow_program.specs.Arguments.{Asks, UsageFault, usage_fault}
 use Rattle.linkshow_program.specs.Texts.{cause, advice, usage_text}
 use Rattle.linkshow_program.specs.declared.texts.TheConstants as Texts
 use Rattle.link_capture_reader.specs.States.{IsReported, SinkState, SourceState, IsReportedOrCut}
-use Rattle.linkshow_program.specs.Devices.{Opening, Run}
+use Rattle.linkshow_program.specs.Devices.{Run}
 use Rattle.linkshow_program.specs.Reporting.{ReportsBoth}
 
 -- ---- reports
@@ -146,22 +147,24 @@ CaptureRun false ch r unwritten file limit status = ShowRun ch r file limit stat
 
 -- A file of this name couldn't be opened, and only this was reported; or it was, and its capture is shown: its bytes
 -- are those known of it.
-abbrev pub FileRun : {File : Type 0} → (File → SourceState) → Option (List ℕ) → Option ErrorKind → List ℕ → SinkState →
-    SinkState → SinkState → SinkState → Type 0
-    → Bool → Selection → ℕ → ℕ → Type 0
-FileRun {File} state known refusal name held holds reported reported_after unwritten kernels ch limit status =
-    ((kind : ErrorKind) × (refusal ≡ Some kind) × unwritten ×
-    IsReportedOrCut reported reported_after (unopened name kind) × (status ≡ 2))
-    ⊎ ((refusal ≡ None) × ((file after : File) × ((state file).to_come ≡ known)
-    × CaptureRun kernels ch (record {
+abbrev pub FileRun : {File : Type 0} → (File → SourceState) → Option (List ℕ) → Result File ErrorKind → List ℕ →
+    SinkState → SinkState → SinkState → SinkState → Type 0 → Bool → Selection → ℕ → ℕ → Type 0
+FileRun state known (Err kind) name held holds reported reported_after unwritten kernels ch limit status =
+    unwritten × IsReportedOrCut reported reported_after (unopened name kind) × (status ≡ 2)
+FileRun {File} state known (Ok file) name held holds reported reported_after unwritten kernels ch limit status =
+    ((state file).to_come ≡ known) × ((closed : File) × CaptureRun kernels ch (record {
       from = state file;
-      left = state after;
+      left = state closed;
       held = held;
       holds = holds;
-      reported =
-          reported;
+      reported = reported;
       reported_after = reported_after;
-    }) unwritten (Some name) limit status))
+    }) unwritten (Some name) limit status)
+
+-- One file was opened, of this name, and shown.
+abbrev pub OpensOne : {File : Type 0} → Files File → List ℕ → (Result File ErrorKind → Type 0) → Type 0
+OpensOne {File} files name Then = (outcome : Result File ErrorKind) ×
+    (files.after ≡ then_opened files.before (opening name outcome ∷ [])) × Then outcome
 
 -- A text was printed, or it was reported that it couldn't be, and this is the status.
 abbrev pub PrintRun : SinkState → SinkState → SinkState → SinkState → List ℕ → ℕ → Type 0
@@ -182,23 +185,21 @@ ShowsFrom FromInput FromFile (Some name) = FromFile name
 
 -- What the program does when the arguments ask for this, or have this fault. If they ask for help or the version, or
 -- are invalid, no file is opened and nothing is read; if they name a file, the source isn't read.
-abbrev pub Does : {File : Type 0} → Type 0 → Type 0 → Type 0 → Run → Opening → (File → SourceState) → ℕ →
-    Result Asked UsageError → Type 0
-Does unopened unread unwritten r o state status (Err e) = unopened × unread × unwritten ×
+abbrev pub Does : {File : Type 0} → Type 0 → Type 0 → Type 0 → Run → Files File → ℕ → Result Asked UsageError → Type 0
+Does unopened unread unwritten r files status (Err e) = unopened × unread × unwritten ×
     UsageRun r.reported r.reported_after (usage_fault e) status
-Does unopened unread unwritten r o state status (Ok Help) = unopened × unread ×
+Does unopened unread unwritten r files status (Ok Help) = unopened × unread ×
     PrintRun r.held r.holds r.reported r.reported_after Texts.HELP.now status
-Does unopened unread unwritten r o state status (Ok Version) = unopened × unread ×
+Does unopened unread unwritten r files status (Ok Version) = unopened × unread ×
     PrintRun r.held r.holds r.reported r.reported_after Texts.VERSION.now status
-Does unopened unread unwritten r o state status (Ok (Show options)) =
+Does unopened unread unwritten r files status (Ok (Show options)) =
     ShowsFrom (unopened × CaptureRun options.kernels (chosen options) r unwritten None options.limit status)
-    (λ name. unread × (o.asks ≡ risen o.asked)
-    × FileRun state (o.contents name) o.refusal name r.held r.holds r.reported r.reported_after unwritten
-    options.kernels (chosen options) options.limit status)
+    (λ name. unread × OpensOne files name
+    (λ outcome. FileRun files.state (files.contents name) outcome name r.held r.holds r.reported r.reported_after
+    unwritten options.kernels (chosen options) options.limit status))
     (option_map (λ name. name.now) options.file)
 
 -- The program did what the arguments ask for.
-abbrev pub RunsAsAsked : {File : Type 0} → List (List ℕ) → Type 0 → Type 0 → Type 0 → Run → Opening →
-    (File → SourceState) → ℕ → Type 0
-RunsAsAsked arguments unopened unread unwritten r o state status = (given : Result Asked UsageError) ×
-    Asks arguments given × Does unopened unread unwritten r o state status given
+abbrev pub RunsAsAsked : {File : Type 0} → List (List ℕ) → Type 0 → Type 0 → Type 0 → Run → Files File → ℕ → Type 0
+RunsAsAsked arguments unopened unread unwritten r files status = (given : Result Asked UsageError) ×
+    Asks arguments given × Does unopened unread unwritten r files status given

@@ -4,11 +4,11 @@
 
 ghost use Rattle.std.specs.Prelude.{◌≡◌, ◌≤◌, map, option_map, string_bytes, Some};
 ghost use Rattle.std.specs.Process.{exit_status};
-ghost use Rattle.link_capture_reader.specs.Devices.{risen};
+ghost use Rattle.link_capture_reader.specs.Files.{files_of};
 ghost use Rattle.link_capture_reader.specs.States.{sink_state, source_state};
 ghost use Rattle.linkshow_program.specs.Arguments.{usage_fault};
-ghost use Rattle.linkshow_program.specs.Devices.{opening, run_of};
-ghost use Rattle.linkshow_program.specs.Runs.{RunsAsAsked, CaptureRun, FileRun, UsageRun, chosen};
+ghost use Rattle.linkshow_program.specs.Devices.{run_of};
+ghost use Rattle.linkshow_program.specs.Runs.{RunsAsAsked, CaptureRun, FileRun, OpensOne, UsageRun, chosen};
 
 mod arguments;
 mod lines;
@@ -76,13 +76,14 @@ fn run_file<F: FileSystem, K: Sink, E: Sink>(
 ) -> ExitCode
     requires low { 16 ≤ options.now.limit }
     requires name { option_map (λ name. name.now) options.now.file ≡ Some name.now }
-    ensures asked { F.asked files.new ≡ risen (F.asked files.old) }
-    ensures run { FileRun (source_state F.File.to_come F.File.failures F.File.ends_reported)
-        (F.contents files.old name.now) (F.refusal files.new) name.now
+    ensures { OpensOne (files_of (source_state F.File.to_come F.File.failures F.File.ends_reported)
+        F.contents F.openings files.old files.new) name.now
+        (λ outcome. FileRun (source_state F.File.to_come F.File.failures F.File.ends_reported)
+        (F.contents files.old name.now) outcome name.now
         (sink_state K.holds K.failures sink.old) (sink_state K.holds K.failures sink.new)
         (sink_state E.holds E.failures errors.old) (sink_state E.holds E.failures errors.new)
         (sink.new ≡ sink.old) options.now.kernels (chosen options.now) options.now.limit
-        (exit_status result) }
+        (exit_status result)) }
 {
     match files.open(name) {
         Ok(mut file) => run_capture(alloc, &mut file, sink, errors, options),
@@ -109,8 +110,8 @@ pub fn run<F: FileSystem, S: Source, K: Sink, E: Sink>(
         (files.new ≡ files.old) (source.new ≡ source.old) (sink.new ≡ sink.old) (run_of
         (source_state S.to_come S.failures S.ends_reported) (sink_state K.holds K.failures)
         (sink_state E.holds E.failures) source.old source.new sink.old sink.new
-        errors.old errors.new) (opening F.contents F.asked F.refusal files.old files.new)
-        (source_state F.File.to_come F.File.failures F.File.ends_reported) (exit_status result) }
+        errors.old errors.new) (files_of (source_state F.File.to_come F.File.failures F.File.ends_reported)
+        F.contents F.openings files.old files.new) (exit_status result) }
 {
     match read_words(arguments) {
         Err(error) => run_usage(errors, error),

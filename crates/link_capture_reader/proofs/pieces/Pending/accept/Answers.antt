@@ -1,13 +1,13 @@
 -- the piece has only padding, or more
 use Rattle.std.proofs.Common.{◌≡◌, ◌+◌, ◌-◌, ◌^◌, ◌<◌, ◌≤◌, inl, inr, ◌++◌, [], length, drop, sym, ap, subst, ◌∙◌}
-use Rattle.std.proofs.Common.{arith, length-append}
+use Rattle.std.proofs.Common.{arith, length-append, vec_capacity}
 use Rattle.std.proofs.lemmas.List.{take_rest, length-drop, append-nil}
 use Rattle.std.proofs.lemmas.Result.{err_from_is_err_and}
 use Rattle.link_capture_grammar.specs.Captures.{texts}
-use Rattle.link_capture_reader.specs.Readers.{MemoryFaultIsJustified, NeedsMemory}
+use Rattle.link_capture_reader.specs.Readers.{CanKeep, MemoryFaultIsJustified, NeedsMemory}
 use Rattle.link_capture_reader.specs.Walks.{ReadsTo, Faults, RunsOutOfMemory}
 use Rattle.link_capture_reader.proofs.Reading.{padding_resumes, padding_texts, resumed, owed_after, faults_on}
-use Rattle.link_capture_reader.proofs.Reading.{resumes_reader}
+use Rattle.link_capture_reader.proofs.Reading.{resumes_reader, runs_out_of_fewer}
 use Rattle.link_capture_reader.proofs.pieces.Pending.accept.Goals as goal
 use Rattle.link_capture_reader.proofs.pieces.Pending.accept.Goals.{then-piece-self-2}
 use Rattle.link_capture_reader.proofs.pieces.Pending.accept.Goals.{else-piece-self-2+in_ok-resume_frame}
@@ -43,7 +43,7 @@ returns-clause-reader c =
           omega (arith, length-append kept left, length-drop owed piece, reader.inside) in
           rw (w.self-is, w.resume_frame.ensures.limit, w.resume_frame.ensures.accepted)
           (resumes_reader c.captures_unfold_by_frames.ensures c.frames_are_independent.ensures limit
-          (accepted + length piece) (kept ++ left) new.self.kept.items new.self.owed reader.limit n ok.0)
+          (accepted + length piece) (kept ++ left) new.self.kept.items (vec_capacity new.self.kept) new.self.owed reader.limit n ok.0)
     ]
 
 pub returns-clause-ok : goal.returns-clause-ok
@@ -89,14 +89,16 @@ returns-in_err-resume_frame-clause-fault c =
     let fits : accepted + length piece < 2 ^ 64 = omega arith in
     let e = take_rest piece owed in
     let h = subst (λ x. Faults limit start (kept ++ x) old new fault) e c.in_err-resume_frame.ensures.fault in
-    let k = subst (λ x. RunsOutOfMemory limit start (kept ++ x) old new fault) e
+    let capacity = vec_capacity c.args.self.now.kept in
+    let k = subst (λ x. RunsOutOfMemory (CanKeep kept capacity (length x)) limit start (kept ++ x) old new fault) e
     c.in_err-resume_frame.ensures.memory in
+    let fewer = runs_out_of_fewer kept capacity limit start piece owed old new fault k in
     let p = err_from_is_err_and c.from_residual.result c.from_residual.ensures.1 in
     rw (p.1, p.2) (λ s a r.
     let before = resumed go frames limit s piece kept owed start (omega arith) r
     (omega (arith, c.requires.reader.inside)) in
-    faults_on go frames limit s piece kept owed start _ _ fault
-    (subst (λ n. n + length piece < 2 ^ 64) a fits) before h k)
+    faults_on (CanKeep kept capacity (length piece)) go frames limit s piece kept owed start _ _ fault
+    (subst (λ n. n + length piece < 2 ^ 64) a fits) before h fewer)
 
 pub returns-in_err-resume_frame-clause-capacity : goal.returns-in_err-resume_frame-clause-capacity
 returns-in_err-resume_frame-clause-capacity c =

@@ -1,5 +1,5 @@
 -- no memory for the bytes of the cut frame: the texts of the frames before it are written
-use Rattle.std.proofs.Common.{◌≡◌, ◌≢◌, ◌++◌, Err, drop, refl, sym, ap, ◌∙◌}
+use Rattle.std.proofs.Common.{◌≡◌, ◌≢◌, inr, ◌++◌, Err, drop, refl, sym, ap, ◌∙◌}
 use Rattle.link_capture_grammar.specs.declared.fault.FaultKind.TheVariants.{Cut, Memory}
 use Rattle.link_capture_grammar.specs.Captures.{first_frame}
 use Rattle.link_capture_reader.proofs.Passing.{before_fault, cut_header}
@@ -26,4 +26,5 @@ returns-in-Err-extend_from_slice-clause-memory c = λ _.
         legal = b.0;
       },
       claimed.1 ∙ ap (λ t. c.args.out.now.items ++ t) (sym b.1),
+      λ _. inr cut,
     )

@@ -1,6 +1,7 @@
 -- the cut frame, and what comes after it
 use Rattle.std.proofs.Common.{◌≡◌, ◌≢◌, ◌+◌, ◌-◌, ◌<◌, ◌≤◌, inl, inr, ◌++◌, Err, length, drop, sym, ap, subst, ◌∙◌}
-use Rattle.std.proofs.Common.{arith, rules, length-append}
+use Rattle.std.proofs.Common.{arith, rules, length-append, vec_capacity, Ok}
+use Rattle.std.specs.Prelude.{⊤}
 use Rattle.std.proofs.lemmas.List.{take_rest, take_all}
 use Rattle.std.proofs.lemmas.Bool.{eq-eqb}
 use Rattle.std.proofs.lemmas.Result.{IfOk-weaker, IfErr-weaker}
@@ -11,7 +12,7 @@ use Rattle.link_capture_reader.proofs.CutFrames.{completed, whole}
 use Rattle.link_capture_reader.proofs.Passing.{passed_one, only_one_fault, only_one_texts, then_reads_to, then_faults}
 use Rattle.link_capture_reader.proofs.Passing.{then_runs_out, stop_zero, no_texts, cut_resumes, start_fault}
 use Rattle.link_capture_reader.proofs.Passing.{start_texts}
-use Rattle.link_capture_reader.specs.Readers.{Resumes}
+use Rattle.link_capture_reader.specs.Readers.{CanKeep, Resumes}
 use Rattle.link_capture_reader.specs.Walks.{ReadsTo, Faults, RunsOutOfMemory}
 use Rattle.link_capture_reader.proofs.pieces.Pending.resume_frame.Goals as goal
 
@@ -33,13 +34,24 @@ returns-in-Err-clause-fault c = λ _.
 
 pub returns-in_default-complete_frame-clause-memory : goal.returns-in_default-complete_frame-clause-memory
 returns-in_default-complete_frame-clause-memory c = λ _.
+    let full = c.in_default-complete_frame.ensures.full in
     let limit = c.args.self.now.limit in
     let old = c.args.self.now.kept.items in
     let bytes = c.args.bytes.now in
     let some : 0 < length (old ++ bytes) = omega (arith, length-append old bytes) in
     let header_allowed = subst (λ x. HeaderIsAllowed limit (x ++ bytes)) c.as_slice.ensures.value
-    c.in_default.ensures.ok in
-    (0, omega arith, stop_zero limit (old ++ bytes) some header_allowed, no_texts limit c.args.out.now.items)
+    c.in_default.ensures.ok in (
+      0,
+      omega arith,
+      stop_zero limit (old ++ bytes) some header_allowed,
+      no_texts limit c.args.out.now.items,
+      λ r. elim r [
+        | inl k ↦
+            let none : c.args.self.now.kept.len ≡ 0 = omega (arith, ap length k, c.args.self.now.kept.ok.0) in
+            absurd (cc (eq-eqb c.args.self.now.kept.len 0 none))
+        | inr a ↦ absurd (omega (arith, a, full))
+      ],
+    )
 
 pub returns-then-left-owed-clause-ok : goal.returns-then-left-owed-clause-ok
 returns-then-left-owed-clause-ok c =
@@ -96,9 +108,9 @@ returns-else-left-owed c =
           (λ fault. then_faults go limit joined passed start _ _ ok.0 before _ _ fault w left (omega arith) one ok.2)
           c.read_frames-in-Ok-push_frame.ensures.fault;
       memory = IfErr-weaker c.read_frames-in-Ok-push_frame.result
-          (λ fault. RunsOutOfMemory limit _ _ pushed out fault)
-          (λ fault. RunsOutOfMemory limit start joined before out fault)
-          (λ fault. then_runs_out go limit joined passed start _ _ ok.0 before _ _ fault w left (omega arith) one ok.2)
+          (λ fault. RunsOutOfMemory ⊤ limit _ _ pushed out fault)
+          (λ fault. RunsOutOfMemory (CanKeep old (vec_capacity c.args.self.now.kept) (length bytes)) limit start joined before out fault)
+          (λ fault. then_runs_out go ⊤ (CanKeep old (vec_capacity c.args.self.now.kept) (length bytes)) limit joined passed start _ _ ok.0 before _ _ fault (λ r. tt) w left (omega arith) one ok.2)
           c.read_frames-in-Ok-push_frame.ensures.memory;
       capacity = search rules;
       limit = search rules;
@@ -154,12 +166,18 @@ returns-in_default-kind c =
             start_fault go limit c.args.start joined kind some all,
             c.in-Err-push_frame.ensures.err ∙ start_texts go limit joined out kind all,
           );
-      memory = λ _. (
-        0,
-        omega arith,
-        stop_zero limit joined some header_allowed,
-        c.in-Err-push_frame.ensures.err ∙ no_texts limit out,
-      );
+      memory = λ m.
+          let lacks = c.in-Err-push_frame.ensures.memory m in
+          let left = drop c.in-Ok.moved bytes in
+          let accepted : first_frame limit joined ≡ Ok (lacks.0, lacks.1) =
+          ap (first_frame limit) w ∙ c.frames_are_independent.ensures.unchanged_by_more limit new left (λ e. cc)
+          ∙ ap (first_frame limit) (sym c.as_slice-2.ensures.value) ∙ lacks.2 in (
+            0,
+            omega arith,
+            stop_zero limit joined some header_allowed,
+            c.in-Err-push_frame.ensures.err ∙ no_texts limit out,
+            λ _. inl ((lacks.0, lacks.1), accepted),
+          );
       capacity = λ k _.
           let none : c.args.self.now.kept.len ≡ 0 = omega (arith, ap length k, c.args.self.now.kept.ok.0) in
           absurd (cc (eq-eqb c.args.self.now.kept.len 0 none));

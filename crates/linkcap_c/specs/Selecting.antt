@@ -16,10 +16,10 @@ use Rattle.linkcap_c.specs.declared.words.ListError.TheVariants as Errors
 
 -- ---- lists of words
 
--- A list of words is read, with commas between them, or is empty and stands for this.
+-- A list of words is read: UTF-8, with commas between the words, or empty, which stands for this.
 abbrev pub ReadsList : {A : Type 0} → Step A → A → List ℕ → Result A WordFault → Type 0
 ReadsList Takes none [] r = r ≡ Ok none
-ReadsList Takes none (c ∷ w) r = Reads Takes none (parts (c ∷ w)) r
+ReadsList Takes none (c ∷ w) r = IsUtf8 (c ∷ w) × Reads Takes none (parts (c ∷ w)) r
 
 -- A list of message types is read: none if it is empty.
 abbrev pub ReadsTypes : List ℕ → Result (List ℕ) WordFault → Type 0
@@ -90,13 +90,13 @@ AreInvalid flags only without = (16 ≤ flags) ⊎ ((e : ListError) × IsErrorOf
 -- ---- results
 
 -- Out of memory is reported at the offset of a message that is shown.
-abbrev pub ReportsMemoryOf : Bool → ℕ → List ℕ → LinkcapFault → Type 0
-ReportsMemoryOf keep_going limit c fault =
-    (fault.kind ≡ kind_number Memory) × (fault.side ≡ 0) × RunsOutAt keep_going limit c fault.offset
+abbrev pub ReportsMemoryOf : Selection → ℕ → List ℕ → LinkcapFault → Type 0
+ReportsMemoryOf o limit c fault =
+    (fault.kind ≡ kind_number Memory) × (fault.side ≡ 0) × ((w : List ℕ) × RunsOutAt o limit c w fault.offset)
 
 -- What is selected of a capture is at the start of a buffer; or the buffer is too small for it; or memory ran out.
 pub record WritesShown (o : Selection) (limit : ℕ) (c : List ℕ) (status size : ℕ) (fault : LinkcapFault)
     (old new : List ℕ) : Type 0 where
   pub written : Writes (shown o limit c) status size old new
   pub wanted : status ≡ 4 → size ≡ length (shown o limit c)
-  pub memory : status ≡ 5 → ReportsMemoryOf o.keep_going limit c fault
+  pub memory : status ≡ 5 → ReportsMemoryOf o limit c fault

@@ -1,8 +1,8 @@
 -- The progress of showing a capture from a source to a sink.
-use Rattle.std.proofs.Common.{◌≡◌, ◌≢◌, ◌&&◌, eqb, ltb, ℕ, ◌+◌, ◌-◌, ◌^◌, ◌<◌, ◌≤◌, min, inl, inr, Bool, false, List, [], ◌∷◌, ◌++◌, length, take, drop, Option, None, Some, Result, Ok, Err, refl, sym, ap, subst, ◌∙◌, arith, length-append, append-nil}
+use Rattle.std.proofs.Common.{◌≡◌, ℕ, ◌+◌, ◌-◌, ◌^◌, ◌<◌, ◌≤◌, min, inl, inr, Bool, List, [], ◌∷◌, ◌++◌, length, take, drop, Option, None, Some, Result, Ok, Err, refl, sym, ap, subst, ◌∙◌, arith, length-append, append-nil}
 use Rattle.std.specs.Prelude.{◌⊎◌, nat_lt}
-use Rattle.std.proofs.lemmas.List.{drop_all, length-drop, length-take, take_at}
-use Rattle.std.proofs.lemmas.Bool.{lt-ltb, ne_eqb}
+use Rattle.std.proofs.lemmas.List.{drop_all, drop-append-le, drop-drop, length-drop, length-take, take_at}
+use Rattle.std.proofs.lemmas.Bool.{lt-ltb}
 use Rattle.std.specs.Io.KnownBytes.{Appends, Consumes}
 use Rattle.std.proofs.KnownBytes.{Appends-nil, Appends-trans, Consumes-nil, Consumes-trans}
 use Rattle.link_capture_grammar.specs.Captures.{IsOfFrames, first_fault, first_frame}
@@ -11,16 +11,15 @@ use Rattle.link_message_grammar.specs.Body.{link_body}
 use Rattle.link_capture_grammar.specs.declared.fault.CaptureFault.{CaptureFault}
 use Rattle.link_capture_grammar.specs.declared.fault.FaultKind.{FaultKind}
 use Rattle.link_capture_grammar.specs.declared.fault.FaultKind.TheVariants.{Cut, ShortLength, OverLimit, Refused, EmptyPorts, Unfit, TextOverLimit, Memory, Read, Write, TooLong, Failed}
-use Rattle.link_capture_reader.specs.Devices.{counted, is_end}
 use Rattle.link_capture_reader.specs.Outcomes.{IsOpen, IsPrefix}
 use Rattle.link_capture_reader.proofs.Progress.{part_prefix}
 use Rattle.link_capture_refusals.specs.RefusalViews.{all_found}
 use Rattle.link_lines.specs.MessageLaws.{FirstFaultsAreReported, MessagesUnfold}
 use Rattle.link_lines.specs.MessageLines.{Selection, messages_lines, shown}
 use Rattle.link_lines.specs.Messages.{Message, Report, first_report, frame_of, last_fault, messages, messages_at, report_of}
-use Rattle.link_lines.specs.Outcomes.{IsReadThrough, Shown, ShownAt, ShowsPrefix, has_bytes}
+use Rattle.link_lines.specs.Outcomes.{ComesTo, IsReadThrough, IsToBeShown, RunsOutReading, Shown, ShownAt, ShowsPrefix, has_bytes}
 use Rattle.link_lines.specs.Refused.{reported_refusal, without_refusal}
-use Rattle.link_lines.specs.Walks.{Ends, FinishedWith, Passes, StopsThere, or_else, report_in}
+use Rattle.link_lines.specs.Walks.{Ends, FinishedWith, Passes, StopsThere, continued, left_to_show, or_else, report_in}
 use Rattle.link_lines.specs.declared.refused.ShowFault.{ShowFault}
 use Rattle.link_lines.proofs.Passing.{last_there, lines_more, lines_of_none, open_more, reports_more}
 use Rattle.link_lines.proofs.Reaching.{AreCut, Concluded, Reaches, concluded, first_reported, nothing_reported, no_tail, open_tail, reached, reaches_piece, reaches_rest}
@@ -33,6 +32,7 @@ pub record Came (o : Selection) (limit start padding : ℕ) (rest : List ℕ) (f
   pub goes_on : last_fault messages ≡ None
   pub reports : report_in found ≡ first_report messages
   pub accepted : start + length rest ≡ length s
+  pub place : rest ≡ drop start s
   pub cut : AreCut limit padding rest
   pub near : padding ≤ 3
   pub fits : start + length rest < 2 ^ 64
@@ -47,6 +47,7 @@ nothing_came o limit come holds = record {
   goes_on = refl;
   reports = refl;
   accepted = refl;
+  place = refl;
   cut = inl refl;
   near = omega arith;
   fits = omega arith;
@@ -87,6 +88,26 @@ module _ (go : MessagesUnfold) (law : FirstFaultsAreReported) (o : Selection) (l
 
   pub before_end : (at : ℕ) → at ≡ start + length rest → ShowsPrefix o limit s (messages_lines o came.messages) at
   before_end at e = subst (λ x. ShowsPrefix o limit x (messages_lines o came.messages) at) (append-nil s) (before_piece [] at e)
+
+  -- No memory for the rest of a cut message.
+  pub cut_runs_out : 0 < length rest → RunsOutReading o limit s (messages_lines o came.messages) start
+  cut_runs_out l = elim came.cut [
+    | inl none ↦ absurd (omega (arith, l, ap length none))
+    | inr cut ↦
+        let at : start + padding ≡ start = omega (arith, cut.0) in
+        let there : drop padding rest ≡ drop start s = ap (λ n. drop n rest) cut.0 ∙ came.place in (
+          record {
+            inside = omega (arith, l, came.accepted);
+            before = came.messages;
+            all = reached o.keep_going limit s came.messages start padding rest came.reaches
+                ∙ ap (λ n. came.messages ++ messages_at o.keep_going limit n (drop padding rest)) at
+                ∙ ap (λ x. came.messages ++ messages_at o.keep_going limit start x) there;
+            goes_on = came.goes_on;
+            written = refl;
+          },
+          inr (ap (first_frame limit) (sym came.place) ∙ cut.1),
+        )
+  ]
 
 -- ---- results
 
@@ -201,6 +222,36 @@ module _ (go : MessagesUnfold) (law : FirstFaultsAreReported) (o : Selection) (l
   pub prefix_shown : IsPrefix (messages_lines o came.messages ++ new) (shown o limit (s ++ p))
   prefix_shown = (messages_lines o after, conclusion_then.lines ∙ ap (λ x. x ++ messages_lines o after) lines_then)
 
+  -- The bytes to be shown are those of the capture at their offset.
+  there : (n : ℕ) → drop n whole ≡ drop (start + n) (s ++ p)
+  there n =
+      ap (drop n) (joined ∙ ap (λ x. x ++ p) came.place ∙ sym (drop-append-le start s p (omega (arith, came.accepted))))
+      ∙ drop-drop n start (s ++ p)
+
+  comes_to : to < length whole → ComesTo o limit (s ++ p) (messages_lines o came.messages ++ new) (start + to)
+  comes_to l = record {
+    inside = omega (arith, l, came.accepted, ap length joined, length-append rest p, length-append s p);
+    before = ms;
+    all = reached o.keep_going limit (s ++ p) ms start to whole reaches ∙ ap (λ x. ms ++ messages_at o.keep_going limit (start + to) x) (there to);
+    goes_on = going;
+    written = sym lines_then;
+  }
+
+  -- No memory for a message that is to be shown.
+  pub ran_out : to < length whole → IsToBeShown o.keep_going limit (drop to whole) → RunsOutReading o limit (s ++ p) (messages_lines o came.messages ++ new) (start + to)
+  ran_out l shown = (comes_to l, inl (subst (IsToBeShown o.keep_going limit) (there to) shown))
+
+  -- No memory for the bytes of a message that is cut.
+  pub tail_runs_out : (passed : ℕ) → passed ≡ min to (length whole) → passed < length whole → AreCut limit (to - passed) (drop passed whole) → RunsOutReading o limit (s ++ p) (messages_lines o came.messages ++ new) (start + passed)
+  tail_runs_out passed is l cut = elim cut [
+    | inl none ↦ absurd (omega (arith, l, ap length none, length-drop passed whole))
+    | inr e ↦
+        let same : to ≡ passed = omega (arith, is, l) in (
+          subst (λ n. ComesTo o limit (s ++ p) (messages_lines o came.messages ++ new) (start + n)) same (comes_to (omega (arith, same, l))),
+          inr (ap (first_frame limit) (sym (there passed)) ∙ e.1),
+        )
+  ]
+
   -- Showing stops at a message of the piece.
   pub stopped_shown : FaultsAreAtFrames link_body → (E R W : Type 0) (kind : FaultKind) (e : ShowFault) → to < length whole → StopsThere o.keep_going limit (drop to whole) kind → (kind ≡ Cut → ⊥) → report_in (Some e) ≡ or_else (report_in then) (Some (report_of (start + to) kind (frame_of (drop to whole)))) →
       Shown o E R W limit (s ++ p) (messages_lines o came.messages ++ new) (Err e)
@@ -225,6 +276,7 @@ module _ (go : MessagesUnfold) (law : FirstFaultsAreReported) (o : Selection) (l
         goes_on = going;
         reports = reports_then;
         accepted = omega (arith, came.accepted, length-drop passed whole, ap length joined, length-append rest p, length-append s p, within);
+        place = there passed;
         cut = cut;
         near = omega (arith, is, near);
         fits = omega (arith, fits, length-drop passed whole, within);
@@ -243,10 +295,6 @@ module _ (go : MessagesUnfold) (law : FirstFaultsAreReported) (o : Selection) (l
 pub write_only : (s : List ℕ) (kind : FaultKind) (at : ℕ) → kind ≡ Write → reported_refusal s kind at ≡ None
 write_only s kind at e = subst (λ k. reported_refusal s k at ≡ None) (sym e) refl
 
--- A read of some bytes doesn't report the end.
-pub unended : (n capacity m : ℕ) → n ≢ 0 → counted (is_end (Ok n) capacity) m ≡ m
-unended n capacity m h = let e : eqb n 0 ≡ false = ne_eqb n 0 h in ap (λ x. counted (x && ltb 0 capacity) m) e
-
 -- What isn't shown of a piece is a cut message, if no other message stops showing.
 pub are_cut : (k : Bool) (limit : ℕ) (whole : List ℕ) (to passed : ℕ) (last : Option FaultKind) → Ends k limit whole to last → (last ≡ None) ⊎ (last ≡ Some Cut) → passed ≡ min to (length whole) → AreCut limit (to - passed) (drop passed whole)
 are_cut k limit whole to passed last ends (inl none) is =
@@ -262,3 +310,15 @@ pub failed_write : (o : Selection) (E R W : Type 0) (limit : ℕ) (s a out : Lis
 failed_write o E R W limit s a out written n fault w p l c k at =
     let size : length (a ++ take n out) ≡ length a + n = length-append a (take n out) ∙ omega (arith, length-take n out) in
     subst (λ x. ShownAt o E R W limit s (a ++ take n out) x fault.offset) (sym k) (w, omega (arith, size, c, at), part_prefix a out (shown o limit s) n p)
+
+-- ---- the bytes of a piece
+
+-- A piece after a cut message is shown with the message's bytes, and else by itself.
+pub left_joined : (rest piece : List ℕ) → left_to_show (continued rest piece) piece ≡ rest ++ piece
+left_joined [] piece = refl
+left_joined (b ∷ rest) piece = refl
+
+-- What is shown follows what wasn't.
+pub bytes_joined : (bytes slice after held rest piece : List ℕ) → bytes ≡ left_to_show slice piece → slice ≡ after → after ≡ continued held piece → held ≡ rest → bytes ≡ rest ++ piece
+bytes_joined bytes slice after held rest piece b s a h =
+    b ∙ ap (λ x. left_to_show x piece) (s ∙ a ∙ ap (λ x. continued x piece) h) ∙ left_joined rest piece

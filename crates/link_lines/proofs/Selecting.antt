@@ -1,5 +1,5 @@
 -- The lines of a whole capture that are selected.
-use Rattle.std.proofs.Common.{◌≡◌, ◌≢◌, ℕ, ◌+◌, inl, inr, Bool, true, List, [], ◌++◌, drop, Option, None, Some, Result, Ok, Err, sym, ap, subst, ◌∙◌, arith, append-nil}
+use Rattle.std.proofs.Common.{◌≡◌, ◌≢◌, ℕ, ◌+◌, ◌<◌, inl, inr, Bool, true, List, [], ◌++◌, length, drop, Option, None, Some, Result, Ok, Err, refl, sym, ap, subst, ◌∙◌, arith, append-nil}
 use Rattle.std.specs.Prelude.{IfErr, OnOk}
 use Rattle.std.proofs.lemmas.List.{drop_all, length-drop}
 use Rattle.link_capture_grammar.specs.Captures.{IsLegal, IsOfFrames, first_fault}
@@ -14,7 +14,7 @@ use Rattle.link_lines.specs.MessageLines.{Selection, messages_lines, shown}
 use Rattle.link_lines.specs.Messages.{Message, Report, first_report, messages, messages_at}
 use Rattle.link_lines.specs.Outcomes.{IsToBeShown, RunsOutAt}
 use Rattle.link_lines.specs.Refused.{reported_refusal}
-use Rattle.link_lines.specs.Walks.{ComesTo, Ends, IsJudged, Passes, last_report, or_else, reported_by}
+use Rattle.link_lines.specs.Walks.{Ends, IsJudged, Passes, last_report, or_else, reported_by}
 use Rattle.link_lines.specs.declared.messages.Judgement.TheVariants as J
 use Rattle.link_lines.specs.declared.refused.ShowFault.{ShowFault}
 use Rattle.link_lines.proofs.Passing.{last_there, lines_of_none}
@@ -31,14 +31,23 @@ pub faulty_shown : (k : Bool) (limit : ℕ) (c text : List ℕ) (kind : FaultKin
 faulty_shown k limit c text kind n goes e = inr (goes, (kind, e.0, e.1))
 
 -- Memory ran out for a message of a walk over the whole capture.
-pub runs_out : (k : Bool) (limit : ℕ) (c : List ℕ) (at : ℕ) → ComesTo k limit 0 c 0 at → RunsOutAt k limit c at
-runs_out k limit c at w = record {
-  inside = w.inside;
-  before = w.messages;
-  all = reached k limit c w.messages 0 at c w.between ∙ ap (λ n. w.messages ++ messages_at k limit n (drop at c)) (omega arith);
-  goes_on = w.goes_on;
-  is_shown = w.is_shown;
-}
+pub runs_out : (o : Selection) (limit : ℕ) (c old new : List ℕ) (at : ℕ) (before now : Option Report) → Passes o limit 0 c 0 at old new before now → at < length c → IsToBeShown o.keep_going limit (drop at c) → (w : List ℕ) × RunsOutAt o limit c w at × (new ≡ old ++ w)
+runs_out o limit c old new at before now passes inside shown =
+    let k = o.keep_going in
+    let ms = passes.messages in (
+      messages_lines o ms,
+      (
+        record {
+          inside = inside;
+          before = ms;
+          all = reached k limit c ms 0 at c passes.between ∙ ap (λ n. ms ++ messages_at k limit n (drop at c)) (omega arith);
+          goes_on = passes.goes_on;
+          written = refl;
+        },
+        shown,
+      ),
+      passes.lines,
+    )
 
 -- ---- the end of the walk
 
@@ -95,6 +104,6 @@ module _ (law : FirstFaultsAreReported) (frames : FaultsAreAtFrames link_body) (
   fault_at_frame (Ok u) e = tt
   fault_at_frame (Err x) e = λ m. let f = frames limit c x.fault (first_of x e).0 in (f.0, f.1)
 
-  pub memory_sufficed : (r : Result (Unit {0}) ShowFault) → first_report (messages o.keep_going limit c) ≡ reported_by r → IfErr r (λ x. x.fault.kind ≡ Memory → RunsOutAt o.keep_going limit c x.fault.offset)
+  pub memory_sufficed : (r : Result (Unit {0}) ShowFault) → first_report (messages o.keep_going limit c) ≡ reported_by r → IfErr r (λ x. x.fault.kind ≡ Memory → (w : List ℕ) × RunsOutAt o limit c w x.fault.offset × (new ≡ old ++ w))
   memory_sufficed (Ok u) e = tt
   memory_sufficed (Err x) e = λ m. absurd (subst IsOfFrames m (frames limit c x.fault (first_of x e).0).2)

@@ -8,7 +8,7 @@ use Rattle.link_capture_grammar.specs.declared.fault.FaultKind.TheVariants.{Cut,
 use Rattle.link_capture_grammar.specs.Captures.{first_fault, first_frame, IsLegal}
 use Rattle.link_capture_reader.specs.Outcomes.{IsOpen, IsPrefix}
 use Rattle.link_capture_refusals.specs.RefusalViews.{all_found}
-use Rattle.link_lines.specs.MessageLines.{Selection, shown}
+use Rattle.link_lines.specs.MessageLines.{Selection, messages_lines, shown}
 use Rattle.link_lines.specs.Messages.{Message, is_of_body, last_fault, messages, messages_at}
 use Rattle.link_lines.specs.Refused.{reported_refusal}
 use Rattle.link_lines.specs.declared.refused.ShowFault.{ShowFault}
@@ -29,13 +29,23 @@ HasFaultyBody limit c = (kind : FaultKind) × (first_frame limit c ≡ Err kind)
 abbrev pub IsToBeShown : Bool → ℕ → List ℕ → Type 0
 IsToBeShown keep_going limit c = IsAccepted limit c ⊎ ((keep_going ≡ true) × HasFaultyBody limit c)
 
--- Memory ran out at an offset of c: the message there is shown, and showing doesn't stop at those before it.
-pub record RunsOutAt (keep_going : Bool) (limit : ℕ) (c : List ℕ) (at : ℕ) : Type 0 where
+-- At an offset of c a message begins, showing doesn't stop at those before it, and w are their lines.
+pub record ComesTo (o : Selection) (limit : ℕ) (c w : List ℕ) (at : ℕ) : Type 0 where
   pub inside : at < length c
   pub before : List Message
-  pub all : messages keep_going limit c ≡ before ++ messages_at keep_going limit at (drop at c)
+  pub all : messages o.keep_going limit c ≡ before ++ messages_at o.keep_going limit at (drop at c)
   pub goes_on : last_fault before ≡ None
-  pub is_shown : IsToBeShown keep_going limit (drop at c)
+  pub written : w ≡ messages_lines o before
+
+-- Memory ran out at an offset of c: the message there is to be shown, and w are the lines of those before it.
+abbrev pub RunsOutAt : Selection → ℕ → List ℕ → List ℕ → ℕ → Type 0
+RunsOutAt o limit c w at = ComesTo o limit c w at × IsToBeShown o.keep_going limit (drop at c)
+
+-- Memory ran out at an offset of what was read: the message there is to be shown; or it is cut, and its bytes had to be
+-- kept.
+abbrev pub RunsOutReading : Selection → ℕ → List ℕ → List ℕ → ℕ → Type 0
+RunsOutReading o limit s w at = ComesTo o limit s w at ×
+    (IsToBeShown o.keep_going limit (drop at s) ⊎ (first_frame limit (drop at s) ≡ Err Cut))
 
 -- The first `at` bytes of s were shown: showing doesn't stop in them, or at a message that is cut, and w are their
 -- lines.
@@ -58,7 +68,7 @@ IsReadThrough (Some fault) ended = fault.kind ≡ Cut → ended
 -- The bytes s were read, w was written, and the result is a fault of this kind at this offset. The propositions ended,
 -- read_failed and write_failed are what the devices reported.
 abbrev pub ShownAt : Selection → Type 0 → Type 0 → Type 0 → ℕ → List ℕ → List ℕ → FaultKind → ℕ → Type 0
-ShownAt o ended read_failed write_failed limit s w Memory at = ShowsPrefix o limit s w at
+ShownAt o ended read_failed write_failed limit s w Memory at = RunsOutReading o limit s w at
 ShownAt o ended read_failed write_failed limit s w Read at = read_failed × (at ≡ length s) × ShowsPrefix o limit s w at
 ShownAt o ended read_failed write_failed limit s w Write at = write_failed × (at ≡ min (length w) (2 ^ 64 - 1)) ×
     IsPrefix w (shown o limit s)

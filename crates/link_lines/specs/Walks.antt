@@ -11,12 +11,12 @@ use Rattle.link_lines.specs.declared.messages.Judgement.{Judgement}
 use Rattle.link_lines.specs.declared.messages.Judgement.TheVariants as J
 use Rattle.link_lines.specs.declared.messages.Step.{Step}
 use Rattle.link_lines.specs.declared.messages.Step.TheVariants.{Next, Stop}
+use Rattle.link_lines.specs.declared.messages.Walked.{Walked}
 use Rattle.link_lines.specs.declared.refused.ShowFault.{ShowFault}
 use Rattle.link_lines.specs.Refused.{without_refusal}
 use Rattle.link_lines.specs.MessageLines.{Selection, message_lines, messages_lines}
 use Rattle.link_lines.specs.Messages.{Message, Report, first_report, frame_of, is_of_body, last_fault, messages_at}
 use Rattle.link_lines.specs.Messages.{report_of}
-use Rattle.link_lines.specs.Outcomes.{IsToBeShown}
 
 -- The result for the first message of c: its length and this text; or the fault of its body, and its length; or the
 -- fault of its header.
@@ -71,13 +71,10 @@ pub record Passes (o : Selection) (limit start : ℕ) (c : List ℕ) (from to : 
   pub reports : now ≡ or_else before (first_report messages)
   pub goes_on : last_fault messages ≡ None
 
--- The walk came to the offset `to`, at which a message is to be shown.
-pub record ComesTo (keep_going : Bool) (limit start : ℕ) (c : List ℕ) (from to : ℕ) : Type 0 where
-  pub inside : to < length c
-  pub messages : List Message
-  pub between : AreBetween keep_going limit start c from to messages
-  pub goes_on : last_fault messages ≡ None
-  pub is_shown : IsToBeShown keep_going limit (drop to c)
+-- The offset up to which messages were shown: the end of the walk, or that of the message for which memory ran out.
+abbrev pub shown_to : Result Walked ℕ → ℕ
+shown_to (Ok walked) = walked.len
+shown_to (Err at) = at
 
 -- The end of a walk: the bytes end, or a message stops it.
 abbrev pub Ends : Bool → ℕ → List ℕ → ℕ → Option FaultKind → Type 0
@@ -103,3 +100,13 @@ FinishedWith None (b ∷ rest) offset written (Ok has_lines) = ⊥
 FinishedWith None (b ∷ rest) offset written (Err e) = e ≡ without_refusal (record { kind = Cut; offset = offset })
 FinishedWith (Some report) rest offset written (Ok has_lines) = ⊥
 FinishedWith (Some report) rest offset written (Err e) = (e.fault, all_found e.refusal) ≡ report
+
+-- The bytes of a cut message, continued by a piece; none if no message is cut.
+abbrev pub continued : List ℕ → List ℕ → List ℕ
+continued [] piece = []
+continued (b ∷ cut) piece = b ∷ (cut ++ piece)
+
+-- The bytes to be shown: those of a cut message that was continued, or else the piece.
+abbrev pub left_to_show : List ℕ → List ℕ → List ℕ
+left_to_show [] piece = piece
+left_to_show (b ∷ rest) piece = b ∷ rest

@@ -1,14 +1,15 @@
 //! The lines of a capture, from a source to a sink.
 
-ghost use Rattle.std.specs.Prelude.{◌≡◌, ◌⊎◌, ◌≤◌, ◌++◌, length, drop, IfSome, IfNone, OnOk, Some, None};
+ghost use Rattle.std.specs.Prelude.{◌≡◌, ◌⊎◌, ◌<◌, ◌≤◌, ◌+◌, length, drop, vec_capacity, IfSome, IfNone, OnErr, OnOk, Some, None};
 ghost use Rattle.netlink_packet_core_grammar.specs.Frames.{IsFrame};
 ghost use Rattle.link_capture_grammar.specs.declared.fault.FaultKind.{FaultKind};
 ghost use Rattle.link_capture_reader.specs.Devices.{Rises, ReportsItsEnd};
+ghost use Rattle.link_capture_reader.specs.Readers.{CanKeep};
 ghost use Rattle.link_lines.specs.Messages.{frame_of, report_of};
 ghost use Rattle.link_lines.specs.Options.{selection_of};
 ghost use Rattle.link_lines.specs.Outcomes.{Shows, ShowsKeeping};
 ghost use Rattle.link_lines.specs.Refused.{without_refusal};
-ghost use Rattle.link_lines.specs.Walks.{FinishedWith, or_else, report_in};
+ghost use Rattle.link_lines.specs.Walks.{FinishedWith, continued, left_to_show, or_else, report_in};
 
 use crate::faulty::fault_of;
 use crate::message_laws::{first_faults_are_reported, messages_unfold};
@@ -27,19 +28,51 @@ pub(crate) fn fault_at(kind: FaultKind, offset: u64) -> ShowFault
     ShowFault::from(CaptureFault { kind, offset })
 }
 
-/// Appends a piece.
-fn append_piece(bytes: &mut Vec<u8>, piece: &[u8]) -> Result<(), AllocError>
-    ensures ok { OnOk result (bytes.new.items ≡ bytes.old.items ++ piece.now) }
+/// Reserves memory for a piece of this size after the bytes of a cut message, if there are any.
+fn reserve_piece(rest: &mut Vec<u8>, size: usize) -> Result<(), AllocError>
+    ensures items { rest.new.items ≡ rest.old.items }
+    ensures ok { OnOk result (CanKeep rest.new.items (vec_capacity rest.new) size) }
+    ensures err { OnErr result (0 < length rest.old.items) }
 {
-    bytes.extend_from_slice(piece)
+    if rest.is_empty() {
+        return Ok(());
+    }
+    rest.reserve(size)
 }
 
-/// Removes the first `count` bytes.
-fn discard(bytes: &mut Vec<u8>, count: usize)
-    requires { count ≤ length bytes.old.items }
-    ensures { bytes.new.items ≡ drop count bytes.old.items }
+/// Continues a cut message by a piece for which memory was reserved.
+fn continue_message(rest: &mut Vec<u8>, piece: &[u8])
+    requires { CanKeep rest.old.items (vec_capacity rest.old) (length piece.now) }
+    ensures { rest.new.items ≡ continued rest.old.items piece.now }
 {
-    bytes.drain(..count);
+    if !rest.is_empty() {
+        let appended = rest.extend_from_slice(piece);
+        prove!(appended.is_ok());
+    }
+}
+
+/// Returns the bytes to be shown: those of a cut message that was continued, or else the piece.
+fn left_to_show<'a>(rest: &'a [u8], piece: &'a [u8]) -> &'a [u8]
+    ensures { result.now ≡ left_to_show rest.now piece.now }
+{
+    if rest.is_empty() { piece } else { rest }
+}
+
+/// Keeps those bytes that aren't shown, from this offset on.
+///
+/// # Errors
+///
+/// `AllocError` if there are such bytes in the piece, and an allocation for them fails.
+fn keep_rest(rest: &mut Vec<u8>, piece: &[u8], shown: usize) -> Result<(), AllocError>
+    requires { shown ≤ length (left_to_show rest.old.items piece.now) }
+    ensures ok { OnOk result (rest.new.items ≡ drop shown (left_to_show rest.old.items piece.now)) }
+    ensures err { OnErr result (shown < length (left_to_show rest.old.items piece.now)) }
+{
+    if rest.is_empty() {
+        return rest.extend_from_slice(&piece[shown..]);
+    }
+    rest.drain(..shown);
+    Ok(())
 }
 
 /// Returns the fault of a message at which showing stops: not that of one which is cut, and which
@@ -101,8 +134,8 @@ fn finish(
 ///   fault of their body, and of those after them, up to a fault of another kind;
 /// - `Read` at the number of bytes read, if the source fails;
 /// - `Write` at the number of bytes taken, if the sink fails;
-/// - `Memory` at the number of bytes read before a piece, if an allocation for it fails; the lines of
-///   its messages aren't written;
+/// - `Memory` at the offset of a message, if an allocation for it fails: one that is shown, or cut in
+///   what was read. The lines of those before it are written;
 /// - `TooLong` at the number of bytes read before a piece.
 pub fn show<S: Source, K: Sink>(
     alloc: Global,
@@ -155,6 +188,9 @@ pub fn show_keeping_first<S: Source, K: Sink>(
     let mut written = 0u64;
     'pieces: loop {
         let accepted = start + rest.len() as u64;
+        let Ok(()) = reserve_piece(&mut rest, buffer.len()) else {
+            return Err(fault_at(FaultKind::Memory, start));
+        };
         let Ok(size) = source.read(&mut buffer) else {
             return Err(fault_at(FaultKind::Read, accepted));
         };
@@ -166,11 +202,10 @@ pub fn show_keeping_first<S: Source, K: Sink>(
         if size as u64 > u64::MAX - accepted {
             return Err(fault_at(FaultKind::TooLong, accepted));
         }
-        let Ok(()) = append_piece(&mut rest, piece) else {
-            return Err(fault_at(FaultKind::Memory, accepted));
-        };
-        let Ok(walked) = push_messages(
-            rest.as_slice(),
+        continue_message(&mut rest, piece);
+        let bytes = left_to_show(rest.as_slice(), piece);
+        let walk = push_messages(
+            bytes,
             start,
             padding,
             limit,
@@ -178,16 +213,20 @@ pub fn show_keeping_first<S: Source, K: Sink>(
             &mut buffers,
             &mut found,
             &mut lines,
-        ) else {
-            return Err(fault_at(FaultKind::Memory, accepted));
-        };
+        );
         written = write_all(sink, lines.as_slice(), written)?;
+        let walked = match walk {
+            Ok(walked) => walked,
+            Err(at) => return Err(fault_at(FaultKind::Memory, start + at as u64)),
+        };
         if let Some(kind) = stopping_fault(walked.last) {
             let offset = start + walked.len as u64;
-            return Err(stopped_by(found, kind, offset, &rest.as_slice()[walked.len..]));
+            return Err(stopped_by(found, kind, offset, &bytes[walked.len..]));
         }
-        let passed = walked.len.min(rest.len());
-        discard(&mut rest, passed);
+        let passed = walked.len.min(bytes.len());
+        let Ok(()) = keep_rest(&mut rest, piece, passed) else {
+            return Err(fault_at(FaultKind::Memory, start + passed as u64));
+        };
         start += passed as u64;
         padding = walked.len - passed;
         lines.clear();

@@ -1,13 +1,13 @@
 //! The messages of a capture, one after the other.
 
-ghost use Rattle.std.specs.Prelude.{◌≡◌, ◌≤◌, ◌<◌, ◌+◌, ◌^◌, ◌++◌, length, IfErr, IfOk, OnErr, OnOk, Some};
+ghost use Rattle.std.specs.Prelude.{◌≡◌, ◌≤◌, ◌<◌, ◌+◌, ◌^◌, ◌++◌, length, drop, IfErr, IfOk, OnErr, OnOk, Some};
 ghost use Rattle.netlink_packet_core_grammar.specs.Frames.{IsFrame, frame_length};
 ghost use Rattle.link_lines.specs.MessageLines.{located, message_lines, placed_lines};
 ghost use Rattle.link_lines.specs.Messages.{Message.Accepted, Message.Faulty, frame_of, report_of};
 ghost use Rattle.link_lines.specs.Options.{selection_of};
 ghost use Rattle.link_lines.specs.Outcomes.{IsAccepted, IsToBeShown};
 ghost use Rattle.link_lines.specs.Pieces.{IsShownAs};
-ghost use Rattle.link_lines.specs.Walks.{ComesTo, Ends, IsJudged, Passes, Steps, or_else, report_in};
+ghost use Rattle.link_lines.specs.Walks.{Ends, IsJudged, Passes, Steps, or_else, report_in, shown_to};
 
 use crate::faulty::{fault_of, frame_of, is_of_body, push_faulty};
 use crate::lines::push_lines;
@@ -72,7 +72,7 @@ pub struct Buffers {
     pub(crate) lines: Vec<u8>,
     /// What is shown of the lines.
     pub(crate) selected: Vec<u8>,
-    /// The same with the offset, before it becomes JSON.
+    /// The same with the offset.
     pub(crate) located: Vec<u8>,
 }
 
@@ -140,7 +140,7 @@ fn push_located(
     }
 }
 
-/// Appends what is shown of the lines of a message at an offset.
+/// Appends what is shown of the lines of a message at an offset, or nothing if an allocation fails.
 fn push_placed(
     options: ShowOptions<'_>,
     offset: u64,
@@ -151,20 +151,24 @@ fn push_placed(
 ) -> Result<(), AllocError>
     ensures ok { OnOk result (out.new.items ≡ out.old.items
         ++ placed_lines (selection_of options.entry) offset lines.now) }
+    ensures err { OnErr result (out.new.items ≡ out.old.items) }
 {
     selected.clear();
     if options.is_about_link(lines) {
         push_remaining(lines, options.omission, selected)?;
     }
-    if !options.json {
-        return push_located(options.offsets, offset, selected.as_slice(), out);
-    }
     located.clear();
     push_located(options.offsets, offset, selected.as_slice(), located)?;
-    push_json(located.as_slice(), out)
+    if !options.json {
+        return out.extend_from_slice(located.as_slice());
+    }
+    selected.clear();
+    push_json(located.as_slice(), selected)?;
+    out.extend_from_slice(selected.as_slice())
 }
 
-/// Appends the lines of an accepted message, whose normal text is in the buffers.
+/// Appends the lines of an accepted message, whose normal text is in the buffers, or nothing if an
+/// allocation fails.
 #[tactic(auto, using(crate::proofs::AllLines::all_lines))]
 fn push_accepted(
     options: ShowOptions<'_>,
@@ -174,6 +178,7 @@ fn push_accepted(
 ) -> Result<(), AllocError>
     ensures ok { OnOk result (out.new.items ≡ out.old.items
         ++ message_lines (selection_of options.entry) (Accepted offset buffers.old.text.items)) }
+    ensures err { OnErr result (out.new.items ≡ out.old.items) }
 {
     nothing_omitted_keeps_all();
     let Buffers {
@@ -182,15 +187,16 @@ fn push_accepted(
         selected,
         located,
     } = buffers;
-    if options.selects_all() && !options.offsets && !options.json {
-        return push_lines(text.as_slice(), options.lines, out);
-    }
     lines.clear();
     push_lines(text.as_slice(), options.lines, lines)?;
+    if options.selects_all() && !options.offsets && !options.json {
+        return out.extend_from_slice(lines.as_slice());
+    }
     push_placed(options, offset, lines.as_slice(), selected, located, out)
 }
 
-/// Appends the lines of a message with a fault of its body, if its type is shown.
+/// Appends the lines of a message with a fault of its body, if its type is shown, or nothing if an
+/// allocation fails.
 fn push_refused(
     options: ShowOptions<'_>,
     offset: u64,
@@ -202,6 +208,7 @@ fn push_refused(
     requires { IsFrame frame.now }
     ensures ok { OnOk result (out.new.items ≡ out.old.items
         ++ message_lines (selection_of options.entry) (Faulty offset kind frame.now)) }
+    ensures err { OnErr result (out.new.items ≡ out.old.items) }
 {
     let Buffers {
         lines,
@@ -235,7 +242,7 @@ fn keep_fault(found: &mut Option<ShowFault>, kind: FaultKind, offset: u64, bytes
 ///
 /// # Errors
 ///
-/// `AllocError` if an allocation for the message fails; `out` may have a part of its lines.
+/// `AllocError` if an allocation for the message fails; `out` is unchanged.
 pub fn push_selected_message(
     bytes: &[u8],
     offset: u64,
@@ -248,6 +255,7 @@ pub fn push_selected_message(
         out.old.items out.new.items outcome) }
     // An allocation fails only for a message that is shown.
     ensures memory { OnErr result (IsToBeShown options.entry.keep_going limit bytes.now) }
+    ensures err { OnErr result (out.new.items ≡ out.old.items) }
 {
     match judge(bytes, limit, &mut buffers.text)? {
         Judgement::Accepted(len) => {
@@ -276,6 +284,8 @@ fn push_message(
     ensures ok { IfOk result (λ step. Steps (selection_of options.entry) limit offset bytes.now
         out.old.items out.new.items (report_in found.old) (report_in found.new) step) }
     ensures memory { OnErr result (IsToBeShown options.entry.keep_going limit bytes.now) }
+    ensures err { OnErr result (out.new.items ≡ out.old.items) }
+    ensures found { OnErr result (found.new ≡ found.old) }
 {
     messages_unfold();
     frames_are_independent();
@@ -294,8 +304,8 @@ fn push_message(
 ///
 /// # Errors
 ///
-/// The offset in `bytes` of the message for which an allocation failed; `out` may have a part of its
-/// lines.
+/// The offset in `bytes` of the message for which an allocation failed; `out` has gained the lines of
+/// those before it.
 pub(crate) fn push_messages(
     bytes: &[u8],
     start: u64,
@@ -308,11 +318,12 @@ pub(crate) fn push_messages(
 ) -> Result<Walked, usize>
     requires fits { start + length bytes.now < 2 ^ 64 }
     requires near { from ≤ 3 }
-    ensures passes { IfOk result (λ w. Passes (selection_of options.entry) limit start bytes.now from w.len
-        out.old.items out.new.items (report_in found.old) (report_in found.new)) }
+    ensures passes { Passes (selection_of options.entry) limit start bytes.now from (shown_to result)
+        out.old.items out.new.items (report_in found.old) (report_in found.new) }
     ensures ends { IfOk result (λ w. Ends options.entry.keep_going limit bytes.now w.len w.last) }
     ensures bounds { IfOk result (λ w. w.len ≤ length bytes.now + 3) }
-    ensures memory { IfErr result (λ at. ComesTo options.entry.keep_going limit start bytes.now from at) }
+    ensures memory { IfErr result (λ at. (at < length bytes.now)
+        × IsToBeShown options.entry.keep_going limit (drop at bytes.now)) }
 {
     let mut len = from;
     'messages: while len < bytes.len() {

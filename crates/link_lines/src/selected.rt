@@ -1,6 +1,6 @@
 //! The lines of a whole capture that are selected.
 
-ghost use Rattle.std.specs.Prelude.{◌≡◌, ◌≢◌, ◌≤◌, ◌+◌, length, drop, Some, IfErr, OnOk};
+ghost use Rattle.std.specs.Prelude.{◌≡◌, ◌≢◌, ◌≤◌, ◌+◌, ◌++◌, ℕ, List, length, drop, Some, IfErr, OnOk};
 ghost use Rattle.link_capture_grammar.specs.Captures.{first_fault, IsLegal};
 ghost use Rattle.link_capture_reader.specs.Readers.{IsFrameOffsetOf};
 ghost use Rattle.link_capture_refusals.specs.RefusalViews.{all_found};
@@ -50,8 +50,8 @@ fn conclude(
 /// - the capture's first fault, with its offset, and what `why` returns for a refused body. `out` has
 ///   gained the lines of the messages before it; with `keep_going` also those of messages with a
 ///   fault of their body, and of those after them, up to a fault of another kind;
-/// - `Memory` at the offset of the message for which an allocation fails; `out` may have a part of
-///   the lines.
+/// - `Memory` at the offset of the message for which an allocation fails; `out` has gained the lines
+///   of those before it.
 pub fn show_selected_bytes(
     alloc: Global,
     bytes: &[u8],
@@ -74,10 +74,11 @@ pub fn show_selected_bytes(
     // A fault's offset is the start of a frame.
     ensures frame_start { IfErr result
         (λ e. e.fault.kind ≢ FaultKind.Memory → IsFrameOffsetOf bytes.now e.fault.offset) }
-    // An allocation fails only for a message that is shown.
-    ensures memory { IfErr result
-        (λ e. e.fault.kind ≡ FaultKind.Memory
-        → RunsOutAt options.entry.keep_going limit bytes.now e.fault.offset) }
+    // An allocation fails only for a message that is shown, and the lines of those before it are
+    // appended.
+    ensures memory { IfErr result (λ e. e.fault.kind ≡ FaultKind.Memory → (w : List ℕ)
+        × RunsOutAt (selection_of options.entry) limit bytes.now w e.fault.offset
+        × (out.new.items ≡ out.old.items ++ w)) }
 {
     messages_unfold();
     first_faults_are_reported();

@@ -1,17 +1,18 @@
 -- The bytes that were read and written at each exit.
-use Rattle.std.proofs.Common.{◌≡◌, ◌∙◌, ◌+◌, ◌++◌, ◌-◌, ◌^◌, [], Some, min, length, take, drop, refl, sym, ap, subst, arith, rules}
+use Rattle.std.proofs.Common.{◌≡◌, ◌∙◌, ◌+◌, ◌++◌, ◌-◌, ◌^◌, ◌<◌, ℕ, List, [], Some, min, length, take, drop, refl, sym, ap, subst, arith, rules}
 use Rattle.std.proofs.lemmas.List.{append-nil, length-append, length-take, take_rest}
 use Rattle.std.proofs.lemmas.Result.{err_from_is_err_and}
 use Rattle.std.proofs.KnownBytes.{Appends-trans, Consumes-kept, Consumes-trans}
 use Rattle.std.specs.Io.KnownBytes.{Appends, Consumes}
 use Rattle.link_capture_reader.proofs.FirstBytes.{kept_more}
+use Rattle.link_capture_reader.proofs.Progress.{kept_less, unended}
 use Rattle.link_capture_reader.specs.Devices.{risen}
 use Rattle.link_capture_reader.specs.Outcomes.{IsPrefix}
 use Rattle.link_lines.specs.MessageLines.{messages_lines, shown}
 use Rattle.link_lines.specs.Messages.{frame_of, report_of}
 use Rattle.link_lines.specs.Options.{selection_of}
-use Rattle.link_lines.specs.Walks.{Ends, FinishedWith, or_else, report_in}
-use Rattle.link_lines.proofs.Progress.{are_cut, before_end, before_piece, continues, device_shown, failed_write, finished, nothing_came_for, prefix_shown, stopped_shown, unended, write_only}
+use Rattle.link_lines.specs.Walks.{Ends, FinishedWith, Passes, left_to_show, or_else, report_in, shown_to}
+use Rattle.link_lines.proofs.Progress.{are_cut, before_end, before_piece, bytes_joined, continues, cut_runs_out, device_shown, failed_write, finished, nothing_came_for, prefix_shown, ran_out, stopped_shown, tail_runs_out, write_only}
 use Rattle.link_lines.proofs.engine.show_keeping_first.Goals as goal
 
 pub pieces-init : goal.pieces-init
@@ -29,18 +30,33 @@ overflow_add-accepted g c = omega (arith, c.len.ensures, c.pieces.invariant.came
 pub overflow_sub-accepted : goal.overflow_sub-accepted
 overflow_sub-accepted g c = omega (arith, c.len.ensures, c.pieces.invariant.came.1.fits)
 
+-- No memory could be reserved for the rest of a cut message.
 pub returns-in_default : goal.returns-in_default
 returns-in_default g c =
+    let i = c.pieces.invariant in
+    let s = i.came.0 in
+    let came = i.came.1 in (
+      s,
+      messages_lines (selection_of c.args.options) came.messages,
+      came.consumed,
+      came.wrote,
+      device_shown _ _ _ _ c.args.limit s _ _ _ c.fault_at.ensures refl
+          (cut_runs_out c.messages_unfold.ensures c.first_faults_are_reported.ensures _ _ _ _ _ _ _ _ _ _ _ s came c.in_default.ensures.err),
+      i.came.2,
+    )
+
+pub returns-in_default-read : goal.returns-in_default-read
+returns-in_default-read g c =
     let i = c.pieces.invariant in
     let s = i.came.0 in
     let came = i.came.1 in
     let at : c.pieces.start + c.len.result ≡ c.pieces.start + length c.pieces.rest.items = omega (arith, c.len.ensures) in (
       s,
       messages_lines (selection_of c.args.options) came.messages,
-      Consumes-kept _ _ _ s came.consumed c.in_default.ensures.bytes,
+      Consumes-kept _ _ _ s came.consumed c.in_default-read.ensures.bytes,
       came.wrote,
-      device_shown _ _ _ _ c.args.limit s _ _ _ c.fault_at.ensures refl (
-        c.in_default.ensures.failures ∙ ap risen i.source_failures,
+      device_shown _ _ _ _ c.args.limit s _ _ _ c.fault_at-in_default-read.ensures refl (
+        c.in_default-read.ensures.failures ∙ ap risen i.source_failures,
         at ∙ came.accepted,
         before_end c.messages_unfold.ensures c.first_faults_are_reported.ensures _ _ _ _ _ _ _ _ _ _ _ s came _ at,
       ),
@@ -51,13 +67,14 @@ pub returns-then-size-eq0 : goal.returns-then-size-eq0
 returns-then-size-eq0 g c =
     let i = c.pieces.invariant in
     let s = i.came.0 in
-    let came = i.came.1 in (
+    let came = i.came.1 in
+    let read = c.in-Ok-read in (
       s,
       messages_lines (selection_of c.args.options) came.messages,
-      subst (Consumes _ _) (ap (λ n. s ++ take n c.read.new.buffer) c.if-size-eq0.true ∙ append-nil s) (Consumes-trans _ _ _ s (take c.in-Ok.size c.read.new.buffer) came.consumed c.in-Ok.ensures.bytes.0),
+      subst (Consumes _ _) (ap (λ n. s ++ take n c.read.new.buffer) c.if-size-eq0.true ∙ append-nil s) (Consumes-trans _ _ _ s (take read.size c.read.new.buffer) came.consumed read.ensures.bytes.0),
       came.wrote,
       finished c.messages_unfold.ensures c.first_faults_are_reported.ensures c.faults_are_at_frames.ensures _ _ _ _ _ _ _ _ _ _ _ s came _ _ _ (search rules) c.finish.result
-          (subst (λ x. FinishedWith (report_in c.pieces.found) x c.pieces.start c.pieces.written c.finish.result) c.as_slice.ensures.value c.finish.ensures),
+          (subst (λ x. FinishedWith (report_in c.pieces.found) x c.pieces.start c.pieces.written c.finish.result) (c.as_slice.ensures.value ∙ c.reserve_piece.ensures.items) c.finish.ensures),
       i.came.2,
     )
 
@@ -67,52 +84,25 @@ returns-then-size-accepted g c =
     let i = c.pieces.invariant in
     let s = i.came.0 in
     let came = i.came.1 in
-    let piece = take c.in-Ok.size c.read.new.buffer in
+    let read = c.in-Ok-read in
+    let piece = take read.size c.read.new.buffer in
     let at : c.pieces.start + c.len.result ≡ c.pieces.start + length c.pieces.rest.items = omega (arith, c.len.ensures) in
-    let size : length (s ++ piece) ≡ length s + c.in-Ok.size = omega (arith, length-append s piece, length-take c.in-Ok.size c.read.new.buffer, c.in-Ok.ensures.within) in (
+    let size : length (s ++ piece) ≡ length s + read.size = omega (arith, length-append s piece, length-take read.size c.read.new.buffer, read.ensures.within) in (
       s ++ piece,
       messages_lines (selection_of c.args.options) came.messages,
-      Consumes-trans _ _ _ s piece came.consumed c.in-Ok.ensures.bytes.0,
+      Consumes-trans _ _ _ s piece came.consumed read.ensures.bytes.0,
       came.wrote,
       device_shown _ _ _ _ c.args.limit (s ++ piece) _ _ _ c.fault_at-then-size-accepted.ensures refl (record {
         long = omega (arith, size, came.accepted, at, c.if-size-accepted.true);
-        last = omega (arith, size, came.accepted, at, c.in-Ok.ensures.within);
+        last = omega (arith, size, came.accepted, at, read.ensures.within);
         prefix = before_piece c.messages_unfold.ensures c.first_faults_are_reported.ensures _ _ _ _ _ _ _ _ _ _ _ s came piece _ at;
       }),
       kept_more c.pieces.first.items _ s piece i.came.2 c.keep_first.ensures,
     )
 
-pub returns-in_default-append_piece : goal.returns-in_default-append_piece
-returns-in_default-append_piece g c =
-    let i = c.pieces.invariant in
-    let s = i.came.0 in
-    let came = i.came.1 in
-    let piece = take c.in-Ok.size c.read.new.buffer in
-    let at : c.pieces.start + c.len.result ≡ c.pieces.start + length c.pieces.rest.items = omega (arith, c.len.ensures) in (
-      s ++ piece,
-      messages_lines (selection_of c.args.options) came.messages,
-      Consumes-trans _ _ _ s piece came.consumed c.in-Ok.ensures.bytes.0,
-      came.wrote,
-      device_shown _ _ _ _ c.args.limit (s ++ piece) _ _ _ c.fault_at-in_default-append_piece.ensures refl
-          (before_piece c.messages_unfold.ensures c.first_faults_are_reported.ensures _ _ _ _ _ _ _ _ _ _ _ s came piece _ at),
-      kept_more c.pieces.first.items _ s piece i.came.2 c.keep_first.ensures,
-    )
-
-pub returns-in_default-push_messages : goal.returns-in_default-push_messages
-returns-in_default-push_messages g c =
-    let i = c.pieces.invariant in
-    let s = i.came.0 in
-    let came = i.came.1 in
-    let piece = take c.in-Ok.size c.read.new.buffer in
-    let at : c.pieces.start + c.len.result ≡ c.pieces.start + length c.pieces.rest.items = omega (arith, c.len.ensures) in (
-      s ++ piece,
-      messages_lines (selection_of c.args.options) came.messages,
-      Consumes-trans _ _ _ s piece came.consumed c.in-Ok.ensures.bytes.0,
-      came.wrote,
-      device_shown _ _ _ _ c.args.limit (s ++ piece) _ _ _ c.fault_at-in_default-push_messages.ensures refl
-          (before_piece c.messages_unfold.ensures c.first_faults_are_reported.ensures _ _ _ _ _ _ _ _ _ _ _ s came piece _ at),
-      kept_more c.pieces.first.items _ s piece i.came.2 c.keep_first.ensures,
-    )
+pub continue_message-requires : goal.continue_message-requires
+continue_message-requires g c =
+    kept_less _ _ _ _ (omega (arith, length-take c.in-Ok-read.size c.read.new.buffer)) c.in-Ok.ensures.ok
 
 pub returns-in_err-written : goal.returns-in_err-written
 returns-in_err-written g c =
@@ -121,15 +111,15 @@ returns-in_err-written g c =
     let s = i.came.0 in
     let came = i.came.1 in
     let o = selection_of c.args.options in
-    let piece = take c.in-Ok.size c.read.new.buffer in
+    let piece = take c.in-Ok-read.size c.read.new.buffer in
     let z = c.in_err-written.ensures.fault in
     let slice = c.as_slice-in-pieces-2.result.now in
-    let joined = c.as_slice-in-pieces.ensures.value ∙ c.in-Ok-append_piece.ensures.ok in
-    let prefix = prefix_shown c.messages_unfold.ensures c.first_faults_are_reported.ensures o c.args.limit _ _ _ c.as_slice-in-pieces.result.now _ _ _ _ _ (g.S.Source.to_come c.read.new.self) _ _ s piece came joined _ _ _ i.empty c.in-Ok-push_messages.ensures.passes in
+    let joined = bytes_joined _ _ _ _ c.pieces.rest.items piece c.left_to_show-bytes.ensures c.as_slice-in-pieces.ensures.value c.continue_message.ensures c.reserve_piece.ensures.items in
+    let prefix = prefix_shown c.messages_unfold.ensures c.first_faults_are_reported.ensures o c.args.limit _ _ _ c.left_to_show-bytes.result.now _ _ _ _ _ (g.S.Source.to_come c.read.new.self) _ _ s piece came joined _ _ _ i.empty c.push_messages-walk.ensures.passes in
     rw p.1 (
       s ++ piece,
       messages_lines o came.messages ++ take z.2.0 slice,
-      Consumes-trans _ _ _ s piece came.consumed c.in-Ok.ensures.bytes.0,
+      Consumes-trans _ _ _ s piece came.consumed c.in-Ok-read.ensures.bytes.0,
       Appends-trans _ _ _ (messages_lines o came.messages) (take z.2.0 slice) came.wrote z.2.3,
       device_shown _ _ _ _ c.args.limit (s ++ piece) _ _ c.in_err-written.field-0.0 p.2 (write_only (s ++ piece) _ _ z.0)
           (failed_write _ _ _ _ c.args.limit (s ++ piece) (messages_lines o came.messages) slice c.pieces.written z.2.0 c.in_err-written.field-0.0
@@ -139,27 +129,77 @@ returns-in_err-written g c =
       kept_more c.pieces.first.items _ s piece i.came.2 c.keep_first.ensures,
     )
 
+-- No memory for a message that is to be shown.
+pub returns-in-Err : goal.returns-in-Err
+returns-in-Err g c =
+    let i = c.pieces.invariant in
+    let s = i.came.0 in
+    let came = i.came.1 in
+    let o = selection_of c.args.options in
+    let piece = take c.in-Ok-read.size c.read.new.buffer in
+    let bytes = c.left_to_show-bytes.result.now in
+    let at = c.in-Err.at in
+    let lines = c.push_messages-walk.new.out.items in
+    let joined = bytes_joined _ _ _ _ c.pieces.rest.items piece c.left_to_show-bytes.ensures c.as_slice-in-pieces.ensures.value c.continue_message.ensures c.reserve_piece.ensures.items in
+    let passes = subst (λ r. Passes o c.args.limit c.pieces.start bytes c.pieces.padding (shown_to r) c.pieces.lines.items lines (report_in c.pieces.found) (report_in c.push_messages-walk.new.found)) c.in-Err.is c.push_messages-walk.ensures.passes in
+    let memory = c.in-Err.ensures.memory in (
+      s ++ piece,
+      messages_lines o came.messages ++ lines,
+      Consumes-trans _ _ _ s piece came.consumed c.in-Ok-read.ensures.bytes.0,
+      Appends-trans _ _ _ (messages_lines o came.messages) lines came.wrote (subst (Appends _ _) c.as_slice-in-pieces-2.ensures.value c.in_ok-written.ensures.ok.1),
+      device_shown _ _ _ _ c.args.limit (s ++ piece) _ _ _ c.fault_at-in-Err.ensures refl
+          (ran_out c.messages_unfold.ensures c.first_faults_are_reported.ensures o c.args.limit _ _ _ bytes _ _ _ _ _ (g.S.Source.to_come c.read.new.self) _ _ s piece came joined at _ _ i.empty passes memory.0 memory.1),
+      kept_more c.pieces.first.items _ s piece i.came.2 c.keep_first.ensures,
+    )
+
 pub returns-in-Some : goal.returns-in-Some
 returns-in-Some g c =
     let i = c.pieces.invariant in
     let s = i.came.0 in
     let came = i.came.1 in
     let o = selection_of c.args.options in
-    let piece = take c.in-Ok.size c.read.new.buffer in
-    let len = c.in-Ok-push_messages.walked.len in
-    let whole = c.as_slice-in-pieces.result.now in
-    let joined = c.as_slice-in-pieces.ensures.value ∙ c.in-Ok-append_piece.ensures.ok in
+    let piece = take c.in-Ok-read.size c.read.new.buffer in
+    let bytes = c.left_to_show-bytes.result.now in
+    let walked = c.in-Ok-walk.walked in
+    let lines = c.push_messages-walk.new.out.items in
+    let joined = bytes_joined _ _ _ _ c.pieces.rest.items piece c.left_to_show-bytes.ensures c.as_slice-in-pieces.ensures.value c.continue_message.ensures c.reserve_piece.ensures.items in
+    let passes = subst (λ r. Passes o c.args.limit c.pieces.start bytes c.pieces.padding (shown_to r) c.pieces.lines.items lines (report_in c.pieces.found) (report_in c.push_messages-walk.new.found)) c.in-Ok-walk.is c.push_messages-walk.ensures.passes in
     let stops = c.in-Some.ensures.some in
-    let stop = subst (Ends o.keep_going c.args.limit whole len) stops.0 c.in-Ok-push_messages.ensures.ends in
-    let same : c.as_slice-in-Some.result.now ≡ whole = c.as_slice-in-Some.ensures.value ∙ sym c.as_slice-in-pieces.ensures.value in
-    let rest : take (length c.as_slice-in-Some.result.now - len) (drop len c.as_slice-in-Some.result.now) ≡ drop len whole = take_rest c.as_slice-in-Some.result.now len ∙ ap (drop len) same in
-    let report = c.stopped_by.ensures ∙ ap (λ x. or_else (report_in c.push_messages.new.found) (Some (report_of (c.pieces.start + len) c.in-Some.kind (frame_of x)))) rest in
+    let stop = subst (Ends o.keep_going c.args.limit bytes walked.len) stops.0 c.in-Ok-walk.ensures.ends in
+    let rest : take (length bytes - walked.len) (drop walked.len bytes) ≡ drop walked.len bytes = take_rest bytes walked.len in
+    let report = c.stopped_by.ensures ∙ ap (λ x. or_else (report_in c.push_messages-walk.new.found) (Some (report_of (c.pieces.start + walked.len) c.in-Some.kind (frame_of x)))) rest in
     let written = c.in_ok-written.ensures.ok in (
       s ++ piece,
-      messages_lines o came.messages ++ c.push_messages.new.out.items,
-      Consumes-trans _ _ _ s piece came.consumed c.in-Ok.ensures.bytes.0,
-      Appends-trans _ _ _ (messages_lines o came.messages) c.push_messages.new.out.items came.wrote (subst (Appends _ _) c.as_slice-in-pieces-2.ensures.value written.1),
-      stopped_shown c.messages_unfold.ensures c.first_faults_are_reported.ensures o c.args.limit _ _ _ whole _ _ _ _ _ (g.S.Source.to_come c.read.new.self) _ _ s piece came joined _ _ _ i.empty c.in-Ok-push_messages.ensures.passes c.faults_are_at_frames.ensures _ _ _ c.in-Some.kind c.stopped_by.result stop.0 stop.1 stops.1 report,
+      messages_lines o came.messages ++ lines,
+      Consumes-trans _ _ _ s piece came.consumed c.in-Ok-read.ensures.bytes.0,
+      Appends-trans _ _ _ (messages_lines o came.messages) lines came.wrote (subst (Appends _ _) c.as_slice-in-pieces-2.ensures.value written.1),
+      stopped_shown c.messages_unfold.ensures c.first_faults_are_reported.ensures o c.args.limit _ _ _ bytes _ _ _ _ _ (g.S.Source.to_come c.read.new.self) _ _ s piece came joined _ _ _ i.empty passes c.faults_are_at_frames.ensures _ _ _ c.in-Some.kind c.stopped_by.result stop.0 stop.1 stops.1 report,
+      kept_more c.pieces.first.items _ s piece i.came.2 c.keep_first.ensures,
+    )
+
+-- No memory for the bytes of a message that is cut.
+pub returns-in_default-keep_rest : goal.returns-in_default-keep_rest
+returns-in_default-keep_rest g c =
+    let i = c.pieces.invariant in
+    let s = i.came.0 in
+    let came = i.came.1 in
+    let o = selection_of c.args.options in
+    let piece = take c.in-Ok-read.size c.read.new.buffer in
+    let bytes = c.left_to_show-bytes.result.now in
+    let walked = c.in-Ok-walk.walked in
+    let lines = c.push_messages-walk.new.out.items in
+    let joined = bytes_joined _ _ _ _ c.pieces.rest.items piece c.left_to_show-bytes.ensures c.as_slice-in-pieces.ensures.value c.continue_message.ensures c.reserve_piece.ensures.items in
+    let passes = subst (λ r. Passes o c.args.limit c.pieces.start bytes c.pieces.padding (shown_to r) c.pieces.lines.items lines (report_in c.pieces.found) (report_in c.push_messages-walk.new.found)) c.in-Ok-walk.is c.push_messages-walk.ensures.passes in
+    let is : c.min-passed.result ≡ min walked.len (length bytes) = c.min-passed.ensures ∙ ap (min walked.len) c.len-in-pieces.ensures in
+    let left : left_to_show c.continue_message.new.rest.items piece ≡ bytes = ap (λ x. left_to_show x piece) (sym c.as_slice-in-pieces.ensures.value) ∙ sym c.left_to_show-bytes.ensures in
+    let more : c.min-passed.result < length bytes = subst (λ (x : List ℕ). c.min-passed.result < length x) left c.in_default-keep_rest.ensures.err in
+    let cut = are_cut o.keep_going c.args.limit bytes walked.len c.min-passed.result walked.last c.in-Ok-walk.ensures.ends c.in_default-stopping_fault.ensures.none is in (
+      s ++ piece,
+      messages_lines o came.messages ++ lines,
+      Consumes-trans _ _ _ s piece came.consumed c.in-Ok-read.ensures.bytes.0,
+      Appends-trans _ _ _ (messages_lines o came.messages) lines came.wrote (subst (Appends _ _) c.as_slice-in-pieces-2.ensures.value c.in_ok-written.ensures.ok.1),
+      device_shown _ _ _ _ c.args.limit (s ++ piece) _ _ _ c.fault_at-in_default-keep_rest.ensures refl
+          (tail_runs_out c.messages_unfold.ensures c.first_faults_are_reported.ensures o c.args.limit _ _ _ bytes _ _ _ _ _ (g.S.Source.to_come c.read.new.self) _ _ s piece came joined walked.len _ _ i.empty passes c.min-passed.result is more cut),
       kept_more c.pieces.first.items _ s piece i.came.2 c.keep_first.ensures,
     )
 
@@ -169,27 +209,29 @@ pieces-preserved g c =
     let s = i.came.0 in
     let came = i.came.1 in
     let o = selection_of c.args.options in
-    let piece = take c.in-Ok.size c.read.new.buffer in
-    let len = c.in-Ok-push_messages.walked.len in
-    let whole = c.as_slice-in-pieces.result.now in
-    let joined : whole ≡ c.pieces.rest.items ++ piece = c.as_slice-in-pieces.ensures.value ∙ c.in-Ok-append_piece.ensures.ok in
-    let all : c.len-in-pieces.result ≡ length whole = omega (arith, c.len-in-pieces.ensures, ap length c.as_slice-in-pieces.ensures.value) in
-    let is : c.min-passed.result ≡ min len (length whole) = c.min-passed.ensures ∙ ap (min len) all in
-    let size : length piece ≡ c.in-Ok.size = omega (arith, length-take c.in-Ok.size c.read.new.buffer, c.in-Ok.ensures.within) in
-    let cut = are_cut o.keep_going c.args.limit whole len c.min-passed.result c.in-Ok-push_messages.walked.last c.in-Ok-push_messages.ensures.ends c.in_default-stopping_fault.ensures.none is in
+    let read = c.in-Ok-read in
+    let piece = take read.size c.read.new.buffer in
+    let bytes = c.left_to_show-bytes.result.now in
+    let walked = c.in-Ok-walk.walked in
+    let lines = c.push_messages-walk.new.out.items in
+    let joined : bytes ≡ c.pieces.rest.items ++ piece = bytes_joined _ _ _ _ c.pieces.rest.items piece c.left_to_show-bytes.ensures c.as_slice-in-pieces.ensures.value c.continue_message.ensures c.reserve_piece.ensures.items in
+    let passes = subst (λ r. Passes o c.args.limit c.pieces.start bytes c.pieces.padding (shown_to r) c.pieces.lines.items lines (report_in c.pieces.found) (report_in c.push_messages-walk.new.found)) c.in-Ok-walk.is c.push_messages-walk.ensures.passes in
+    let is : c.min-passed.result ≡ min walked.len (length bytes) = c.min-passed.ensures ∙ ap (min walked.len) c.len-in-pieces.ensures in
+    let size : length piece ≡ read.size = omega (arith, length-take read.size c.read.new.buffer, read.ensures.within) in
+    let cut = are_cut o.keep_going c.args.limit bytes walked.len c.min-passed.result walked.last c.in-Ok-walk.ensures.ends c.in_default-stopping_fault.ensures.none is in
     let written = c.in_ok-written.ensures.ok in
-    let lines = c.push_messages.new.out.items in
-    let left : c.discard.new.bytes.items ≡ drop c.min-passed.result whole = c.discard.ensures ∙ ap (drop c.min-passed.result) (sym c.as_slice-in-pieces.ensures.value) in
+    let left : left_to_show c.continue_message.new.rest.items piece ≡ bytes = ap (λ x. left_to_show x piece) (sym c.as_slice-in-pieces.ensures.value) ∙ sym c.left_to_show-bytes.ensures in
+    let kept : c.keep_rest.new.rest.items ≡ drop c.min-passed.result bytes = c.in-Ok-keep_rest.ensures.ok ∙ ap (drop c.min-passed.result) left in
     record {
       empty = c.clear-in-pieces.ensures.items;
-      source_failures = c.in-Ok.ensures.failures ∙ i.source_failures;
-      ends = c.in-Ok.ensures.ends ∙ unended c.in-Ok.size _ _ c.if-size-eq0.false ∙ i.ends;
+      source_failures = read.ensures.failures ∙ i.source_failures;
+      ends = read.ensures.ends ∙ unended read.size _ _ c.if-size-eq0.false ∙ i.ends;
       sink_failures = written.2 ∙ i.sink_failures;
       came = (
         s ++ piece,
-        continues c.messages_unfold.ensures c.first_faults_are_reported.ensures o c.args.limit _ _ _ whole _ _ _ _ _ _ _ _ s piece came joined len _ lines i.empty c.in-Ok-push_messages.ensures.passes c.in_ok-written.written c.min-passed.result
-            c.discard.new.bytes.items _ left c.in-Ok.ensures.bytes.0 (subst (Appends _ _) c.as_slice-in-pieces-2.ensures.value written.1)
-            (subst (λ x. c.in_ok-written.written ≡ min (c.pieces.written + length x) (2 ^ 64 - 1)) c.as_slice-in-pieces-2.ensures.value written.0) is c.in-Ok-push_messages.ensures.bounds
+        continues c.messages_unfold.ensures c.first_faults_are_reported.ensures o c.args.limit _ _ _ bytes _ _ _ _ _ _ _ _ s piece came joined walked.len _ lines i.empty passes c.in_ok-written.written c.min-passed.result
+            c.keep_rest.new.rest.items _ kept read.ensures.bytes.0 (subst (Appends _ _) c.as_slice-in-pieces-2.ensures.value written.1)
+            (subst (λ x. c.in_ok-written.written ≡ min (c.pieces.written + length x) (2 ^ 64 - 1)) c.as_slice-in-pieces-2.ensures.value written.0) is c.in-Ok-walk.ensures.bounds
             (omega (arith, c.if-size-accepted.false, c.len.ensures, ap length joined, length-append c.pieces.rest.items piece, size)) cut,
         kept_more c.pieces.first.items _ s piece i.came.2 c.keep_first.ensures,
       );

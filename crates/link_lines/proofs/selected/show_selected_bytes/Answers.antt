@@ -1,5 +1,5 @@
 -- All lines that are selected are appended, or memory runs out.
-use Rattle.std.proofs.Common.{◌≡◌, ◌∙◌, sym, subst}
+use Rattle.std.proofs.Common.{◌≡◌, ◌++◌, ◌∙◌, ℕ, List, sym, subst}
 use Rattle.link_lines.specs.Messages.{first_report, messages}
 use Rattle.link_lines.specs.Options.{selection_of}
 use Rattle.link_lines.specs.Outcomes.{RunsOutAt}
@@ -41,4 +41,10 @@ returns-in-Ok-clause-memory c =
 
 pub returns-clause-memory : goal.returns-clause-memory
 returns-clause-memory c = λ m.
-    subst (λ e. RunsOutAt c.args.options.keep_going c.args.limit c.args.bytes.now e.fault.offset) (sym c.fault_at.ensures) (runs_out c.args.options.keep_going c.args.limit c.args.bytes.now c.in-Err.offset c.in-Err.ensures.memory)
+    let o = selection_of c.args.options in
+    let old = c.args.out.now.items in
+    let new = c.push_messages.new.out.items in
+    let at = c.in-Err.offset in
+    let memory = c.in-Err.ensures.memory in
+    subst (λ e. (w : List ℕ) × RunsOutAt o c.args.limit c.args.bytes.now w e.fault.offset × (new ≡ old ++ w)) (sym c.fault_at.ensures)
+    (runs_out o c.args.limit c.args.bytes.now old new at _ _ c.in-Err.ensures.passes memory.0 memory.1)

@@ -1,5 +1,5 @@
 #!/usr/bin/env python3
-"""Checks the pages: their lengths, links and marks, and the blocks that quote a file.
+"""Checks the pages: their links and marks, and the blocks that quote a file.
 
     tools/pages.py                 checks, in a second
     tools/pages.py --run PREFIX    also runs the pages' commands, with the programs that ./install PREFIX installed
@@ -45,8 +45,6 @@ from pathlib import Path
 
 TOP = Path(__file__).resolve().parent.parent
 PAGES = ["README.md", "CHANGELOG.md", "CONTRIBUTING.md", "docs/*.md", "samples/*.md", "bench/**/*.md", "bindings/**/*.md", "tools/**/*.md"]
-MOST_WORDS = {"README.md": 1000, "docs/*.md": 20300}
-GENERATED = {"docs/rows.md"}  # not counted, since nobody reads it from start to end
 SECONDS = 120
 MARK = re.compile(r"\s*<!--\s*(.*?)\s*-->\s*")
 MARKS = re.compile(r"wants .+|status \d+|given .+|output|file: \S+|run by \S+|written by \S+|sketch")
@@ -132,14 +130,7 @@ class Page:
 
 
 # --------------------------------------------------------------------------
-# Words, links, paths, marks
-
-def check_words(pages):
-    for pattern, most in MOST_WORDS.items():
-        count = sum(page.words() for page in pages if page.name in names_of(pattern) - GENERATED)
-        if count > most:
-            yield "%s: %d words, at most %d" % (pattern, count, most)
-
+# Links, paths, marks
 
 def check_links(page, by_name):
     """The links that lead to no file, or to no heading of it."""
@@ -426,7 +417,7 @@ def main():
     args = parser.parse_args()
     pages = [Page(name) for pattern in PAGES for name in sorted(names_of(pattern))]
     by_name = {page.name: page for page in pages}
-    faults = [] if args.page else list(check_words(pages))
+    faults = []
     selection = [by_name[os.path.normpath(name)] for name in args.page] or pages
     if args.lines:
         selection = [Page(page.name) if renumber(page) else page for page in selection]

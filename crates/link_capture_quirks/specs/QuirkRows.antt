@@ -5,9 +5,6 @@ use Rattle.std.specs.Prelude.{Option, Some, None}
 use Rattle.std.specs.List.{list_any}
 use Rattle.netlink_packet_core_grammar.specs.Attributes.{proper_kind}
 use Rattle.netlink_packet_core_grammar.specs.Numbers.{u32_at}
-use Rattle.link_capture_grammar.specs.declared.link_types.TheConstants.{RTM_GETLINK}
-use Rattle.link_capture_quirks.specs.declared.kinds.TheConstants.{IFLA_IFALIAS, IFLA_IFNAME, IFLA_MAP}
-use Rattle.link_capture_quirks.specs.declared.kinds.TheConstants.{IFLA_PARENT_DEV_NAME, IFLA_PROTINFO}
 use Rattle.link_capture_quirks.specs.declared.quirk_at.Quirk.{Quirk}
 use Rattle.link_capture_quirks.specs.declared.quirk_at.Quirk.TheVariants.{NestedPortSettings, ResizedSettings}
 use Rattle.link_capture_quirks.specs.declared.quirk_at.Quirk.TheVariants.{PathDiscoveryOverOne, TrailingPeer, LongAlias}
@@ -43,13 +40,13 @@ has_nul p = list_any (λ b. b == 0) p
 abbrev pub is_long_alias : List ℕ → Bool
 is_long_alias p = (length p == 255) && not (slice_index p 254 == 0)
 
--- The quirk of a payload of a link's attribute.
+-- The quirk of a payload of a link's attribute: IFLA_IFNAME, IFLA_MAP, IFLA_IFALIAS, IFLA_PARENT_DEV_NAME.
 unfoldable pub link_quirk : ℕ → List ℕ → Option Quirk
 link_quirk k p =
-    cond (k == IFLA_IFNAME) (quirk_if (length p == 0) NameWithoutNul)
-    (cond (k == IFLA_MAP) (quirk_if (nat_lt (length p) 32) ShortMap)
-    (cond (k == IFLA_IFALIAS) (quirk_if (is_long_alias p) LongAlias)
-    (cond (k == IFLA_PARENT_DEV_NAME) (quirk_if (not (has_nul p)) NameWithoutNul) None)))
+    cond (k == 3) (quirk_if (length p == 0) NameWithoutNul)
+    (cond (k == 14) (quirk_if (nat_lt (length p) 32) ShortMap)
+    (cond (k == 20) (quirk_if (is_long_alias p) LongAlias)
+    (cond (k == 56) (quirk_if (not (has_nul p)) NameWithoutNul) None)))
 
 -- The kinds of flags, which are set by being present: IFLA_VXLAN_GBP, _REMCSUM_NOPARTIAL and _GPE;
 -- IFLA_GENEVE_COLLECT_METADATA and _INNER_PROTO_INHERIT; IFLA_GRE_COLLECT_METADATA; IFLA_IPTUN_COLLECT_METADATA;
@@ -98,7 +95,7 @@ is_strict _ k = false
 -- The quirk of the nested bit on a kind of a list: IFLA_PROTINFO of a bridge, IFLA_XDP_EXPECTED_FD, and the strict
 -- kinds.
 abbrev pub nested_bit_quirk : Table → ℕ → Option Quirk
-nested_bit_quirk Bridge k = quirk_if (k == IFLA_PROTINFO) NestedPortSettings
+nested_bit_quirk Bridge k = quirk_if (k == 12) NestedPortSettings
 nested_bit_quirk Programs k = quirk_if (k == 8) StrayNestedBit
 nested_bit_quirk (OfKind d) k = quirk_if (is_strict d k) StrayNestedBit
 nested_bit_quirk _ k = None
@@ -109,6 +106,6 @@ bit_quirk t k = cond (nat_le 0x8000 k) (nested_bit_quirk t (proper_kind k)) None
 
 -- ---- the header
 
--- The quirk of a link's header: its second byte in an RTM_GETLINK.
+-- The quirk of a link's header: its second byte in an RTM_GETLINK, which is 18.
 abbrev pub header_quirk : ℕ → List ℕ → Option Quirk
-header_quirk t b = quirk_if ((t == RTM_GETLINK) && not (slice_index b 1 == 0)) HeaderByte
+header_quirk t b = quirk_if ((t == 18) && not (slice_index b 1 == 0)) HeaderByte

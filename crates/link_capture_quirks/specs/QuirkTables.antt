@@ -13,8 +13,6 @@ use Rattle.link_tables.specs.declared.kinds.TheConstants.{IP4_TUNNEL, IP6_TUNNEL
 use Rattle.link_tables.specs.InForce.{held_in_force}
 use Rattle.link_tables.specs.Tables as tables
 use Rattle.link_capture_checks.specs.Listings.{Listing as ListingOf, whole}
-use Rattle.link_capture_quirks.specs.declared.kinds.TheConstants.{AF_INET, IFLA_AF_SPEC, IFLA_LINKINFO}
-use Rattle.link_capture_quirks.specs.declared.kinds.TheConstants.{IFLA_VFINFO_LIST, IFLA_XDP}
 use Rattle.link_capture_quirks.specs.declared.tables.Data.{Data}
 use Rattle.link_capture_quirks.specs.declared.tables.Data.TheVariants.{Other, Vxlan, Geneve, Gre, Gre6, IpTunnel}
 use Rattle.link_capture_quirks.specs.declared.tables.Data.TheVariants.{BareUdp, Batadv, Netkit, Pair, AfterFirst}
@@ -87,19 +85,19 @@ next_list l k p =
 
 -- ---- the list inside an attribute
 
--- The list inside an attribute of a link, of every address family.
+-- The list inside an attribute of a link, of every address family: IFLA_LINKINFO, IFLA_VFINFO_LIST, IFLA_XDP.
 abbrev pub inside_link : ℕ → Option Table
 inside_link k =
-    cond (k == IFLA_LINKINFO) (Some Info)
-    (cond (k == IFLA_VFINFO_LIST) (Some Functions) (cond (k == IFLA_XDP) (Some Programs) None))
+    cond (k == 18) (Some Info)
+    (cond (k == 22) (Some Functions) (cond (k == 43) (Some Programs) None))
 
--- The list inside an attribute, unless it is a peer.
+-- The list inside an attribute, unless it is a peer: IFLA_AF_SPEC, the kinds of link info, AF_INET.
 abbrev pub inside_table : Table → Context → ℕ → Option Table
-inside_table Unspec c k = cond (k == IFLA_AF_SPEC) (Some Families) (inside_link k)
+inside_table Unspec c k = cond (k == 26) (Some Families) (inside_link k)
 inside_table Bridge c k = inside_link k
 inside_table Link c k = inside_link k
 inside_table Info c k = info_list c k
-inside_table Families c k = cond (k == AF_INET) (Some Inet) None
+inside_table Families c k = cond (k == 2) (Some Inet) None
 inside_table _ c k = None
 
 -- Attributes of kind 1 in these data are peers.

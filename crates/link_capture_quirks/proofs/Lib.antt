@@ -10,3 +10,4 @@ pub mod KindData
 pub mod Links
 pub mod Bodies
 pub mod Captures
+pub mod Together

@@ -40,7 +40,7 @@ impl<R, const N: usize> RecordBuffer<R, N> {
     }
 
     /// Returns a buffer of the first `N` of some bytes; `None` if there are fewer.
-    pub fn read_prefix(bytes: &[u8]) -> Option<Self>
+    pub fn read_front(bytes: &[u8]) -> Option<Self>
         ensures size { IsSome result ↔ (N ≤ length bytes.now) }
         ensures some { IfSome result (λ b. record_bytes b ≡ take N bytes.now) }
     {

@@ -5,3 +5,4 @@ pub mod CacheInfos
 pub mod VfSettings
 pub mod ValueRecords
 pub mod Records
+pub mod Indexes

@@ -3,6 +3,7 @@
 
 pub mod cache_info;
 pub mod fields;
+pub mod indexes;
 pub mod laws;
 pub mod map;
 pub mod record;

@@ -7,3 +7,4 @@ pub mod PathTexts
 pub mod Offsets
 pub mod Captures
 pub mod Independent
+pub mod Together

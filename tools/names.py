@@ -1,8 +1,8 @@
 #!/usr/bin/env python3
 """Writes the sets of attributes' names that are needed to read lines.
 
-    tools/names.py            writes NAMES, COUNTERS and INDEXES of lines_filter.py, and BYTES and NUMBER_LISTS of lines_json.py
-                              and of the crate link_lines_json
+    tools/names.py            writes NAMES, COUNTERS and INDEXES of lines_filter.py, and BYTES and NUMBER_LISTS of lines_json.py;
+                              and these, but for NAMES, in the crates link_lines_parts and link_lines_json, as code and in specs
     tools/names.py --check    ends with status 1 if one of these differs from the tables
 
 The names, their groups and the formats of values are those of the independent implementation, tools/oracle/rows.tsv and
@@ -19,7 +19,8 @@ sys.path.append(str(TOP / "tools/oracle"))
 import linkshow  # noqa: E402
 
 PACKAGE = TOP / "bindings/python/linkcap"
-CRATE = TOP / "crates/link_lines_json/src"
+PARTS = TOP / "crates/link_lines_parts"
+JSON = TOP / "crates/link_lines_json"
 
 
 def names_with(*formats):
@@ -38,8 +39,14 @@ SETS = (
     (PACKAGE / "lines_filter.py", "INDEXES", linkshow.GROUPS["indexes"]),
     (PACKAGE / "lines_json.py", "BYTES", BYTES),
     (PACKAGE / "lines_json.py", "NUMBER_LISTS", NUMBER_LISTS),
-    (CRATE / "names.rt", "BYTES", BYTES),
-    (CRATE / "names.rt", "NUMBER_LISTS", NUMBER_LISTS),
+    (PARTS / "src/names.rt", "COUNTERS", linkshow.GROUPS["counters"]),
+    (PARTS / "src/names.rt", "INDEXES", linkshow.GROUPS["indexes"]),
+    (PARTS / "specs/Names.antt", "counter_names", linkshow.GROUPS["counters"]),
+    (PARTS / "specs/Names.antt", "index_names", linkshow.GROUPS["indexes"]),
+    (JSON / "src/names.rt", "BYTES", BYTES),
+    (JSON / "src/names.rt", "NUMBER_LISTS", NUMBER_LISTS),
+    (JSON / "specs/Names.antt", "bytes_names", BYTES),
+    (JSON / "specs/Names.antt", "number_list_names", NUMBER_LISTS),
 )
 
 
@@ -56,9 +63,18 @@ def rattle_constant(name, members):
     return "pub const %s: &[&[u8]] = &[\n%s];\n" % (name, lines), r"^pub const %s: &\[&\[u8\]\] = &\[\n.*?\];\n" % name
 
 
+def definition_in_specs(name, members):
+    """The definition of a list in specs, and a pattern of any such definition."""
+    lines = "".join('    codes "%s" ∷\n' % member for member in sorted(members))
+    return "%s =\n%s    []\n" % (name, lines), r"^%s =\n.*?    \[\]\n" % name
+
+
+WRITTEN = {".rt": rattle_constant, ".antt": definition_in_specs, ".py": python_set}
+
+
 def with_set(path, name, members):
     """A file's text in which a set has these members."""
-    definition, pattern = (rattle_constant if path.suffix == ".rt" else python_set)(name, members)
+    definition, pattern = WRITTEN[path.suffix](name, members)
     new, count = re.subn(pattern, definition, path.read_text(encoding="utf-8"), flags=re.M | re.S)
     if count != 1:
         raise SystemExit("names: no set %s" % name)

@@ -1,11 +1,87 @@
 -- Names at the start of lines.
-use Rattle.std.specs.Prelude.{ℕ, List, map}
-use Rattle.link_lines_json.specs.declared.names.TheConstants.{BYTES, NUMBER_LISTS}
+use Rattle.std.specs.Prelude.{ℕ, List, [], ◌∷◌, codes}
 
 -- The attributes whose values are bytes in hex, which may look like numbers.
 unfoldable pub bytes_names : List (List ℕ)
-bytes_names = map (λ n. n.now) BYTES.now
+bytes_names =
+    codes "BOND_3AD_STAT_PAD" ∷
+    codes "BRIDGE_QUERIER_PAD" ∷
+    codes "BRIDGE_VLANDB_GOPTS_PAD" ∷
+    codes "BRIDGE_VLANDB_STATS_PAD" ∷
+    codes "BRIDGE_XSTATS_PAD" ∷
+    codes "FRA_PAD" ∷
+    codes "FRA_UNUSED2" ∷
+    codes "FRA_UNUSED3" ∷
+    codes "FRA_UNUSED4" ∷
+    codes "FRA_UNUSED5" ∷
+    codes "IFLA_ADDRESS" ∷
+    codes "IFLA_AF_SPEC" ∷
+    codes "IFLA_BOND_AD_ACTOR_SYSTEM" ∷
+    codes "IFLA_BOND_AD_INFO_PARTNER_MAC" ∷
+    codes "IFLA_BOND_SLAVE_PERM_HWADDR" ∷
+    codes "IFLA_BRIDGE_CFM_CC_CCM_TX_DMAC" ∷
+    codes "IFLA_BRIDGE_CFM_CC_CONFIG_EXP_MAID" ∷
+    codes "IFLA_BRIDGE_CFM_MEP_CONFIG_UNICAST_MAC" ∷
+    codes "IFLA_BROADCAST" ∷
+    codes "IFLA_BRPORT_BRIDGE_ID" ∷
+    codes "IFLA_BRPORT_PAD" ∷
+    codes "IFLA_BRPORT_ROOT_ID" ∷
+    codes "IFLA_BR_BRIDGE_ID" ∷
+    codes "IFLA_BR_GROUP_ADDR" ∷
+    codes "IFLA_BR_PAD" ∷
+    codes "IFLA_BR_ROOT_ID" ∷
+    codes "IFLA_COST" ∷
+    codes "IFLA_HSR_SUPERVISION_ADDR" ∷
+    codes "IFLA_INET6_MCAST" ∷
+    codes "IFLA_INFO_DATA" ∷
+    codes "IFLA_INFO_SLAVE_DATA" ∷
+    codes "IFLA_INFO_XSTATS" ∷
+    codes "IFLA_MACVLAN_MACADDR" ∷
+    codes "IFLA_NETKIT_PEER_INFO" ∷
+    codes "IFLA_PERM_ADDRESS" ∷
+    codes "IFLA_PHYS_PORT_ID" ∷
+    codes "IFLA_PHYS_SWITCH_ID" ∷
+    codes "IFLA_PORT_HOST_UUID" ∷
+    codes "IFLA_PORT_INSTANCE_UUID" ∷
+    codes "IFLA_PRIORITY" ∷
+    codes "IFLA_PROTINFO" ∷
+    codes "IFLA_WIRELESS" ∷
+    codes "IOAM6_IPTUNNEL_TRACE" ∷
+    codes "LWTUNNEL_IP6_PAD" ∷
+    codes "LWTUNNEL_IP_OPT_GENEVE_DATA" ∷
+    codes "LWTUNNEL_IP_PAD" ∷
+    codes "NDA_LLADDR" ∷
+    codes "NDTA_PAD" ∷
+    codes "NDTPA_PAD" ∷
+    codes "NHA_RES_BUCKET_PAD" ∷
+    codes "NHA_RES_GROUP_PAD" ∷
+    codes "RPL_IPTUNNEL_SRH" ∷
+    codes "RTA_MP_ALGO" ∷
+    codes "RTA_PAD" ∷
+    codes "RTA_PROTOINFO" ∷
+    codes "RTA_SESSION" ∷
+    codes "SEG6_IPTUNNEL_SRH" ∷
+    codes "SEG6_LOCAL_CNT_PAD" ∷
+    codes "SEG6_LOCAL_SRH" ∷
+    codes "TCA_ACT_COOKIE" ∷
+    codes "TCA_ACT_OPTIONS" ∷
+    codes "TCA_ACT_PAD" ∷
+    codes "TCA_OPTIONS" ∷
+    codes "TCA_PAD" ∷
+    codes "TCA_STATS_APP" ∷
+    codes "TCA_STATS_PAD" ∷
+    codes "TCA_XSTATS" ∷
+    codes "VETH_INFO_PEER" ∷
+    codes "VNIFILTER_ENTRY_STATS_PAD" ∷
+    codes "VXCAN_INFO_PEER" ∷
+    []
 
 -- The attributes whose values are any number of numbers.
 unfoldable pub number_list_names : List (List ℕ)
-number_list_names = map (λ n. n.now) NUMBER_LISTS.now
+number_list_names =
+    codes "IFLA_CAN_BITRATE_CONST" ∷
+    codes "IFLA_CAN_DATA_BITRATE_CONST" ∷
+    codes "IFLA_CAN_TERMINATION_CONST" ∷
+    codes "IFLA_CAN_XL_DATA_BITRATE_CONST" ∷
+    codes "TCA_STAB_DATA" ∷
+    []

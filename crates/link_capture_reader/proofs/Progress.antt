@@ -140,7 +140,7 @@ fed_fault E R W K limit s p out Failed at k z o h = absurd h
 fed_fault E R W K limit s p out kind at k z o h = (h.1, all_is limit s (s ++ p) out h.2)
 
 -- memory was reserved for each piece of at most that many bytes
-kept_less : (kept : List ℕ) (capacity m n : ℕ) → m ≤ n → CanKeep kept capacity n → CanKeep kept capacity m
+pub kept_less : (kept : List ℕ) (capacity m n : ℕ) → m ≤ n → CanKeep kept capacity n → CanKeep kept capacity m
 kept_less kept capacity m n l h = elim h [ inl a ↦ inl a | inr a ↦ inr (omega (arith, a, l)) ]
 
 pub fed_outcome : (E R W : Type 0) (limit : ℕ) (reader : ReaderState) (s p old out : List ℕ) (fault : CaptureFault) → reader.limit ≡ limit → old ≡ [] → length p ≤ 65536 → CanKeep reader.kept reader.capacity 65536 → IsConsistentWith reader s → FeedErr reader p old out fault → OutcomeAt E R W limit (s ++ p) (texts limit s ++ out) fault.kind fault.offset

@@ -39,7 +39,7 @@ abbrev pub unfailed : ℕ → ℕ → List ℕ → ℕ → ℕ → ReaderState
 unfailed limit accepted kept capacity owed =
     record { limit = limit; accepted = accepted; kept = kept; capacity = capacity; owed = owed; failed = None }
 
--- A frame that is cut can be continued by so many bytes without an allocation; or none is cut, and these bytes are kept.
+-- A frame that is cut can be continued by `size` bytes without an allocation; or none is cut, and these bytes are kept.
 abbrev pub CanKeep : List ℕ → ℕ → ℕ → Type 0
 CanKeep kept capacity size = (kept ≡ []) ⊎ (length kept + size ≤ capacity)
 

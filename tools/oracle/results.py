@@ -54,6 +54,13 @@ def same_result(case):
     return ("second: " if result[0] else "first: ") + o.display(result[1])
 
 
+def pairs_result(case):
+    """For each legal capture a character for each of them: `=` if they mean the same, else `-`."""
+    limit, *captures = case.split(" ")
+    limit, captures = read_limit(limit), [bytes.fromhex(capture) for capture in captures]
+    return "".join("".join("=" if o.same(a, b, limit) is True else "-" for b in captures) + " " for a in captures)
+
+
 def show_result(case):
     """The lines, then `legal` or the fault. A word between limit and capture chooses among the lines."""
     limit, *choice, capture = case.split(" ")
@@ -91,8 +98,8 @@ def link_info_result(case):
 
 
 # The function that computes the result of a case, by the case's kind
-COMPUTE = {"norm": norm_result, "same": same_result, "spelling": quirks_result, "refusal": refusal_result,
-           "link_info": link_info_result, "show": show_result}
+COMPUTE = {"norm": norm_result, "same": same_result, "pairs": pairs_result, "spelling": quirks_result,
+           "refusal": refusal_result, "link_info": link_info_result, "show": show_result}
 
 
 def compute_results(kinds):

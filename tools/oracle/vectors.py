@@ -10,7 +10,7 @@ import linkoracle as o      # noqa: E402
 TOP = os.path.normpath(os.path.join(os.path.dirname(os.path.abspath(__file__)), "..", ".."))
 
 # In the order in which they are stored. Only results of the last kind have several lines.
-KINDS = ("norm", "same", "spelling", "refusal", "link_info", "show")
+KINDS = ("norm", "same", "pairs", "spelling", "refusal", "link_info", "show")
 OUTCOME = re.compile("legal|(%s) at [0-9]+" % "|".join(words for _, words in o.FAULT_KINDS.values()))
 
 

@@ -6,6 +6,7 @@
 mod cases;
 mod info_list;
 mod norm;
+mod pairs;
 mod quirks;
 mod refusal;
 mod same;
@@ -20,6 +21,7 @@ fn write_line_result<W: Write>(alloc: Global, line: &str, out: &mut W) -> io::Re
     match kind {
         "norm" => norm::write_result(alloc, fields, out),
         "same" => same::write_result(alloc, fields, out),
+        "pairs" => pairs::write_result(alloc, fields, out),
         "spelling" => quirks::write_result(alloc, fields, out),
         "refusal" => refusal::write_result(alloc, fields, out),
         "link_info" => info_list::write_result(alloc, fields, out),

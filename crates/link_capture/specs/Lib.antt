@@ -30,6 +30,7 @@ pub use Rattle.link_capture_quirks.specs.QuirkTables
 pub use Rattle.link_capture_quirks.specs.QuirkLists
 pub use Rattle.link_capture_quirks.specs.CaptureQuirks
 pub use Rattle.link_capture_quirks.specs.QuirkLaws
+pub use Rattle.link_capture_quirks.specs.TextLaws
 pub use Rattle.link_capture_numbers.specs.Cleared
 pub use Rattle.link_capture_refusals.specs.ReasonTexts
 pub use Rattle.link_capture_refusals.specs.RefusalTables

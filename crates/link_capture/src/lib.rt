@@ -20,6 +20,7 @@ pub use link_capture_grammar::laws;
 pub use link_capture_grammar::link_types::{RTM_DELLINK, RTM_GETLINK, RTM_NEWLINK, RTM_SETLINK};
 pub use link_capture_numbers::clear_numbers;
 pub use link_capture_numbers::laws::cleared_captures_have_cleared_texts;
+pub use link_capture_quirks::laws::texts_have_no_quirk;
 pub use link_capture_quirks::{CaptureQuirks, Quirk, QuirkAt, quirks};
 pub use link_capture_reader::{
     CaptureReader, DeviceFailed, FirstBytes, ReadSource, Sink, SliceSource, Source, VecSink,

@@ -24,8 +24,7 @@ use Rattle.linkshow_program.specs.declared.arguments.Asked.TheVariants.{Help, Ve
 use Rattle.linkshow_program.specs.declared.arguments.UsageError.{UsageError}
 use Rattle.link_lines.specs.declared.without.Without.{Without}
 use Rattle.linkshow_program.specs.Arguments.{Asks, UsageFault, usage_fault}
-use Rattle.linkshow_program.specs.Texts.{cause, advice, usage_text}
-use Rattle.linkshow_program.specs.declared.texts.TheConstants as Texts
+use Rattle.linkshow_program.specs.Texts.{cause, advice, help_text, usage_text, version_text}
 use Rattle.link_capture_reader.specs.States.{IsReported, SinkState, SourceState, IsReportedOrCut}
 use Rattle.linkshow_program.specs.Devices.{Run}
 use Rattle.linkshow_program.specs.Reporting.{ReportsBoth}
@@ -189,9 +188,9 @@ abbrev pub Does : {File : Type 0} → Type 0 → Type 0 → Type 0 → Run → F
 Does unopened unread unwritten r files status (Err e) = unopened × unread × unwritten ×
     UsageRun r.reported r.reported_after (usage_fault e) status
 Does unopened unread unwritten r files status (Ok Help) = unopened × unread ×
-    PrintRun r.held r.holds r.reported r.reported_after Texts.HELP.now status
+    PrintRun r.held r.holds r.reported r.reported_after help_text status
 Does unopened unread unwritten r files status (Ok Version) = unopened × unread ×
-    PrintRun r.held r.holds r.reported r.reported_after Texts.VERSION.now status
+    PrintRun r.held r.holds r.reported r.reported_after version_text status
 Does unopened unread unwritten r files status (Ok (Show options)) =
     ShowsFrom (unopened × CaptureRun options.kernels (chosen options) r unwritten None options.limit status)
     (λ name. unread × OpensOne files name

@@ -1,5 +1,6 @@
 -- The texts that the program writes about files, and about the first bytes of a capture.
 use Rattle.std.specs.Prelude.{ℕ, Bool, List, [], ◌∷◌, ◌++◌, ◌||◌, codes, cond, bytes_eq}
+use Rattle.std.specs.List.{flat_map}
 use Rattle.std.specs.declared.io.ErrorKind.{ErrorKind}
 use Rattle.linkshow_program.specs.Arguments.{UsageFault}
 use Rattle.std.specs.declared.io.ErrorKind.TheVariants.{NotFound, PermissionDenied, IsADirectory, NotADirectory}
@@ -55,3 +56,53 @@ usage_text (UsageFault.UnknownType word) =
     codes "linkshow: --only: no type of messages is called " ++ (word ++ 10 ∷ [])
 usage_text (UsageFault.UnknownName word) =
     codes "linkshow: --without: no attribute or group is called " ++ (word ++ 10 ∷ [])
+
+-- The version of the program, and the format version of its lines.
+abbrev pub version_text : List ℕ
+version_text = codes "linkshow 0.1.0, lines 3\n"
+
+-- The help.
+unfoldable pub help_text : List ℕ
+help_text =
+    flat_map (λ line. line ++ 10 ∷ []) (
+    codes "usage: linkshow [--only TYPE,..] [--link WORD] [--without NAME,..]" ∷
+    codes "                [--without-numbers] [--offsets] [--keep-going] [--json]" ∷
+    codes "                [--kernels] [--limit N] [FILE]" ∷
+    codes "       linkshow --help" ∷
+    codes "       linkshow --version" ∷
+    codes "" ∷
+    codes "Shows a netlink link capture as lines: the messages of FILE, or of standard" ∷
+    codes "input if there is no FILE or it is -. A capture is a byte string of netlink" ∷
+    codes "messages, one after the other, each at a multiple of 4. Its lines are those" ∷
+    codes "of its normal text: captures that mean the same have the same lines." ∷
+    codes "" ∷
+    codes "  --only TYPE,..     show only messages of these types, by name or number:" ∷
+    codes "                     newlink,setlink,77" ∷
+    codes "  --link WORD        show only messages about this link, by name or index" ∷
+    codes "  --without NAME,..  leave out these attributes, by name, and these groups:" ∷
+    codes "                     numbers, as --without-numbers; counters, as statistics" ∷
+    codes "                     and timers; indexes, of links and of namespaces" ∷
+    codes "  --without-numbers  leave out sequence and port numbers, which change from" ∷
+    codes "                     run to run" ∷
+    codes "  --offsets          show each message's offset in bytes" ∷
+    codes "  --keep-going       show messages with a fault in their body too, with the" ∷
+    codes "                     reason, and the messages after them" ∷
+    codes "  --json             write an object of JSON for each message, a line each" ∷
+    codes "  --limit N          the greatest length of a message in bytes, from 16 to" ∷
+    codes "                     4294967295; without it, 1048576" ∷
+    codes "  --kernels          first note on standard error each encoding that kernels" ∷
+    codes "                     treat differently from its normal text" ∷
+    codes "  --help             this text" ∷
+    codes "  --version          the version of linkshow, and the format version of its" ∷
+    codes "                     lines" ∷
+    codes "" ∷
+    codes "Status 0: the capture is legal, and its lines are written. 2: a fault, which" ∷
+    codes "standard error names with its offset in bytes; the lines before it are" ∷
+    codes "written. 3: a usage error." ∷
+    codes "" ∷
+    codes "Example, the links of this network namespace:" ∷
+    codes "" ∷
+    codes "  linkrec dump > links.bin" ∷
+    codes "  linkshow links.bin" ∷
+    codes "  linkshow --json links.bin | jq .attributes" ∷
+    [])

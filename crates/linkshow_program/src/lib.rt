@@ -29,7 +29,7 @@ pub use showing::run_show;
 use std::alloc::Global;
 use std::io;
 use std::process::ExitCode;
-use texts::{HELP, VERSION};
+use texts::{help, version};
 use usage::report_usage;
 
 /// Reports why arguments are invalid, and returns the status of a usage error.
@@ -115,8 +115,8 @@ pub fn run<F: FileSystem, S: Source, K: Sink, E: Sink>(
 {
     match read_words(arguments) {
         Err(error) => run_usage(errors, error),
-        Ok(Asked::Help) => print(sink, errors, HELP),
-        Ok(Asked::Version) => print(sink, errors, VERSION),
+        Ok(Asked::Help) => print(sink, errors, help()),
+        Ok(Asked::Version) => print(sink, errors, version()),
         Ok(Asked::Show(options)) => match options.file {
             Some(name) => run_file(alloc, files, sink, errors, name, &options),
             None => run_capture(alloc, source, sink, errors, &options),

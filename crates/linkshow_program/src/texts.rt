@@ -1,7 +1,7 @@
 //! The texts that the program writes.
 
 ghost use Rattle.std.specs.Prelude.{◌≡◌};
-ghost use Rattle.linkshow_program.specs.Texts.{cause, is_lines, is_pcap, is_pcapng, advice};
+ghost use Rattle.linkshow_program.specs.Texts.{cause, is_lines, is_pcap, is_pcapng, advice, help_text, version_text};
 
 use std::io::ErrorKind;
 
@@ -11,10 +11,10 @@ pub const USAGE: &str =
      [--offsets] [--keep-going] [--json] [--kernels] [--limit N] [FILE]; linkshow --help says more\n";
 
 /// The version of the program, and the format version of its lines.
-pub const VERSION: &str = "linkshow 0.1.0, lines 3\n";
+const VERSION: &str = "linkshow 0.1.0, lines 3\n";
 
 /// The help.
-pub const HELP: &str = "usage: linkshow [--only TYPE,..] [--link WORD] [--without NAME,..]
+const HELP: &str = "usage: linkshow [--only TYPE,..] [--link WORD] [--without NAME,..]
                 [--without-numbers] [--offsets] [--keep-going] [--json]
                 [--kernels] [--limit N] [FILE]
        linkshow --help
@@ -55,6 +55,21 @@ Example, the links of this network namespace:
   linkshow links.bin
   linkshow --json links.bin | jq .attributes
 ";
+
+/// Returns the version of the program, and the format version of its lines.
+pub fn version() -> &'static str
+    ensures { result.now ≡ version_text }
+{
+    VERSION
+}
+
+/// Returns the help.
+#[tactic(auto, unfolding(crate::specs::Texts::help_text))]
+pub fn help() -> &'static str
+    ensures { result.now ≡ help_text }
+{
+    HELP
+}
 
 /// Returns the reason why a file can't be opened.
 pub fn cause(kind: ErrorKind) -> &'static str

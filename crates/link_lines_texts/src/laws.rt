@@ -8,8 +8,6 @@ ghost use Rattle.link_lines_texts.specs.Laws.{ListsUnfoldByAttributes, RowsAreDe
 ghost use Rattle.link_lines_texts.specs.Determination.{AcceptedFramesAreCanonical, FramesAreDetermined};
 ghost use Rattle.link_lines_texts.specs.Determination.{ListsAreDetermined, ShapesAreDetermined};
 
-use link_capture_numbers::laws::cleared_captures_have_cleared_texts;
-
 /// The lines of a list are determined attribute by attribute.
 pub fn lists_unfold_by_attributes()
     ensures { ListsUnfoldByAttributes }
@@ -69,9 +67,7 @@ pub fn lines_determine_texts()
 /// cleared, are equal.
 pub fn lines_without_numbers_determine_cleared_texts()
     ensures { LinesWithoutNumbersDetermineClearedTexts }
-{
-    cleared_captures_have_cleared_texts();
-}
+{}
 
 /// Two legal captures have the same lines if and only if they mean the same.
 pub fn lines_determine_meanings()

@@ -21,3 +21,4 @@ pub mod FirstLines
 pub mod QuotedWords
 pub mod Keeping
 pub mod Pieces
+pub mod Together

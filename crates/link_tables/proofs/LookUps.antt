@@ -9,6 +9,28 @@ use Rattle.link_tables.specs.declared.rows.Row.{Row}
 use Rattle.link_tables.specs.declared.rows.Row.TheVariants.{Listed, Unlisted}
 use Rattle.link_tables.specs.Rows.{kind_of, are_consecutive, are_dense, build, line_of}
 
+-- if the first row's kind is n
+from_first : (rs : List Row) (d : Row) (n : ℕ) → n ≡ kind_of (get_or rs 0 d) → are_dense rs ≡ true → are_consecutive n rs ≡ true
+from_first [] d n e h = refl
+from_first (r ∷ rs) d n e h = ap (λ m. are_consecutive m (r ∷ rs)) e ∙ ap (λ b. b && are_consecutive (suc (kind_of r)) rs) (eq-eqb (kind_of r) (kind_of r) refl) ∙ h
+
+-- the row at index j has the kind n + j
+kind_at : (rs : List Row) (n j : ℕ) (d : Row) → are_consecutive n rs ≡ true → j < length rs → kind_of (get_or rs j d) ≡ n + j
+kind_at [] n j d h l = absurd (omega arith)
+kind_at (r ∷ rs) n zero d h l =
+    let a = and_parts (kind_of r == n) (are_consecutive (suc n) rs) h in
+    let f : kind_of r ≡ n = eqb-true (kind_of r) n a.0 in
+    omega (arith, f)
+kind_at (r ∷ rs) n (suc j) d h l =
+    let a = and_parts (kind_of r == n) (are_consecutive (suc n) rs) h in
+    let i : kind_of (get_or rs j d) ≡ suc n + j = kind_at rs (suc n) j d a.1 (omega arith) in
+    omega (arith, i)
+
+pub kind_at_index : (rs : List Row) (d other : Row) (n k : ℕ) → n ≡ kind_of (get_or rs 0 d) → are_dense rs ≡ true → n ≤ k → k - n < length rs → kind_of (get_or rs (k - n) other) ≡ k
+kind_at_index rs d other n k e h m l =
+    let i : kind_of (get_or rs (k - n) other) ≡ n + (k - n) = kind_at rs n (k - n) other (from_first rs d n e h) l in
+    omega (arith, i)
+
 module _ (tables : ℕ → Table) (info : Payload) where
   -- removing the first of consecutive rows doesn't change the entries of other kinds
   following_first : (r : Row) (rs : List Row) (n k : ℕ) → (kind_of r ≡ k → ⊥) → line_at (build tables info rs) k ≡ line_at (build tables info (r ∷ rs)) k
@@ -38,11 +60,6 @@ module _ (tables : ℕ → Table) (info : Payload) where
       let a = and_parts (kind_of r == n) (are_consecutive (suc n) rs) h in
       let f = eqb-true (kind_of r) n a.0 in
       at_index rs (suc n) j k d a.1 (omega arith) (omega arith) ∙ following_first r rs n k (λ x. omega arith)
-
-  -- if the first row's kind is n
-  from_first : (rs : List Row) (d : Row) (n : ℕ) → n ≡ kind_of (get_or rs 0 d) → are_dense rs ≡ true → are_consecutive n rs ≡ true
-  from_first [] d n e h = refl
-  from_first (r ∷ rs) d n e h = ap (λ m. are_consecutive m (r ∷ rs)) e ∙ ap (λ b. b && are_consecutive (suc (kind_of r)) rs) (eq-eqb (kind_of r) (kind_of r) refl) ∙ h
 
   pub line_outside : (rs : List Row) (d : Row) (n k : ℕ) → n ≡ kind_of (get_or rs 0 d) → are_dense rs ≡ true → (n ≤ k → n + length rs ≤ k) → None ≡ line_at (build tables info rs) k
   line_outside rs d n k e h l = outside rs n k (from_first rs d n e h) l

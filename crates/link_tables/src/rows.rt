@@ -105,8 +105,9 @@ impl<'a> TableRows<'a> {
     /// Returns the row of a kind, which has no flag bits. The index of a row is its kind less that
     /// of the first row, so this takes constant time.
     pub fn look_up(self, kind: u16) -> Row
-        ensures { IsIndexed self.entry → (tables : ℕ → Rows) (info : Payload)
+        ensures line { IsIndexed self.entry → (tables : ℕ → Rows) (info : Payload)
             → line_of tables info result ≡ line_at (build tables info (rows_in self.entry)) kind }
+        ensures kind { IsIndexed self.entry → kind_of result ≡ kind }
     {
         let position = kind as usize;
         if position < self.first {

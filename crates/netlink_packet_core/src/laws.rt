@@ -1,4 +1,5 @@
-//! Laws of the definitions. No function here calls another.
+//! Laws of the definitions. No function here makes a call, but for three of
+//! `netlink_packet_core_messages`, which read the code of their parameter.
 
 ghost use Rattle.netlink_packet_core.specs.Ethernet.{ProtocolsKeepNumbers, NumbersNameProtocols};
 

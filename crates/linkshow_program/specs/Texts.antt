@@ -59,7 +59,7 @@ usage_text (UsageFault.UnknownName word) =
 
 -- The version of the program, and the format version of its lines.
 abbrev pub version_text : List ℕ
-version_text = codes "linkshow 0.1.0, lines 3\n"
+version_text = codes "linkshow 0.1.0, lines 4\n"
 
 -- The help.
 unfoldable pub help_text : List ℕ

@@ -11,7 +11,7 @@ pub const USAGE: &str =
      [--offsets] [--keep-going] [--json] [--kernels] [--limit N] [FILE]; linkshow --help says more\n";
 
 /// The version of the program, and the format version of its lines.
-const VERSION: &str = "linkshow 0.1.0, lines 3\n";
+const VERSION: &str = "linkshow 0.1.0, lines 4\n";
 
 /// The help.
 const HELP: &str = "usage: linkshow [--only TYPE,..] [--link WORD] [--without NAME,..]

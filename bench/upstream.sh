@@ -7,7 +7,8 @@
 # root of Debian sid that mmdebstrap makes in ~/.cache/linkcap, once (930 MB), with cargo and rustc; root is needed. The cases
 # are the samples, the vectors, the captures (*.bin) in the folders, and COUNT link bodies (200000) that are made by SEED (1).
 # It builds nothing else: crates/read_links/out/read_links has to be there. No gate runs this. The status is 1 if a difference
-# falls under no rule of bench/upstream/rules.py, or if the comparison passes without one of them.
+# falls under no rule of bench/upstream/rules.py, or if the comparison passes without one of them: with fewer bodies, a rare rule
+# may have no case.
 set -euo pipefail
 cd "$(dirname "$0")/.."
 

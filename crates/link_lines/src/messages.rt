@@ -2,7 +2,7 @@
 
 ghost use Rattle.std.specs.Prelude.{◌≡◌, ◌≤◌, ◌<◌, ◌+◌, ◌^◌, ◌++◌, length, drop, IfErr, IfOk, OnErr, OnOk, Some};
 ghost use Rattle.netlink_packet_core_grammar.specs.Frames.{IsFrame, frame_length};
-ghost use Rattle.link_lines.specs.MessageLines.{located, message_lines, placed_lines};
+ghost use Rattle.link_lines.specs.MessageLines.{formed, located, message_lines, placed_lines, selected};
 ghost use Rattle.link_lines.specs.Messages.{Message.Accepted, Message.Faulty, frame_of, report_of};
 ghost use Rattle.link_lines.specs.Options.{selection_of};
 ghost use Rattle.link_lines.specs.Outcomes.{IsAccepted, IsToBeShown};
@@ -22,6 +22,7 @@ use link_lines_json::push_json;
 use link_lines_parts::push_remaining;
 use netlink_packet_core::{NetlinkBuffer, nla_align};
 use std::alloc::{AllocError, Global};
+use std::mem::swap;
 
 /// The result for the first message of some bytes, with its length in bytes if that is known.
 #[derive(Clone, Copy)]
@@ -70,10 +71,8 @@ pub struct Buffers {
     pub(crate) text: Vec<u8>,
     /// The lines of a message.
     pub(crate) lines: Vec<u8>,
-    /// What is shown of the lines.
-    pub(crate) selected: Vec<u8>,
-    /// The same with the offset.
-    pub(crate) located: Vec<u8>,
+    /// What they become by the next step.
+    pub(crate) spare: Vec<u8>,
 }
 
 impl Buffers {
@@ -82,8 +81,7 @@ impl Buffers {
         Buffers {
             text: Vec::new(alloc),
             lines: Vec::new(alloc),
-            selected: Vec::new(alloc),
-            located: Vec::new(alloc),
+            spare: Vec::new(alloc),
         }
     }
 }
@@ -124,52 +122,93 @@ fn judge(bytes: &[u8], limit: u32, text: &mut Vec<u8>) -> Result<Judgement, Allo
     }
 }
 
-/// Appends a message's lines, with its offset if that is shown.
-fn push_located(
+/// Leaves in `lines` what is selected of them.
+#[tactic(auto, using(crate::proofs::AllLines::all_selected))]
+fn select(
+    options: ShowOptions<'_>,
+    lines: &mut Vec<u8>,
+    spare: &mut Vec<u8>,
+) -> Result<(), AllocError>
+    ensures ok { OnOk result (lines.new.items
+        ≡ selected (selection_of options.entry) lines.old.items) }
+{
+    nothing_omitted_keeps_all();
+    if options.selects_all() {
+        return Ok(());
+    }
+    spare.clear();
+    if options.is_about_link(lines.as_slice()) {
+        push_remaining(lines.as_slice(), options.omission, spare)?;
+    }
+    swap(lines, spare);
+    Ok(())
+}
+
+/// Leaves in `lines` the message's offset too, if it is shown.
+fn locate(
     offsets: bool,
     offset: u64,
-    lines: &[u8],
-    out: &mut Vec<u8>,
+    lines: &mut Vec<u8>,
+    spare: &mut Vec<u8>,
 ) -> Result<(), AllocError>
-    ensures ok { OnOk result (out.new.items ≡ out.old.items ++ located offsets offset lines.now) }
+    ensures ok { OnOk result (lines.new.items ≡ located offsets offset lines.old.items) }
 {
-    if offsets && !lines.is_empty() {
-        push_with_offset(lines, offset, out)
-    } else {
-        out.extend_from_slice(lines)
+    if !offsets || lines.is_empty() {
+        return Ok(());
     }
+    spare.clear();
+    push_with_offset(lines.as_slice(), offset, spare)?;
+    swap(lines, spare);
+    Ok(())
+}
+
+/// Leaves in `lines` the object of JSON that they become, if it is shown.
+fn form(json: bool, lines: &mut Vec<u8>, spare: &mut Vec<u8>) -> Result<(), AllocError>
+    ensures ok { OnOk result (lines.new.items ≡ formed json lines.old.items) }
+{
+    if !json {
+        return Ok(());
+    }
+    spare.clear();
+    push_json(lines.as_slice(), spare)?;
+    swap(lines, spare);
+    Ok(())
+}
+
+/// Appends a text to `out`, or nothing if an allocation fails. If `out` is empty and too small, it
+/// gets the memory of the text in place of a copy.
+fn append_or_take(text: &mut Vec<u8>, out: &mut Vec<u8>) -> Result<(), AllocError>
+    ensures ok { OnOk result (out.new.items ≡ out.old.items ++ text.old.items) }
+    ensures err { OnErr result (out.new.items ≡ out.old.items) }
+{
+    if out.is_empty() && out.capacity() < text.len() {
+        swap(text, out);
+        return Ok(());
+    }
+    out.extend_from_slice(text.as_slice())
 }
 
 /// Appends what is shown of the lines of a message at an offset, or nothing if an allocation fails.
+/// Each step leaves its result in `lines`, so a message takes the memory of two of them at a time.
 fn push_placed(
     options: ShowOptions<'_>,
     offset: u64,
-    lines: &[u8],
-    selected: &mut Vec<u8>,
-    located: &mut Vec<u8>,
+    lines: &mut Vec<u8>,
+    spare: &mut Vec<u8>,
     out: &mut Vec<u8>,
 ) -> Result<(), AllocError>
     ensures ok { OnOk result (out.new.items ≡ out.old.items
-        ++ placed_lines (selection_of options.entry) offset lines.now) }
+        ++ placed_lines (selection_of options.entry) offset lines.old.items) }
     ensures err { OnErr result (out.new.items ≡ out.old.items) }
 {
-    selected.clear();
-    if options.is_about_link(lines) {
-        push_remaining(lines, options.omission, selected)?;
-    }
-    located.clear();
-    push_located(options.offsets, offset, selected.as_slice(), located)?;
-    if !options.json {
-        return out.extend_from_slice(located.as_slice());
-    }
-    selected.clear();
-    push_json(located.as_slice(), selected)?;
-    out.extend_from_slice(selected.as_slice())
+    select(options, lines, spare)?;
+    locate(options.offsets, offset, lines, spare)?;
+    form(options.json, lines, spare)?;
+    append_or_take(lines, out)
 }
 
 /// Appends the lines of an accepted message, whose normal text is in the buffers, or nothing if an
 /// allocation fails.
-#[tactic(auto, using(crate::proofs::AllLines::all_lines))]
 fn push_accepted(
     options: ShowOptions<'_>,
     offset: u64,
@@ -180,19 +219,10 @@ fn push_accepted(
         ++ message_lines (selection_of options.entry) (Accepted offset buffers.old.text.items)) }
     ensures err { OnErr result (out.new.items ≡ out.old.items) }
 {
-    nothing_omitted_keeps_all();
-    let Buffers {
-        text,
-        lines,
-        selected,
-        located,
-    } = buffers;
+    let Buffers { text, lines, spare } = buffers;
     lines.clear();
     push_lines(text.as_slice(), options.lines, lines)?;
-    if options.selects_all() && !options.offsets && !options.json {
-        return out.extend_from_slice(lines.as_slice());
-    }
-    push_placed(options, offset, lines.as_slice(), selected, located, out)
+    push_placed(options, offset, lines, spare, out)
 }
 
 /// Appends the lines of a message with a fault of its body, if its type is shown, or nothing if an
@@ -210,12 +240,7 @@ fn push_refused(
         ++ message_lines (selection_of options.entry) (Faulty offset kind frame.now)) }
     ensures err { OnErr result (out.new.items ≡ out.old.items) }
 {
-    let Buffers {
-        lines,
-        selected,
-        located,
-        ..
-    } = buffers;
+    let Buffers { lines, spare, .. } = buffers;
     lines.clear();
     if options
         .lines
@@ -223,7 +248,7 @@ fn push_refused(
     {
         push_faulty(!options.lines.without_numbers, kind, frame, lines)?;
     }
-    push_placed(options, offset, lines.as_slice(), selected, located, out)
+    push_placed(options, offset, lines, spare, out)
 }
 
 /// Keeps the fault of the first message of `bytes`, if none was kept before.

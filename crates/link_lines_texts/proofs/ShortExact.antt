@@ -1,6 +1,6 @@
 -- How long the values of raw attributes are.
-use Rattle.std.proofs.Common.{◌≡◌, ℕ, zero, suc, ◌+◌, ◌*◌, ◌/◌, ◌%◌, ◌^◌, ◌<◌, ◌≤◌, Bool, true, false, cond, List, [], ◌∷◌, ◌++◌, length, take, drop, max, refl, sym, ap, ◌∙◌, arith}
-use Rattle.std.specs.Prelude.{◌==◌, ◌&&◌, ◌||◌, codes, nat_le, nat_lt, not}
+use Rattle.std.proofs.Common.{◌≡◌, ℕ, zero, suc, ◌+◌, ◌*◌, ◌/◌, ◌%◌, ◌^◌, ◌<◌, ◌≤◌, true, false, cond, List, [], ◌∷◌, ◌++◌, length, take, drop, max, ap, arith}
+use Rattle.std.specs.Prelude.{◌==◌, ◌&&◌, codes, nat_le, nat_lt}
 use Rattle.std.specs.Fmt.{decimal}
 use Rattle.std.specs.Net.Addr.{segments_of}
 use Rattle.std.specs.Net.Text.{ipv4_text, ipv6_text}
@@ -14,14 +14,14 @@ use Rattle.attribute_tables_grammar.specs.Shapes.{number}
 use Rattle.link_lines_values.specs.declared.exact.ExactBy.TheVariants as E
 use Rattle.link_lines_values.specs.Bytes.{bytes_text, hex_text, is_zero}
 use Rattle.link_lines_values.specs.Digits.{big_endian, is_number}
-use Rattle.link_lines_values.specs.Exact.{Exact, are_counters, exact_text, label_after, label_text, label_value, pieces_text, raw_value, takes}
+use Rattle.link_lines_values.specs.Exact.{Exact, exact_text, label_after, label_text, label_value, pieces_text, raw_value, takes}
 use Rattle.link_lines_values.specs.Names.{Text, named_number}
-use Rattle.link_lines_values.specs.Records.{Field, FieldShown, counter_name, counters_text, field_text, field_value, fields_text, has_zero_padding, is_counters, slots_text, title_or, total_size}
+use Rattle.link_lines_values.specs.Records.{Field, FieldShown, counter_name, counters_text, field_text, has_zero_padding, is_counters, slots_text, title_or, total_size}
 use Rattle.link_lines_values.specs.Values.{number_value}
-use Rattle.link_lines_texts.specs.Growth.{allowance, are_short_counters, factor, field_most, fields_most, is_short_exact, leaves_space, longest, longest_title}
+use Rattle.link_lines_texts.specs.Growth.{allowance, are_short_counters, factor, field_most, fields_most, is_short_exact, leaves_space, longest_title}
 use Rattle.link_lines_texts.proofs.ShortBytes.{bytes_text_short, hardware_text_short, hex_text_short, ipv4_text_short, ipv6_text_short, quoted_short}
 use Rattle.link_lines_texts.proofs.ShortNumbers.{big_small, named_short, number_small, size_of}
-use Rattle.link_lines_texts.proofs.ShortValues.{IsShort, address_short, both, field_short, fields_short, number_by, one_field, or_bytes, space, value_short}
+use Rattle.link_lines_texts.proofs.ShortValues.{IsShort, address_short, both, field_short, fields_short, one_field, or_bytes, space, value_short}
 
 -- ---- pieces of one size
 

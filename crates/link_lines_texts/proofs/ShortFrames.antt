@@ -1,10 +1,8 @@
 -- How long the lines of frames and of texts are.
-use Rattle.std.proofs.Common.{◌≡◌, ℕ, zero, suc, ◌+◌, ◌*◌, ◌-◌, ◌%◌, ◌^◌, ◌<◌, ◌≤◌, Bool, true, false, cond, List, [], ◌∷◌, ◌++◌, length, take, drop, max, Option, Some, None, refl, sym, ap, subst, ◌∙◌, arith}
+use Rattle.std.proofs.Common.{◌≡◌, ℕ, ◌+◌, ◌*◌, ◌-◌, ◌%◌, ◌^◌, ◌<◌, ◌≤◌, Bool, true, false, cond, List, [], ◌∷◌, ◌++◌, length, take, drop, Option, Some, None, refl, ap, ◌∙◌, arith}
 use Rattle.std.specs.Prelude.{⊤, ◌==◌, ◌&&◌, ◌||◌, codes, decimal, nat_le}
-use Rattle.std.proofs.lemmas.Bool.{and_parts, cond_both, eqb-true, leb-true}
-use Rattle.std.proofs.lemmas.Fmt.{length-decimal-le}
+use Rattle.std.proofs.lemmas.Bool.{and_parts, cond_both, leb-true}
 use Rattle.std.proofs.lemmas.List.{length-append, length-drop, length-take}
-use Rattle.std.proofs.lemmas.Option.{same_Some}
 use Rattle.netlink_packet_core_grammar.specs.Attributes.{nla_align}
 use Rattle.netlink_packet_core_grammar.specs.Bytes.{AreBytes}
 use Rattle.netlink_packet_core_grammar.specs.Frames.{frame_length, frame_type, is_frame}
@@ -30,7 +28,7 @@ use Rattle.link_lines_raw.specs.declared.bodies.TheConstants.{BODIES}
 use Rattle.link_lines_raw.specs.declared.lists.ListedBy.TheVariants as L
 use Rattle.link_lines_raw.specs.declared.raw_tables.RawTable.{RawTable}
 use Rattle.link_lines_raw.specs.Attributes.{record_words}
-use Rattle.link_lines_raw.specs.Bodies.{body_lines as raw_body_lines, first_fitting, header_line as raw_header_line, is_general, is_list_of, is_record_and_list, list_lines_of, record_and_list, record_and_list_lines, row_lines}
+use Rattle.link_lines_raw.specs.Bodies.{body_lines as raw_body_lines, first_fitting, header_line as raw_header_line, is_general, is_record_and_list, list_lines_of, record_and_list, record_and_list_lines, row_lines}
 use Rattle.link_lines_raw.specs.Lines.{Line, line_text, lines_text}
 use Rattle.link_lines_raw.specs.Rows.{RecordLine}
 use Rattle.link_lines_raw.proofs.Spans.{first_line_text, no_text}
@@ -39,10 +37,10 @@ use Rattle.link_lines_texts.specs.declared.format.Scope.{Scope}
 use Rattle.link_lines_texts.specs.Captures.{Choice, is_chosen, shown_lines, text_lines}
 use Rattle.link_lines_texts.specs.Format.{is_canonical_peer}
 use Rattle.link_lines_texts.specs.Frames.{after_code, body_lines, code_lines, flag_names, frame_lines, has_request_flag, has_text, header_line, in_message, is_property_type, link_lines, message_types, numbers_text, or_bytes, or_number, other_lines, property_lines, request_flag_names, request_line, type_text}
-use Rattle.link_lines_texts.specs.Links.{labelled, link_header_line}
+use Rattle.link_lines_texts.specs.Links.{link_header_line}
 use Rattle.link_lines_texts.specs.Lists.{in_peer, list_lines, of_link}
 use Rattle.link_lines_texts.proofs.FrameUnfolding.{by_first_frames, stopped, whole}
-use Rattle.link_lines_texts.specs.Growth.{allowance, factor, is_short_line, joined_size, longest, margin}
+use Rattle.link_lines_texts.specs.Growth.{factor, is_short_line, joined_size, longest}
 use Rattle.link_lines_texts.specs.Laws.{LinesAreShort}
 use Rattle.link_lines_texts.proofs.ShortBytes.{bytes_text_short}
 use Rattle.link_lines_texts.proofs.ShortNumbers.{IsSize, decimal_short, flags_short, name_short, signed_short, text_short}

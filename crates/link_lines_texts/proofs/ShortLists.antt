@@ -1,8 +1,7 @@
 -- How long the lines of the lists in normal texts are.
-use Rattle.std.proofs.Common.{◌≡◌, ℕ, zero, suc, ◌+◌, ◌*◌, ◌-◌, ◌^◌, ◌<◌, ◌≤◌, Bool, true, false, cond, List, [], ◌∷◌, ◌++◌, length, take, drop, Option, Some, None, refl, sym, ap, subst, ◌∙◌, arith}
+use Rattle.std.proofs.Common.{◌≡◌, ℕ, zero, suc, ◌+◌, ◌*◌, ◌-◌, ◌^◌, ◌<◌, ◌≤◌, Bool, true, false, cond, List, [], ◌∷◌, ◌++◌, length, drop, Option, Some, None, refl, arith}
 use Rattle.std.specs.Prelude.{⊤, bytes_eq, codes, decimal, nat_le, slice_index}
 use Rattle.std.proofs.lemmas.Bool.{and_parts, cond_both, leb-true}
-use Rattle.std.proofs.lemmas.Fmt.{length-decimal-le}
 use Rattle.std.proofs.lemmas.List.{length-append, length-drop}
 use Rattle.netlink_packet_core_grammar.specs.Attributes.{Attribute, attribute_length, first_attribute, nla_align, proper_kind}
 use Rattle.netlink_packet_core_grammar.specs.Bytes.{AreBytes}
@@ -23,17 +22,13 @@ use Rattle.link_lines_values.specs.Indents.{indent}
 use Rattle.link_lines_values.specs.Layouts.{layout_fields}
 use Rattle.link_lines_values.specs.Names.{named_number}
 use Rattle.link_lines_values.specs.NumberTexts.{number_texts}
-use Rattle.link_lines_values.specs.Values.{value_text}
-use Rattle.link_lines_raw.specs.Attributes.{after_name, raw_text}
-use Rattle.link_lines_raw.specs.Lines.{lines_text}
-use Rattle.link_lines_raw.specs.Lists.{held_lines, raw_below}
 use Rattle.link_lines_raw.specs.Names.{all_named_rows}
 use Rattle.link_lines_texts.specs.declared.attributes.ListTable.{ListTable}
 use Rattle.link_lines_texts.specs.declared.format.Scope.{Scope}
 use Rattle.link_lines_texts.specs.AttributeNames.{Name, attribute_name_of, data_names, family_names, info_attribute_names, link_names, link_rows, nested_names}
 use Rattle.link_lines_texts.specs.Coverage.{in_each}
-use Rattle.link_lines_texts.specs.Format.{Inside, Inside.Value, Inside.Settings, Inside.Plain, Inside.Held, Inside.Peer, Inside.Nested, Inside.Data, Inside.Statistics, Inside.PortData, can_statistics, if_reached, inside_held, is_canonical_peer, known_inside, of_held, statistics_inside}
-use Rattle.link_lines_texts.specs.Links.{address_families, labelled, layer_types, link_flag_names, link_flags, link_header_line, link_numbers}
+use Rattle.link_lines_texts.specs.Format.{Inside, Inside.Value, Inside.Settings, Inside.Plain, Inside.Held, Inside.Peer, Inside.Nested, Inside.Data, Inside.Statistics, Inside.PortData, can_statistics, if_reached, inside_held, is_canonical_peer, known_inside, statistics_inside}
+use Rattle.link_lines_texts.specs.Links.{address_families, layer_types, link_flag_names, link_flags, link_header_line, link_numbers}
 use Rattle.link_lines_texts.specs.Lists.{attribute_lines, header_inside, in_peer, inside_lines, inside_list, inside_text, inside_under, lines_within, list_inside, list_lines, named_attribute_header, named_attribute_list, named_attribute_text, next_in, next_lines, of_link}
 use Rattle.link_lines_texts.specs.RawTables.{raw_table}
 use Rattle.link_lines_texts.proofs.AttributeNamesDetermined.{found, in_table}

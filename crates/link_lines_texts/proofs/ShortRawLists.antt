@@ -1,8 +1,8 @@
 -- How long the lines of raw lists are.
 use Rattle.std.proofs.Common.{◌≡◌, ℕ, zero, suc, ◌+◌, ◌*◌, ◌-◌, ◌%◌, ◌<◌, ◌≤◌, Bool, true, false, cond, List, [], ◌∷◌, ◌++◌, length, take, drop, Option, Some, None, refl, sym, ap, subst, ◌∙◌, arith}
-use Rattle.std.specs.Prelude.{⊤, ◌==◌, ◌&&◌, codes, nat_le, option_map, replicate}
+use Rattle.std.specs.Prelude.{⊤, ◌==◌, codes, nat_le, option_map}
 use Rattle.std.specs.Fmt.{decimal}
-use Rattle.std.proofs.lemmas.Bool.{and_parts, cond_both, eqb-true, le-leb, leb-true}
+use Rattle.std.proofs.lemmas.Bool.{and_parts, cond_both, le-leb, leb-true}
 use Rattle.std.proofs.lemmas.Fmt.{length-decimal-le}
 use Rattle.std.proofs.lemmas.List.{length-append, length-drop, length-replicate, length-take}
 use Rattle.std.proofs.lemmas.Option.{same_Some}
@@ -23,11 +23,11 @@ use Rattle.link_lines_raw.specs.declared.lists.ListedBy.TheVariants as L
 use Rattle.link_lines_raw.specs.declared.raw_tables.RawTable.{RawTable}
 use Rattle.link_lines_raw.specs.declared.raw_tables.TheConstants.{INDEXED_ACTION, INDEXED_IPV4, INDEXED_IPV6}
 use Rattle.link_lines_raw.specs.declared.rows.RawBy.TheVariants as R
-use Rattle.link_lines_raw.specs.Attributes.{after_name, encapsulation, has_nested_bit, holds_lines, index_name, indexed_row, is_first_record, is_headed, is_next_hop, is_shown, levels_below, named_text, nested_word, next_hop_line, plain_bytes, proper_row, raw_row, raw_text, record_words, row_or_index, unnamed_text}
+use Rattle.link_lines_raw.specs.Attributes.{after_name, encapsulation, has_nested_bit, index_name, indexed_row, is_first_record, is_headed, is_next_hop, is_shown, named_text, nested_word, next_hop_line, plain_bytes, proper_row, raw_row, raw_text, record_words, row_or_index}
 use Rattle.link_lines_raw.specs.Coverage.{in_each}
-use Rattle.link_lines_raw.specs.Lines.{Line, line_text, lines_text}
-use Rattle.link_lines_raw.specs.Lists.{Listed, attributes_if_known, first_bytes, first_part, head_line, head_of, head_text, held_lines, inside_lines, levels_of, lines_inside, lines_within, listed_in, listed_lines, named_head, named_list, next_lines, part_head, part_lines, part_list, part_text, part_with_head, raw_below, shown_head, shown_list}
-use Rattle.link_lines_raw.specs.Names.{Named, NameRowOf, all_named_rows}
+use Rattle.link_lines_raw.specs.Lines.{line_text, lines_text}
+use Rattle.link_lines_raw.specs.Lists.{Listed, attributes_if_known, first_part, head_of, head_text, held_lines, inside_lines, levels_of, lines_inside, lines_within, listed_in, listed_lines, named_head, named_list, next_lines, part_head, part_lines, part_list, part_text, part_with_head, raw_below, shown_head, shown_list}
+use Rattle.link_lines_raw.specs.Names.{Named, all_named_rows}
 use Rattle.link_lines_raw.specs.Rows.{Raw, RecordLine}
 use Rattle.link_lines_raw.specs.Tables.{bridge_rows, cfm_rows, kind_rows, link_rows, multicast_rows, neighbour_rows, raw_rows_of, route_rows, traffic_rows}
 use Rattle.link_lines_raw.proofs.Named.{found_in}

@@ -1,27 +1,24 @@
 -- How long values are on the line of an attribute.
-use Rattle.std.proofs.Common.{◌≡◌, ℕ, zero, suc, ◌+◌, ◌*◌, ◌/◌, ◌%◌, ◌-◌, ◌^◌, ◌<◌, ◌≤◌, Bool, true, false, cond, List, [], ◌∷◌, ◌++◌, length, take, drop, max, refl, sym, ap, ◌∙◌, arith}
-use Rattle.std.specs.Prelude.{◌==◌, ◌&&◌, ◌||◌, codes, nat_le, nat_lt}
+use Rattle.std.proofs.Common.{◌≡◌, ℕ, ◌+◌, ◌*◌, ◌/◌, ◌%◌, ◌-◌, ◌^◌, ◌<◌, ◌≤◌, Bool, true, false, cond, List, [], ◌∷◌, ◌++◌, length, take, drop, refl, ap, arith}
+use Rattle.std.specs.Prelude.{◌==◌, ◌&&◌, codes, nat_le}
 use Rattle.std.specs.Fmt.{decimal, digits}
-use Rattle.std.specs.List.{list_all}
 use Rattle.std.specs.Net.Addr.{segments_of}
 use Rattle.std.specs.Net.Text.{ipv4_text, ipv6_text}
-use Rattle.std.proofs.lemmas.Bool.{and_parts, cond_both, eqb-true, leb-true, ltb-true}
+use Rattle.std.proofs.lemmas.Bool.{and_parts, cond_both, eqb-true, leb-true}
 use Rattle.std.proofs.lemmas.Fmt.{length-decimal-le}
 use Rattle.std.proofs.lemmas.List.{length-append, length-drop, length-take}
 use Rattle.netlink_packet_core_grammar.specs.Bytes.{AreBytes}
 use Rattle.netlink_packet_core_grammar.proofs.Bytes.{AreBytes-drop, AreBytes-take}
 use Rattle.attribute_tables_grammar.specs.Shapes.{number}
-use Rattle.link_lines_values.specs.declared.exact.ExactBy.TheVariants as E
 use Rattle.link_lines_values.specs.declared.fields.FieldShownBy.TheVariants as F
 use Rattle.link_lines_values.specs.declared.values.ShownBy.TheVariants as S
-use Rattle.link_lines_values.specs.Bytes.{address_text, boolean_text, bytes_text, colons, hex_text, is_zero}
+use Rattle.link_lines_values.specs.Bytes.{address_text, bytes_text, hex_text, is_zero}
 use Rattle.link_lines_values.specs.Digits.{big_endian, hex_number, is_number, signed_by, signed_text}
-use Rattle.link_lines_values.specs.Exact.{Exact, are_counters, bridge_id_text, exact_text, is_multiple, is_via, label_after, label_text, label_value, more_labels_text, pieces_text, raw_value, takes, via_text}
 use Rattle.link_lines_values.specs.Flags.{flags_text, word_flags}
 use Rattle.link_lines_values.specs.Names.{Text, bracketed, named_number, named_signed, text_in}
-use Rattle.link_lines_values.specs.Records.{Field, FieldShown, counter_name, counters_text, field_text, field_value, fields_text, group_address, group_text, half_of, handle_text, is_counters, is_hidden, is_record, is_signed_size, record_text, slots_text, title_or, total_size}
-use Rattle.link_lines_values.specs.Values.{Shown, big_endian_flags_value, big_endian_value, flags_and_mask_value, named_flags_value, number_value, optional_byte_value, port_range_value, signed_value, value_text}
-use Rattle.link_lines_texts.specs.Growth.{allowance, are_short_counters, factor, field_most, fields_most, is_short_exact, is_short_value, joined_size, leaves_space, longest, longest_title}
+use Rattle.link_lines_values.specs.Records.{Field, FieldShown, field_text, field_value, fields_text, group_address, group_text, half_of, handle_text, is_hidden, is_signed_size, record_text, total_size}
+use Rattle.link_lines_values.specs.Values.{Shown, flags_and_mask_value, named_flags_value, optional_byte_value, port_range_value, value_text}
+use Rattle.link_lines_texts.specs.Growth.{allowance, factor, field_most, fields_most, is_short_value, joined_size, leaves_space, longest}
 use Rattle.link_lines_texts.proofs.ShortBytes.{boolean_text_short, bytes_text_short, colons_short, hardware_text_short, hex_text_short, ipv4_text_short, ipv6_text_short, padded_address_short, padded_text_short, quoted_short}
 use Rattle.link_lines_texts.proofs.ShortNumbers.{IsSize, big_small, decimal_short, flags_text_short, hex_number_short, hex_short, name_short, named_short, number_small, signed_short, size_of, word_flags_short}
 

@@ -1,6 +1,5 @@
 -- How long lines are at most, by a test of each format, record and row that is computed.
-use Rattle.std.specs.Prelude.{ℕ, zero, suc, ◌+◌, ◌-◌, ◌*◌, ◌&&◌, nat_le, max, Bool, true, false, List, [], ◌∷◌, length}
-use Rattle.std.specs.List.{list_all}
+use Rattle.std.specs.Prelude.{ℕ, ◌+◌, ◌-◌, ◌*◌, ◌&&◌, nat_le, max, Bool, true, List, [], ◌∷◌, length}
 use Rattle.link_lines_parts.specs.Levels.{deepest_level}
 use Rattle.link_lines_values.specs.declared.exact.ExactBy.TheVariants as E
 use Rattle.link_lines_values.specs.declared.fields.FieldShownBy.TheVariants as F

@@ -9,9 +9,8 @@ ROWS, LAWS and COUNTS. The status is 1 if there is another, or if one of these i
 """
 import re
 import sys
-from pathlib import Path
 
-CRATES = Path(__file__).resolve().parents[1] / "crates"
+from definitions import CRATES, IMPORT, imports_of
 
 # Rows as data, by the types of their constants: names and formats of attributes, numbers, flags and fields. The number of a
 # row is beside its name there. That payloads are those of the grammar's tables, and that names differ, is computed.
@@ -33,20 +32,17 @@ LAWS = (
 # How many tables a search for a name goes through.
 COUNTS = (("link_lines_texts/specs/NameSearch.antt", "ALL_LINKS"),)
 
-IMPORT = re.compile(r"^use Rattle\.(\w+)\.specs\.declared\.(?:([\w.]+)\.)?TheConstants(?:\.(\w+))?(?:\.\{([^}]*)\})?(?: as \w+)?$", re.M)
-
 
 def citations():
     """(file, crate and module of the constants, name) of each constant that a definition cites; `*` for all of a type or module."""
     for path in sorted(CRATES.glob("*/specs/**/*.antt")):
-        text = path.read_text(encoding="utf-8")
-        imports = list(IMPORT.finditer(text))
-        if len(imports) != text.count("TheConstants"):
+        lines = [found.group() for found in IMPORT.finditer(path.read_text(encoding="utf-8"))]
+        if sum("TheConstants" in line for line in lines) != path.read_text(encoding="utf-8").count("TheConstants"):
             raise SystemExit("cited_constants: %s cites constants in another form" % path)
-        for crate, module, _, names in (found.groups() for found in imports):
-            source = CRATES / crate / "src" / ("%s.rt" % (module or "lib").replace(".", "/"))
-            for name in (names or "*").split(", "):
-                yield path.relative_to(CRATES).as_posix(), source, name.split(" as ")[0]
+        for crate, modules, name, _ in imports_of(path):
+            if "TheConstants" in modules:
+                module = "/".join(modules[1:modules.index("TheConstants")]) or "lib"
+                yield path.relative_to(CRATES).as_posix(), CRATES / crate / "src" / (module + ".rt"), name or "*"
 
 
 def type_of(source, name):

@@ -43,7 +43,9 @@ import textwrap
 from glob import glob
 from pathlib import Path
 
-TOP = Path(__file__).resolve().parent.parent
+from definitions import definitions_of
+from layers import TOP
+
 PAGES = ["README.md", "CHANGELOG.md", "CONTRIBUTING.md", "docs/*.md", "samples/*.md", "bench/**/*.md", "bindings/**/*.md", "tools/**/*.md"]
 SECONDS = 120
 MARK = re.compile(r"\s*<!--\s*(.*?)\s*-->\s*")
@@ -154,10 +156,8 @@ def whole(name):
 def defining_line(name, path):
     """The number of the line on which a file defines a name, one at its margin first; None if there is no definition."""
     if path.suffix == ".antt":
-        marks = r"(?:(?:abbrev|unfoldable|pub) )*"
-        begins = r"%s(?:%s(?: \{.*?\})? :|(?:record|data) %s)" % (marks, whole(name), whole(name))
-    else:
-        begins = r"(?:[\w()]+ )*(?:fn|struct|enum|trait) %s" % whole(name)
+        return next((each.line for each in definitions_of(path) if each.name == name), None)
+    begins = r"(?:[\w()]+ )*(?:fn|struct|enum|trait) %s" % whole(name)
     lines = path.read_text(encoding="utf-8").split("\n")
     for margin in ("", r"\s+"):
         for number, line in enumerate(lines, 1):

@@ -34,10 +34,10 @@ def outputs(test, library):
     for number in range(1, MOST_REQUESTS):
         process = run(test, LD_PRELOAD=library, REFUSE_AT=str(number))
         last = LAST.search(process.stdout)
-        was_granted = bool(last) and last[1] == "refused"
-        if process.returncode or not last or was_granted and OUT_OF_MEMORY.search(process.stdout):
+        none_refused = bool(last) and last[1] == "refused"
+        if process.returncode or not last or (none_refused and OUT_OF_MEMORY.search(process.stdout)):
             sys.exit("%s\nrefused: FAILED: %s, request %d" % (process.stdout, test, number))
-        if was_granted:
+        if none_refused:
             return
         yield process.stdout[:last.start()].strip() or "nothing asked for"
     sys.exit("refused: FAILED: %s requests memory %d times" % (test, MOST_REQUESTS))

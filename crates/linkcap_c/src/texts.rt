@@ -76,7 +76,7 @@ pub extern "C" fn linkcap_version() -> u32
 /// The format version of normal texts and lines, which `linkcap.h` has as `LINKCAP_FORMAT`.
 #[unsafe(no_mangle)]
 pub extern "C" fn linkcap_format() -> u32
-    ensures { result ≡ 3 }
+    ensures { result ≡ 4 }
 {
     FORMAT
 }

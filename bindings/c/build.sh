@@ -21,7 +21,7 @@ trap 'rm -rf "$work"' EXIT
 ld -r -o "$work/linkcap.o" --whole-archive "$work/liblinkcap_c.a" --no-whole-archive "$layer"
 objcopy --wildcard --keep-global-symbol='linkcap_*' "$work/linkcap.o"
 rm -f "$folder/liblinkcap.a"
-ar rcs "$folder/liblinkcap.a" "$work/linkcap.o"
+ar rcsD "$folder/liblinkcap.a" "$work/linkcap.o"
 "${CC:-cc}" -shared -o "$folder/liblinkcap.so.$version" "$work/linkcap.o" -Wl,--version-script="$here/linkcap.map" \
     -Wl,-soname,"liblinkcap.so.$version" -Wl,--no-undefined -Wl,-z,relro,-z,now -Wl,-z,noexecstack
 ln -sf "liblinkcap.so.$version" "$folder/liblinkcap.so"

@@ -1,0 +1,169 @@
+#!/usr/bin/env bash
+# Tries a release in a new root of Debian: installs its packages there, runs them, and removes them again.
+#
+#     tools/try-release.sh FOLDER [SUITE..]
+#
+# FOLDER was written by tools/release.py. SUITE is trixie if none is named. In each root these have to succeed: the sums; apt-get
+# with all packages for Debian; the commands with which README begins; a golden test with linkgold and one with pytest, both of
+# which have to fail for another capture; the Python package; a program in C, with each library; such golden tests in Go and
+# Rust, from their archives; removal, which leaves no file; then the archive with its install.sh, and the wheel, each in a folder
+# of its own.
+#
+# It needs root, mmdebstrap and a network, and ends with a line and status 0 where they are missing. ./check doesn't run it. A
+# root takes some minutes. The last line is `N passed, M failed, K skipped`; what is skipped is a suite without a root.
+set -uo pipefail
+[ $# -ge 1 ] && [[ $1 != -* ]] || { echo "usage: tools/try-release.sh FOLDER [SUITE..]" >&2; exit 2; }
+release=$(cd "$1" && pwd) || exit 2
+shift
+[ "$(id -u)" -eq 0 ] || { echo "try-release: skipped: needs root"; exit 0; }
+command -v mmdebstrap > /dev/null || { echo "try-release: skipped: no mmdebstrap"; exit 0; }
+work=$(mktemp -d)
+trap 'rm -rf "$work"' EXIT
+passed=0 failed=0 skipped=0
+
+# step NAME COMMAND..: runs a command, counts it, and prints the end of its output if it fails
+step() {
+    local name=$1
+    if "${@:2}" > "$work/log" 2>&1; then
+        passed=$((passed + 1)) && echo "try-release: passed: $name"
+    else
+        failed=$((failed + 1)) && tail -n 20 "$work/log" && echo "try-release: FAILED: $name"
+    fi
+}
+
+# inside COMMANDS: runs commands of the shell in the root, up to the first that fails. In a list with && only a failure of the
+# last one ends them.
+inside() {
+    unshare --pid --fork --mount-proc="$root/proc" env -i PATH=/usr/sbin:/usr/bin:/sbin:/bin HOME=/root LC_ALL=C.UTF-8 \
+        DEBIAN_FRONTEND=noninteractive chroot "$root" sh -euc "$1"
+}
+
+# The names of all files that packages may leave.
+files() { (cd "$root" && find etc usr opt var/lib/python* -not -name '*.cache' 2> /dev/null | LC_ALL=C sort); }
+same_files() { files | diff "$work/before" -; }
+
+make_root() {
+    mmdebstrap --quiet --variant=minbase --include=python3,python3-pip,python3-pytest,gcc,libc6-dev,pkgconf,golang-go,cargo \
+        --aptopt='Acquire::Check-Valid-Until "false"' "$1" "$root" || return
+    mkdir "$root/release" && cp "$release"/* "$root/release"
+}
+
+sample=/usr/share/doc/linkcap/examples/samples
+first="linkcap norm < $sample/lo-request.bin > /tmp/text
+    cmp -l $sample/lo-request.bin /tmp/text > /tmp/changed || true
+    printf '44 200   0\n48 377   0\n' | cmp - /tmp/changed
+    test \"\$(linkcap same $sample/lo-request.bin /tmp/text)\" = same
+    linkshow $sample/lo-request.bin | cmp - $sample/lo-request.lines"
+golden="linkgold $sample/req-veth.lines $sample/req-veth.bin"
+red="status=0; linkgold $sample/req-veth.lines $sample/lo-request.bin || status=\$?; test \$status -eq 1"
+python="python3 -c 'import sys, linkcap
+capture = open(sys.argv[1] + \".bin\", \"rb\").read()
+assert linkcap.lines(capture) == open(sys.argv[1] + \".lines\").read()'"
+# Of these two tests the second has to fail.
+pytest="mkdir -p /tmp/tests && cd /tmp/tests && cp $sample/*.lines . && printf 'def test_equal(linkcap_golden):
+    linkcap_golden(open(\"%s/req-veth.bin\", \"rb\").read(), \"req-veth.lines\", numbers=True)
+def test_other(linkcap_golden):
+    linkcap_golden(open(\"%s/lo-request.bin\", \"rb\").read(), \"req-veth.lines\", numbers=True)\n' $sample $sample > test_golden.py
+    export PYTHONDONTWRITEBYTECODE=1 && python3 -m pytest -q -p no:cacheprovider -k test_equal &&
+    status=0 && { python3 -m pytest -q -p no:cacheprovider > failures || status=\$?; } && test \$status -eq 1 &&
+    grep 'isn.t that of the golden file' failures && grep '1 failed, 1 passed' failures"
+in_c="cd /tmp
+    printf '#include <linkcap.h>\nint main(void) { return linkcap_version() != LINKCAP_VERSION; }\n' > version.c
+    gcc -o shared version.c \$(pkg-config --cflags --libs linkcap)
+    ./shared
+    gcc -o static version.c \$(pkg-config --cflags --libs linkcap-static)
+    ./static
+    ! ldd ./static | grep linkcap"
+# Each of the next two runs a test that has to pass, and then one more, which has to fail.
+in_go="mkdir /tmp/linkcap-go && tar -C /tmp/linkcap-go --strip-components=1 -xzf /release/linkcap-go-*.tar.gz
+    cd /tmp/go && export GOPROXY=off GOFLAGS=-mod=mod && go test -run Equal . && ! go test . > failures && grep 'FAIL: TestOther' failures"
+in_rust="mkdir /tmp/linkcap-rust && tar -C /tmp/linkcap-rust --strip-components=1 -xzf /release/linkcap-rust-*.tar.gz
+    cd /tmp/rust && cargo test -q --offline equal && ! cargo test -q --offline > failures 2>&1 && grep 'other .*FAILED\|    other' failures"
+archive="tar -C /tmp -xzf /release/linkcap-[0-9]*.tar.gz
+    cd /tmp/linkcap-[0-9]*
+    ./install.sh /opt/linkcap
+    export PATH=/opt/linkcap/bin:\$PATH PKG_CONFIG_PATH=/opt/linkcap/lib/pkgconfig
+    linkcap norm < samples/req-veth.bin | cmp - samples/req-veth.bin
+    linkgold samples/req-veth.lines samples/req-veth.bin
+    gcc -o /tmp/static /tmp/version.c \$(pkg-config --cflags --libs linkcap-static)
+    /tmp/static"
+
+# Writes the tests in Go and in Rust, which compare two captures with the lines of the first one, to /tmp of the root.
+write_tests() {
+    mkdir -p "$root/tmp/go" "$root/tmp/rust/src"
+    printf 'module golden\n\ngo 1.19\n\nrequire linkcap.invalid/linkcap v0.0.0\n\nreplace linkcap.invalid/linkcap => ../linkcap-go\n' \
+        > "$root/tmp/go/go.mod"
+    cat > "$root/tmp/go/golden_test.go" << END
+package golden
+
+import (
+	"os"
+	"testing"
+
+	"linkcap.invalid/linkcap"
+	"linkcap.invalid/linkcap/linkcaptest"
+)
+
+func golden(t *testing.T, name string) {
+	capture, err := os.ReadFile("$sample/" + name)
+	if err != nil {
+		t.Fatal(err)
+	}
+	linkcaptest.GoldenLines(t, capture, "$sample/req-veth.lines", linkcap.LineOptions{})
+}
+
+func TestEqual(t *testing.T) { golden(t, "req-veth.bin") }
+func TestOther(t *testing.T) { golden(t, "lo-request.bin") }
+END
+    printf '[package]\nname = "golden"\nversion = "1.0.0"\nedition = "2021"\n\n[dependencies]\nlinkcap = { path = "../linkcap-rust" }\n' \
+        > "$root/tmp/rust/Cargo.toml"
+    cat > "$root/tmp/rust/src/lib.rs" << END
+fn compare(name: &str) {
+    let capture = std::fs::read(format!("$sample/{}", name)).unwrap();
+    let lines = linkcap::lines(&capture, linkcap::DEFAULT_LIMIT).unwrap();
+    assert_eq!(lines, std::fs::read_to_string("$sample/req-veth.lines").unwrap());
+}
+
+#[test]
+fn equal() {
+    compare("req-veth.bin");
+}
+
+#[test]
+fn other() {
+    compare("lo-request.bin");
+}
+END
+}
+
+try_suite() {
+    root=$work/$1
+    if ! make_root "$1" > "$work/log" 2>&1; then
+        tail -n 3 "$work/log"
+        skipped=$((skipped + 1))
+        echo "try-release: skipped: no root of $1"
+        return
+    fi
+    files > "$work/before"
+    step "$1: sums" inside "cd /release && sha256sum -c SHA256SUMS"
+    step "$1: apt-get install" inside "apt-get install -y --no-install-recommends /release/*.deb"
+    step "$1: linkcap and linkshow, as README begins" inside "$first"
+    step "$1: linkgold" inside "$golden"
+    step "$1: linkgold, another capture" inside "$red"
+    step "$1: Python" inside "$python $sample/req-veth"
+    step "$1: pytest" inside "$pytest"
+    step "$1: C" inside "$in_c"
+    write_tests
+    step "$1: Go" inside "$in_go"
+    step "$1: Rust" inside "$in_rust"
+    step "$1: apt-get purge" inside 'apt-get purge -y $(for file in /release/*.deb; do dpkg-deb -f "$file" Package; done)'
+    step "$1: no file is left" same_files
+    step "$1: the archive" inside "$archive"
+    step "$1: the wheel" inside "pip install --no-index --target /opt/wheel /release/*.whl && cd /tmp/linkcap-[0-9]*/samples &&
+        PYTHONPATH=/opt/wheel $python req-veth"
+    rm -rf "$root"
+}
+
+for suite in "${@:-trixie}"; do try_suite "$suite"; done
+echo "$passed passed, $failed failed, $skipped skipped"
+[ "$failed" -eq 0 ]

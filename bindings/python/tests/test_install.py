@@ -23,7 +23,7 @@ def run(command: List[str], **changes: Optional[str]) -> "subprocess.CompletedPr
         environment.pop(name, None)
         if value is not None:
             environment[name] = value
-    return subprocess.run(command, env=environment, cwd=tempfile.gettempdir(), stdout=subprocess.PIPE,
+    return subprocess.run(command, env=environment, cwd=os.sep, stdout=subprocess.PIPE,
                           stderr=subprocess.PIPE, universal_newlines=True, check=False)
 
 

@@ -17,6 +17,7 @@ FAMILIES = [0, 0, 0, 0, 7, 10, 2, 45, 17]
 LAYERS = [*tables.LAYER_TYPES]
 DEEPEST = 4
 CORE_SHARE = 10             # a frame and a walk for so many bodies
+UNREPORTED = b"\xff" * 4     # a setting of a virtual function that the driver doesn't report
 
 
 def attribute(rng, kind, payload):
@@ -46,6 +47,8 @@ def shaped(rng, name):
              "raw": [0, 4, 6, 16, 20], "never": [0, 4]}.get(word) or [int(number) for number in numbers]
     if word in ("resized", "at_most"):
         sizes = [*sizes, sizes[0] // 2 // 4 * 4, sizes[0] + 4]
+    if word == "id_and_boolean" and rng.random() < 0.1:
+        return raw_bodies.some_bytes(rng, 4) + UNREPORTED
     size = size_of(rng, sizes)
     if rng.random() < 0.5:
         return rng.randrange(12).to_bytes(16, rng.choice(["little", "big"]))[-size:].rjust(size, b"\0") if size <= 16 and size \

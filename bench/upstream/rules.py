@@ -161,6 +161,18 @@ def _(e):
         and e.ours.fields == e.theirs.fields
 
 
+@rule("settings that a driver doesn't report", "DIFFERENCES: A setting of a virtual function .. that is 0xffffffff is disabled")
+def _(e):
+    if e.payload[4:8] != b"\xff" * 4:
+        return False
+    if e.is_written:
+        return e.place == "written link/VfInfoList/LinkVfInfo" and e.proper in (4, 7, 9) and \
+            e.ours_written == (e.proper, e.payload[:4] + b"\1\0\0\0") and e.theirs_written == (e.proper, e.payload[:4] + bytes(4))
+    ours, theirs = e.ours.fields, e.theirs.fields
+    return is_record(e.ours, "VfInfoSetting") and is_record(e.theirs, "VfInfo" + e.place.rsplit("/", 1)[-1]) and \
+        ours["vf_id"] == theirs["vf_id"] and is_node(ours["enabled"], "true", 0) and is_node(theirs["enabled"], "false", 0)
+
+
 @rule("numbers without a sign", "DIFFERENCES: every other number of a link is unsigned")
 def _(e):
     return isinstance(e.ours, int) and isinstance(e.theirs, int) and e.theirs < 0 and e.ours == e.theirs + 2 ** 32

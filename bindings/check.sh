@@ -138,6 +138,8 @@ check_installation() {
     PATH=$work/prefix/bin:$PATH linkgold samples/req-veth.lines samples/req-veth.bin || return
     cmp man/linkshow.1 "$work/prefix/share/man/man1/linkshow.1" || return
     cmp man/linkcap.3 "$work/prefix/share/man/man3/linkcap_normalize_some.3" || return
+    cmp man/linkcap.zsh "$work/prefix/share/zsh/site-functions/_linkcap" || return
+    cmp man/linkcap.fish "$work/prefix/share/fish/vendor_completions.d/linkgold.fish" || return
     bash -c '. "$1"; complete -p linkcap linkshow' - "$work/prefix/share/bash-completion/completions/linkcap"
 }
 

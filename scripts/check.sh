@@ -321,6 +321,10 @@ expect "no pcap file" 1 "linkrec: no pcap or pcapng file" "$linkrec" pcap a < /d
 expect "a missing file" 1 "linkrec: missing: No such file or directory" "$linkrec" pcap missing < /dev/null
 expect "cut by offset" 0 "" "$linkrec" cut --at 48 three < <(cat "$work/a" "$work/a")
 expect "cut by type" 0 "" "$linkrec" cut --type getlink three < /dev/null
+succeeds "cut by each type that linkshow names" bash -c 'for word in $(python3 -c "$1" "$2"); do
+    "$0" cut --type "$word" none && "$LINKSHOW" --only "$word" none 2> /dev/null || exit; done' "$linkrec" \
+    'import sys; sys.path.append(sys.argv[1]); from tables import TYPES; print(*(name.split("_")[1].lower() for name in TYPES.values()))' \
+    "$top/tools/oracle"
 expect "cut at no message" 1 "linkrec: no message starts at 4" "$linkrec" cut --at 4 a < "$work/a"
 expect "no offset" 2 "linkrec: no offset: x" "$linkrec" cut --at 4,x a < /dev/null
 expect "an unknown type" 2 "linkrec: no type of messages: link" "$linkrec" cut --type link a < /dev/null

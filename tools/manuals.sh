@@ -1,7 +1,6 @@
 #!/usr/bin/env bash
-# Checks the manuals and the completion in man/: that man prints no warning for a page, that its synopsis is the usage line of
-# the program's source, that completion knows each option and completes names of files, and that linkcap(3) has each call,
-# type and constant of linkcap.h.
+# Checks the manuals in man/: that man prints no warning for a page, that its synopsis is the usage line of the program's source
+# or that it has each option of --help, and that linkcap(3) has each call, type and constant of linkcap.h.
 #
 #     tools/manuals.sh
 #
@@ -27,19 +26,11 @@ usage() {
         | tr '\0' '\n' | sed -nE 's/ +$//; s/^.*usage: //p' | sort -u | tr '[:upper:]' '[:lower:]'
 }
 
-# completions COMMAND WORD..: what completion offers for the last word
-completions() {
-    bash -c '. man/linkcap.bash; COMP_WORDS=("$@"); COMP_CWORD=$(($# - 1)); "_$1"; printf "%s\n" "${COMPREPLY[@]}"' - "$@"
-}
-
 for program in linkcap linkshow; do
     warnings=$(man --warnings -E UTF-8 -l -Tutf8 -Z "man/$program.1" 2>&1 > /dev/null)
     [ -z "$warnings" ] || fault "man/$program.1: $warnings"
     [ "$(synopsis $program)" = "$(usage $program)" ] \
         || fault "man/$program.1 has '$(synopsis $program)', the source '$(usage $program)'"
-    for option in $(grep -oE -- '--[a-z][a-z-]+' <<< "$(usage $program)"); do
-        grep -qx -- "$option" <<< "$(completions "$program" --)" || fault "man/linkcap.bash: $program has $option"
-    done
 done
 for program in linkdiff linkrec linkgold linkjson; do
     warnings=$(man --warnings -E UTF-8 -l -Tutf8 -Z "man/$program.1" 2>&1 > /dev/null)
@@ -51,13 +42,12 @@ options() { "$@" --help | grep -oE -- '--[a-z][a-z-]+' | sort -u; }
 is_documented() { man -l "man/$2.1" | col -bx | grep -- "$1" > /dev/null; }
 for program in linkdiff linkgold linkjson; do
     for option in $(options "scripts/$program"); do
-        grep -qx -- "$option" <<< "$(completions "$program" --)" || fault "man/linkcap.bash: $program has $option"
         [ "$option" = --help ] || is_documented "$option" "$program" || fault "man/$program.1: no $option"
     done
 done
 for command in run effect dump watch pcap strace cut split; do
     for option in $(options scripts/linkrec "$command"); do
-        grep -qx -- "$option" <<< "$(completions linkrec "$command" --)" || fault "man/linkcap.bash: linkrec $command has $option"
+        [ "$option" = --help ] || is_documented "$option" linkrec || fault "man/linkrec.1: no $option"
     done
 done
 # calls: the prototypes in the input, without white space
@@ -73,7 +63,5 @@ names=$(grep -oE '\bLINKCAP_[A-Z_]+[A-Z]\b|\bstruct linkcap_[a-z]+ \{' <<< "$hea
 for name in $(sort -u <<< "$names"); do
     grep -qw -- "$name" <<< "$page" || fault "man/linkcap.3: no $name"
 done
-[ "$(completions linkcap n)" = norm ] || fault "man/linkcap.bash: linkcap n is norm"
-[ "$(completions linkcap same READ)" = README.md ] || fault "man/linkcap.bash: linkcap same takes files"
 [ "$failed" -eq 0 ] && echo "manuals: no faults"
 exit "$failed"

@@ -40,9 +40,9 @@ from debian import (ARCHITECTURE, CLEAN, COMPILE, TRIPLET, Entry, Package, compr
 from layers import TOP, crates
 
 PROGRAMS = ["linkcap", "linkshow", "linkdiff", "linkrec", "linkgold", "linkjson"]
-OF_A_PROGRAM = ["bin/%s", "share/man/man1/%s.1", "share/bash-completion/completions/%s"]
+OF_A_PROGRAM = ["bin/%s", "share/man/man1/%s.1", "share/bash-completion/completions/%s", "share/fish/vendor_completions.d/%s.fish"]
 # Files of an installation, by the package that has them
-TOOLS = [pattern % program for program in PROGRAMS for pattern in OF_A_PROGRAM] + ["share/linkcap/*.py"]
+TOOLS = [pattern % program for program in PROGRAMS for pattern in OF_A_PROGRAM] + ["share/zsh/site-functions/_linkcap", "share/linkcap/*.py"]
 DEVELOPMENT = ["include/linkcap.h", "lib/liblinkcap.a", "lib/liblinkcap.so", "lib/pkgconfig/linkcap*.pc", "share/man/man3/linkcap*.3"]
 PASSED = re.compile(r"\d+ passed, 0 failed, \d+ skipped")
 UNCHECKED = "unchecked"
@@ -156,7 +156,9 @@ def in_debian(entries):
     """Files of an installation where Debian has them."""
     library = "lib/" + TRIPLET
     entries = manual_entries(with_prefix(entries, b"/usr", library.encode()))
-    return {"usr/" + re.sub("^lib(?=/)", library, path): entry for path, entry in entries.items()}
+    folders = {"lib": library, "share/zsh/site-functions": "share/zsh/vendor-completions"}
+    return {"usr/" + re.sub("^(lib|share/zsh/site-functions)(?=/)", lambda part: folders[part[1]], path): entry
+            for path, entry in entries.items()}
 
 
 def python_entries():

@@ -1,0 +1,131 @@
+# Completion in fish for linkcap, linkshow, linkdiff, linkrec, linkgold and linkjson. Each of them loads it, under its own name.
+
+for program in linkcap linkshow linkdiff linkrec linkgold linkjson
+    complete -c $program -e
+end
+
+# __linkcap_is COMMAND..: whether the command of linkrec is one of these; without one, whether there is none yet
+function __linkcap_is
+    set -l words (commandline -opc)
+    if set -q argv[1]
+        set -q words[2]; and contains -- $words[2] $argv
+    else
+        not set -q words[2]
+    end
+end
+
+# __linkcap_list WORD..: words for a list with commas between them, each after what the list has already
+function __linkcap_list
+    set -l token (commandline -ct)
+    set -l before (string replace -r '[^,]*$' '' -- "$token")
+    printf '%s\n' $before$argv
+end
+
+function __linkcap_types
+    __linkcap_list $__linkcap_type_names
+end
+
+function __linkcap_groups
+    __linkcap_list numbers counters indexes
+end
+
+# What completes the command after --
+function __linkcap_command
+    set -l words (commandline -opc)
+    set -l token (commandline -ct)
+    set -l at (contains -i -- -- $words)
+    complete -C (string join -- ' ' (string escape -- $words[(math $at + 1)..-1]) "$token")
+end
+
+# ---- lists, by tools/completion.py
+complete -c linkshow -l only -x -a '(__linkcap_types)' -d "show only messages of these types, by name or number"
+complete -c linkshow -l link -x -d "show only messages about this link, by name or index"
+complete -c linkshow -l without -x -a '(__linkcap_groups)' -d "leave out these attributes, by name, and these groups"
+complete -c linkshow -l without-numbers -d "leave out sequence and port numbers, which change from run to run"
+complete -c linkshow -l offsets -d "show each message's offset in bytes"
+complete -c linkshow -l keep-going -d "show messages with a fault in their body too, with the reason, and the messages after them"
+complete -c linkshow -l json -d "write an object of JSON for each message, a line each"
+complete -c linkshow -l limit -x -d "the greatest length of a message in bytes, from 16 to 4294967295"
+complete -c linkshow -l kernels -d "first note on standard error each encoding that kernels treat differently from its normal text"
+complete -c linkshow -l help -d "this text"
+complete -c linkshow -l version -d "the version of linkshow, and the format version of its lines"
+complete -c linkdiff -s h -l help -d "show this help message and exit"
+complete -c linkdiff -s q -l quiet -d "prints nothing"
+complete -c linkdiff -l without-numbers -d "sequence and port numbers don't count"
+complete -c linkdiff -l without -x -a '(__linkcap_groups)' -d "these attributes don't count, or what the groups numbers, counters and indexes name"
+complete -c linkdiff -l link -x -d "messages about this link alone count"
+complete -c linkdiff -l only -x -a '(__linkcap_types)' -d "messages of these types alone count"
+complete -c linkdiff -l ignore-order -d "compares the attributes of each list without their order"
+complete -c linkdiff -l empty -d "a side without messages is no failure"
+complete -c linkdiff -l offsets -d "heads each hunk with the offset of its message too"
+complete -c linkdiff -l keep-going -d "messages with a fault in their body count too, by its bytes"
+complete -c linkdiff -l limit -x -d "the greatest length of a message in bytes, as linkshow has it"
+complete -c linkdiff -l kernels -d "notes what kernels treat differently, as linkshow has it"
+complete -c linkdiff -l label -x -d "names a side in the diff"
+complete -c linkdiff -l color -x -a 'always auto never'
+complete -c linkrec -s h -l help -d "show this help message and exit"
+complete -c linkrec -n "__linkcap_is run" -s h -l help -d "show this help message and exit"
+complete -c linkrec -n "__linkcap_is run" -s o -l output -r -d "where the sent messages go"
+complete -c linkrec -n "__linkcap_is run" -l answers -r -d "where the received messages go"
+complete -c linkrec -n "__linkcap_is run" -l netns -d "in a new network namespace"
+complete -c linkrec -n "__linkcap_is run" -l setup -x -d "a shell command to run in that namespace before, which isn't recorded"
+complete -c linkrec -n "__linkcap_is run" -s q -l quiet -d "doesn't report refused requests"
+complete -c linkrec -n "__linkcap_is run" -l attach -x -d "record a running program until it ends or Ctrl-C"
+complete -c linkrec -n "__linkcap_is effect" -s h -l help -d "show this help message and exit"
+complete -c linkrec -n "__linkcap_is effect" -s o -l output -r -d "where the links go"
+complete -c linkrec -n "__linkcap_is effect" -l setup -x -d "a shell command to run in that namespace before, which isn't recorded"
+complete -c linkrec -n "__linkcap_is dump" -s h -l help -d "show this help message and exit"
+complete -c linkrec -n "__linkcap_is dump" -l all -d "addresses, routes, neighbours, rules and all other tables too"
+complete -c linkrec -n "__linkcap_is dump" -l port -x -d "the socket's port number, which replies carry"
+complete -c linkrec -n "__linkcap_is watch" -s h -l help -d "show this help message and exit"
+complete -c linkrec -n "__linkcap_is watch" -l all -d "addresses, routes, neighbours, rules and all other tables too"
+complete -c linkrec -n "__linkcap_is watch" -l time -d "when each message came, with its offset and type, on standard error"
+complete -c linkrec -n "__linkcap_is watch" -l port -x -d "the socket's port number, which replies carry"
+complete -c linkrec -n "__linkcap_is pcap" -s h -l help -d "show this help message and exit"
+complete -c linkrec -n "__linkcap_is strace" -s h -l help -d "show this help message and exit"
+complete -c linkrec -n "__linkcap_is strace" -s o -l output -r -d "where the sent messages go"
+complete -c linkrec -n "__linkcap_is strace" -l answers -r -d "where the received messages go"
+complete -c linkrec -n "__linkcap_is cut" -s h -l help -d "show this help message and exit"
+complete -c linkrec -n "__linkcap_is cut" -l at -x -d "without those that start at these offsets, in bytes"
+complete -c linkrec -n "__linkcap_is cut" -l type -x -a '(__linkcap_types)' -d "without those of these types, by name or number"
+complete -c linkrec -n "__linkcap_is cut" -l legal -d "without those that linkcap finds invalid, which are reported"
+complete -c linkrec -n "__linkcap_is split" -s h -l help -d "show this help message and exit"
+complete -c linkgold -s h -l help -d "show this help message and exit"
+complete -c linkgold -l update -d "writes the golden file"
+complete -c linkgold -l effect -d "compares the links that exist after the command, and not its requests"
+complete -c linkgold -l setup -x -d "a shell command to run in the namespace before, which isn't recorded"
+complete -c linkgold -l here -d "records in the caller's network namespace"
+complete -c linkgold -l may-fail -d "records a command that fails, too"
+complete -c linkgold -l legal -d "leaves out messages with an invalid body, which are reported"
+complete -c linkgold -l numbers -d "keeps numbers"
+complete -c linkgold -l indexes -d "keeps indexes"
+complete -c linkgold -l counters -d "keeps counters"
+complete -c linkgold -l without -x -a '(__linkcap_groups)' -d "leaves out these attributes too"
+complete -c linkgold -l only -x -a '(__linkcap_types)' -d "messages of these types alone count"
+complete -c linkgold -l link -x -d "messages about this link alone count"
+complete -c linkgold -l ignore-order -d "compares the attributes of each list without their order"
+complete -c linkjson -s h -l help -d "show this help message and exit"
+complete -c linkjson -l without -x -a '(__linkcap_groups)' -d "without these attributes, or what the groups numbers, counters and indexes name"
+complete -c linkjson -l without-numbers -d "as --without numbers"
+complete -c linkjson -l link -x -d "messages about this link alone"
+complete -c linkjson -l only -x -a '(__linkcap_types)' -d "messages of these types alone, as linkshow has it"
+complete -c linkjson -l offsets -d "each message's offset in bytes, as linkshow has it"
+complete -c linkjson -l keep-going -d "messages with a fault in their body too, with the reason, and those after them"
+complete -c linkjson -l limit -x -d "the greatest length of a message in bytes, as linkshow has it"
+complete -c linkrec -n "__linkcap_is" -a run -d "Records the route messages that a command sends"
+complete -c linkrec -n "__linkcap_is" -a effect -d "Writes the links of a new network namespace after a command ran in it"
+complete -c linkrec -n "__linkcap_is" -a dump -d "Writes the kernel's links"
+complete -c linkrec -n "__linkcap_is" -a watch -d "Writes notifications about links as they come, until Ctrl-C or for some seconds"
+complete -c linkrec -n "__linkcap_is" -a pcap -d "Writes the route messages of a pcap or pcapng file of an nlmon device, or of cooked packets"
+complete -c linkrec -n "__linkcap_is" -a strace -d "Writes the route messages that a traced program sent"
+complete -c linkrec -n "__linkcap_is" -a cut -d "Writes a capture without some of its messages"
+complete -c linkrec -n "__linkcap_is" -a split -d "Cuts a long capture between messages into files of about SIZE bytes, and prints the offset and name of each"
+set -g __linkcap_type_names noop error done overrun tstamp newlink dellink getlink setlink newaddr deladdr getaddr newroute delroute getroute newneigh delneigh getneigh newrule delrule getrule newqdisc delqdisc getqdisc newtclass deltclass gettclass newtfilter deltfilter gettfilter newaction delaction getaction newprefix newmulticast delmulticast getmulticast newanycast delanycast getanycast newneightbl getneightbl setneightbl newnduseropt newaddrlabel deladdrlabel getaddrlabel getdcb setdcb newnetconf delnetconf getnetconf newmdb delmdb getmdb newnsid delnsid getnsid newstats getstats setstats newcachereport newchain delchain getchain newnexthop delnexthop getnexthop newlinkprop dellinkprop getlinkprop newvlan delvlan getvlan newnexthopbucket delnexthopbucket getnexthopbucket newtunnel deltunnel gettunnel
+# ---- end of lists
+
+complete -c linkcap -n "test (count (commandline -opc)) = 1" -f -a "norm\t'write the normal text of standard input' same\t'report whether two captures mean the same'"
+complete -c linkcap -n "not contains -- same (commandline -opc)" -f
+complete -c linkrec -n __linkcap_is -f
+complete -c linkrec -n "__linkcap_is dump watch" -f
+complete -c linkrec -n "__linkcap_is run effect; and contains -- -- (commandline -opc)" -x -a "(__linkcap_command)"
+complete -c linkgold -n "contains -- -- (commandline -opc)" -x -a "(__linkcap_command)"

@@ -1,12 +1,11 @@
 """Writes packages for Debian, from files in memory, so that equal files give equal bytes (tools/release.py).
 
-It needs dpkg-deb, and readelf for the C library's version.
+It needs dpkg-deb.
 """
 import gzip
 import hashlib
 import io
 import os
-import re
 import subprocess
 import tempfile
 from collections import namedtuple
@@ -56,19 +55,6 @@ def manual_entries(entries):
         else:
             result[path + ".gz"] = Entry(compressed(entry.content))
     return result
-
-
-def libc_version(entries):
-    """The least version of the C library that has all symbols which these ELF files need."""
-    needed = []
-    for entry in entries.values():
-        if entry.content.startswith(b"\x7fELF"):
-            with tempfile.NamedTemporaryFile() as file:
-                file.write(entry.content)
-                file.flush()
-                table = subprocess.run(["readelf", "--version-info", file.name], stdout=subprocess.PIPE, text=True, check=True).stdout
-            needed += [tuple(map(int, version.split("."))) for version in re.findall(r"\bGLIBC_([\d.]+)", table)]
-    return ".".join(map(str, max(needed, default=(2, 14))))
 
 
 def control_text(package, version, maintainer):

@@ -5,18 +5,18 @@
     tools/release.py --compare FOLDER    builds again, and compares each file of a release with it
         --tree PREFIX                    takes what ./install PREFIX installed, in place of a new build
 
-FOLDER gets the archive (with install.sh), four packages for Debian, the wheel with the library inside, the Go module and the
-Rust crate, which find an installed library, SHA256SUMS, and PROVED.txt: the commit, the kit, what `./check` printed last, a
-sum of each crate's sources, and what is trusted. The version is the first one in CHANGELOG.md. `./check` leaves what it
-printed in the cache of tools/build.py, if it passed at a commit without changes. If it hasn't, for this commit and kit, or
-if there is `--tree`, the word `unchecked` is in the names.
+FOLDER gets the archive (with install.sh), four packages for Debian, the wheel with the library inside, the Python package's
+sources, the Go module and the Rust crate, which find an installed library, SHA256SUMS, and PROVED.txt: the commit, the kit,
+what `./check` printed last, what the programs need, a sum of each crate's sources, and what is trusted. The version is the
+first one in CHANGELOG.md. `./check` leaves what it printed in the cache of tools/build.py, if it passed at a commit without
+changes. If it hasn't, for this commit and kit, or if there is `--tree`, the word `unchecked` is in the names.
 
 The bytes depend only on what was built, the commit, and the versions of the tools that PROVED.txt lists: files have the
 commit's time, root as their owner, and a fixed order and modes. A file in which the folder of this checkout, or of the kit,
-occurs is refused. `--compare` takes from FOLDER what `./check` printed. It prints where files differ, with cmp, and the
-status is 1 if one does.
+occurs is refused. `--compare` takes from FOLDER what `./check` printed. It prints where files differ, with cmp, and which
+tools have other versions. The status is 1 if a file differs, and 3 if one does and tools have other versions.
 
-It needs the kit (command rt), dpkg-deb, readelf, cmp, git, and what ./install needs; and no uncommitted changes.
+It needs the kit (command rt), dpkg-deb, xz, readelf, cmp, git, and what ./install needs; and no uncommitted changes.
 """
 import argparse
 import hashlib
@@ -30,24 +30,41 @@ import subprocess
 import sys
 import tarfile
 import tempfile
-import zipfile
 import zlib
 from pathlib import Path
 
 from build import CACHE, SOURCES
-from debian import (ARCHITECTURE, CLEAN, COMPILE, TRIPLET, Entry, Package, compressed, documentation, libc_version, manual_entries,
-                    write_package)
+from debian import ARCHITECTURE, CLEAN, COMPILE, TRIPLET, Entry, Package, compressed, documentation, manual_entries, write_package
 from layers import TOP, crates
+from needs import libc_version, needs_lines
+from release_compare import PROVED, SUMS, compare, stated
 
 PROGRAMS = ["linkcap", "linkshow", "linkdiff", "linkrec", "linkgold", "linkjson"]
 OF_A_PROGRAM = ["bin/%s", "share/man/man1/%s.1", "share/bash-completion/completions/%s", "share/fish/vendor_completions.d/%s.fish"]
 # Files of an installation, by the package that has them
-TOOLS = [pattern % program for program in PROGRAMS for pattern in OF_A_PROGRAM] + ["share/zsh/site-functions/_linkcap", "share/linkcap/*.py"]
-DEVELOPMENT = ["include/linkcap.h", "lib/liblinkcap.a", "lib/liblinkcap.so", "lib/pkgconfig/linkcap*.pc", "share/man/man3/linkcap*.3"]
+TOOLS = [pattern % program for program in PROGRAMS for pattern in OF_A_PROGRAM]
+TOOLS += ["share/zsh/site-functions/_linkcap", "share/linkcap/*.py"]
+DEVELOPMENT = ["include/linkcap.h", "lib/liblinkcap.a", "lib/liblinkcap.so", "lib/pkgconfig/linkcap*.pc",
+               "share/man/man3/linkcap*.3"]
 PASSED = re.compile(r"\d+ passed, 0 failed, \d+ skipped")
 UNCHECKED = "unchecked"
 OF_TESTS = re.compile(r"_test\.go$|_test/|/tests/|/route_example/")
-TOOLS_OF_A_BUILD = [os.environ.get("CC", "cc"), "ld", "objcopy", "ar", "dpkg-deb"]
+# The programs whose versions may change bytes: ldd has the C library's, whose start files are linked, and xz that of liblzma.
+TOOLS_OF_A_BUILD = [os.environ.get("CC", "cc"), "ld", "objcopy", "ar", "ldd", "dpkg-deb", "xz"]
+README = """%s: compares, normalises and shows captures of netlink link messages.
+
+./install.sh PREFIX copies bin, include, lib and share to PREFIX. Without it:
+
+    bin/linkshow samples/lo-request.bin
+    man -l share/man/man1/linkcap.1
+
+What the programs and the library need:
+
+%s
+
+linkdiff, linkrec, linkgold and linkjson are scripts: they need Python 3.8 or later, and linkrec and linkgold also strace to
+record a command. PROVED.txt, beside this archive, names the commit that was proved, and what is trusted.
+"""
 
 
 def output(*command):
@@ -83,12 +100,6 @@ def result_of_check(commit, kit):
     except OSError:
         return UNCHECKED
     return lines[1] if len(lines) == 2 and lines[0] == kit and PASSED.fullmatch(lines[1]) else UNCHECKED
-
-
-def stated(folder, word):
-    """What PROVED.txt of a release says after a word."""
-    proved = (folder / "PROVED.txt").read_text(encoding="utf-8")
-    return re.search(r"^%s +(.+)$" % word, proved, re.M)[1]
 
 
 # ---- files
@@ -148,7 +159,8 @@ def write_tarball(release, entries, folder):
     """Writes the archive. Its files for pkg-config find the prefix by their own folder."""
     name = "linkcap-%s-linux-x86_64" % release.named("-")
     files = {**with_prefix(entries, b"${pcfiledir}/../..", b"lib"), **samples(), "LICENSE": Entry(read("LICENSE")),
-             "CHANGELOG.md": Entry(read("CHANGELOG.md")), "install.sh": Entry(read("tools/install_release.sh"), None, True)}
+             "CHANGELOG.md": Entry(read("CHANGELOG.md")), "install.sh": Entry(read("tools/install_release.sh"), None, True),
+             "README.txt": Entry((README % (name, "\n".join(needs_lines(entries)))).encode())}
     write_archive(folder / (name + ".tar.gz"), {"%s/%s" % (name, path): entry for path, entry in files.items()}, release.epoch)
 
 
@@ -212,14 +224,17 @@ def load_backend():
     return backend
 
 
-def write_wheel(release, library, folder):
-    """Writes the wheel. Its version is that of the Python package; `unchecked` is the number of the build."""
+def write_python(release, library, folder):
+    """Writes the wheel, with the library, and the sources. The wheel's version is that of the Python package; `unchecked` is the
+    number of its build."""
     with tempfile.TemporaryDirectory(prefix="linkcap-wheel-") as work:
         Path(work, "liblinkcap.so").write_bytes(library.content)
         os.environ.update(LINKCAP_LIB_DIR=work, SOURCE_DATE_EPOCH=str(release.epoch))
-        name = load_backend().build_wheel(str(folder))
+        wheel, sources = load_backend().build_wheel(str(folder)), load_backend().build_sdist(str(folder))
     if not release.is_checked():
-        (folder / name).rename(folder / name.replace("-py3-", "-0%s-py3-" % UNCHECKED))
+        (folder / wheel).rename(folder / wheel.replace("-py3-", "-0%s-py3-" % UNCHECKED))
+    # Its own name, linkcap-2.0.tar.gz, would look like another version of the archive.
+    (folder / sources).rename(folder / ("linkcap-python-%s.tar.gz" % release.named("-")))
 
 
 # ---- what is said about it
@@ -231,20 +246,28 @@ def crate_sum(name):
     return hashlib.sha256(lines.encode()).hexdigest()
 
 
-def proved_text(release):
+def system_name():
+    """The name of the distribution that this runs in."""
+    system = Path("/etc/os-release")
+    found = re.search(r'^PRETTY_NAME="?(.*?)"?$', system.read_text(encoding="utf-8"), re.M) if system.is_file() else None
+    return found[1] if found else platform.system()
+
+
+def proved_text(release, files):
     """The text of PROVED.txt."""
     trusted = re.search(r"^## What is trusted\n\n(.*?)\n\n##", read("README.md").decode(), re.M | re.S)[1]
     tools = [output(tool, "--version").split("\n")[0] for tool in TOOLS_OF_A_BUILD]
-    tools += ["Python " + platform.python_version(), "zlib " + zlib.ZLIB_RUNTIME_VERSION]
-    lines = ["linkcap %s" % release.version, "commit  " + release.commit, "kit     " + release.kit, "check   " + release.result,
-             *("tool    " + tool for tool in tools), "", "Trusted (README.md has what is proved, tested and not claimed):", "", trusted, "",
-             "Sums of the crates, each as of", "git ls-files crates/NAME/{src,specs,proofs} | xargs sha256sum | sha256sum", ""]
+    tools += ["Python " + platform.python_version(), "zlib " + zlib.ZLIB_RUNTIME_VERSION, system_name()]
+    lines = ["linkcap %s" % release.version, "commit  " + release.commit, "kit     " + release.kit, "check   " + release.result]
+    lines += ["needs   " + line for line in needs_lines(files)] + ["tool    " + tool for tool in tools]
+    lines += ["", "Trusted (README.md has what is proved, tested and not claimed):", "", trusted, "",
+              "Sums of the crates, each as of", "git ls-files crates/NAME/{src,specs,proofs} | xargs sha256sum | sha256sum", ""]
     return "\n".join(lines + ["%s  %s" % (crate_sum(name), name) for name in crates()]) + "\n"
 
 
 def write_sums(folder):
     sums = ["%s  %s\n" % (hashlib.sha256(file.read_bytes()).hexdigest(), file.name) for file in sorted(folder.iterdir())]
-    (folder / "SHA256SUMS").write_text("".join(sums), encoding="utf-8")
+    (folder / SUMS).write_text("".join(sums), encoding="utf-8")
 
 
 def make(release, prefix, refused, folder):
@@ -255,60 +278,11 @@ def make(release, prefix, refused, folder):
     refuse_paths(with_prefix(files, b"/usr", b"lib"), refused)
     write_tarball(release, files, folder)
     write_packages(release, entries, folder)
-    write_wheel(release, next(iter(entries["library"].values())), folder)
+    write_python(release, next(iter(entries["library"].values())), folder)
     for language in ("go", "rust"):
         write_bindings(release, language, folder)
-    (folder / "PROVED.txt").write_text(proved_text(release), encoding="utf-8")
+    (folder / PROVED).write_text(proved_text(release, files), encoding="utf-8")
     write_sums(folder)
-
-
-def members(file):
-    """The contents of an archive by their names; nothing of another file."""
-    if file.suffix == ".whl":
-        with zipfile.ZipFile(file) as archive:
-            return {name: archive.read(name) for name in archive.namelist()}
-    if file.suffix not in (".gz", ".deb"):
-        return {}
-    unpack = ["dpkg-deb", "--fsys-tarfile"] if file.suffix == ".deb" else ["gzip", "-dc"]
-    stream = subprocess.run([*unpack, file], stdout=subprocess.PIPE, check=True).stdout
-    with tarfile.open(fileobj=io.BytesIO(stream)) as archive:
-        return {member.name: archive.extractfile(member).read() for member in archive if member.isfile()}
-
-
-def first_difference(one, other):
-    """The number of the first byte in which two contents differ, as cmp counts; after the end of the shorter one if it is a
-    prefix of the longer one."""
-    return next((number for number, (a, b) in enumerate(zip(one, other), 1) if a != b), min(len(one), len(other)) + 1)
-
-
-def print_differing_members(first, second):
-    """Prints which contents of two archives differ."""
-    try:
-        one, other = members(first), members(second)
-    except (OSError, subprocess.CalledProcessError, tarfile.TarError, zipfile.BadZipFile, zlib.error) as error:
-        print("release: one of them can't be unpacked: %s" % error, flush=True)
-        return
-    for name in sorted({*one, *other}):
-        if name not in one or name not in other:
-            print("release: inside, only one has %s" % name, flush=True)
-        elif one[name] != other[name]:
-            print("release: inside, %s differs: byte %d" % (name, first_difference(one[name], other[name])), flush=True)
-
-
-def compare(made, folder):
-    """Prints which files of two folders differ, and returns whether none does."""
-    names, differing = sorted({file.name for side in (made, folder) for file in side.iterdir()}), 0
-    for name in names:
-        missing = [side for side in (made, folder) if not (side / name).is_file()]
-        if missing:
-            print("release: only %s has %s" % ("this build" if missing[0] == folder else folder, name), flush=True)
-        elif subprocess.run(["cmp", made / name, folder / name], check=False).returncode:
-            print_differing_members(made / name, folder / name)
-        else:
-            continue
-        differing += 1
-    print("release: %d of %d files differ" % (differing, len(names)) if differing else "release: all %d files are equal" % len(names))
-    return not differing
 
 
 def parse_arguments():
@@ -317,7 +291,7 @@ def parse_arguments():
     parser.add_argument("--compare", action="store_true")
     parser.add_argument("--tree", metavar="PREFIX", type=Path)
     args = parser.parse_args()
-    if args.compare and not (args.folder / "PROVED.txt").is_file():
+    if args.compare and not (args.folder / PROVED).is_file():
         parser.error("no release in %s" % args.folder)
     if not args.compare and args.folder.exists():
         parser.error("%s exists" % args.folder)
@@ -332,6 +306,13 @@ def refuse_changes(commit=None):
         sys.exit("release: another commit was checked out meanwhile")
 
 
+def install(root):
+    """Installs linkcap under a root folder, in its usr. If that fails, the run ends."""
+    environment = {**os.environ, "DESTDIR": root}
+    if subprocess.run([TOP / "install", "/usr"], env=environment, stdout=sys.stderr, check=False).returncode:
+        sys.exit("release: ./install failed")
+
+
 def main():
     args = parse_arguments()
     if platform.system() != "Linux" or platform.machine() != "x86_64":
@@ -340,18 +321,18 @@ def main():
         if not shutil.which(tool):
             sys.exit("release: needs " + tool)
     refuse_changes()
-    release = Release(stated(args.folder, "check") if args.compare else UNCHECKED if args.tree else None)
-    if args.compare and stated(args.folder, "commit") != release.commit:
-        sys.exit("release: %s is of commit %s" % (args.folder, stated(args.folder, "commit")))
+    release = Release(stated(args.folder, "check")[0] if args.compare else UNCHECKED if args.tree else None)
+    if args.compare and stated(args.folder, "commit") != [release.commit]:
+        sys.exit("release: %s is of commit %s" % (args.folder, stated(args.folder, "commit")[0]))
     with tempfile.TemporaryDirectory(prefix="linkcap-release-") as work:
         prefix, made = args.tree or Path(work, "tree/usr"), Path(work, "made")
         made.mkdir()
         if not args.tree:
-            subprocess.run([TOP / "install", "/usr"], env={**os.environ, "DESTDIR": work + "/tree"}, stdout=sys.stderr, check=True)
+            install(work + "/tree")
         make(release, prefix, [TOP, work, Path(output("rt", "doc")).parent], made)
         refuse_changes(release.commit)
         if args.compare:
-            sys.exit(not compare(made, args.folder))
+            sys.exit(compare(made, args.folder))
         shutil.copytree(made, args.folder)
     print("release: %s %s is in %s" % (release.named(" "), release.commit[:12], args.folder))
 

@@ -4,10 +4,11 @@
 #     tools/try-release.sh FOLDER [SUITE..]
 #
 # FOLDER was written by tools/release.py. SUITE is trixie if none is named. In each root these have to succeed: the sums; apt-get
-# with all packages for Debian; the commands with which README begins; a golden test with linkgold and one with pytest, both of
-# which have to fail for another capture; the Python package; a program in C, with each library; such golden tests in Go and
-# Rust, from their archives; removal, which leaves no file; then the archive with its install.sh, and the wheel, each in a folder
-# of its own.
+# with all packages for Debian; the commands with which README begins; a golden test with linkgold, of a capture and of a command,
+# and one with pytest, which have to fail for another capture; completion; the Python package; a program in C, with each library;
+# such golden tests in Go and Rust, from their archives; what PROVED.txt says is needed, by qemu as older and other processors
+# and kernels; removal, which leaves no file; then the archive with its install.sh, the wheel with pytest, and the Python
+# package's sources, each in a folder of its own.
 #
 # It needs root, mmdebstrap and a network, and ends with a line and status 0 where they are missing. ./check doesn't run it. A
 # root takes some minutes. The last line is `N passed, M failed, K skipped`; what is skipped is a suite without a root.
@@ -43,7 +44,8 @@ files() { (cd "$root" && find etc usr opt var/lib/python* -not -name '*.cache' 2
 same_files() { files | diff "$work/before" -; }
 
 make_root() {
-    mmdebstrap --quiet --variant=minbase --include=python3,python3-pip,python3-pytest,gcc,libc6-dev,pkgconf,golang-go,cargo \
+    mmdebstrap --quiet --variant=minbase \
+        --include=python3,python3-pip,python3-pytest,gcc,libc6-dev,pkgconf,golang-go,cargo,strace,iproute2,zsh,fish,qemu-user \
         --aptopt='Acquire::Check-Valid-Until "false"' "$1" "$root" || return
     mkdir "$root/release" && cp "$release"/* "$root/release"
 }
@@ -56,14 +58,22 @@ first="linkcap norm < $sample/lo-request.bin > /tmp/text
     linkshow $sample/lo-request.bin | cmp - $sample/lo-request.lines"
 golden="linkgold $sample/req-veth.lines $sample/req-veth.bin"
 red="status=0; linkgold $sample/req-veth.lines $sample/lo-request.bin || status=\$?; test \$status -eq 1"
+recorded="cd /tmp
+    linkgold --update command.lines -- ip link add br7 type bridge
+    linkgold command.lines -- ip link add br7 type bridge
+    status=0
+    linkgold command.lines -- ip link add br8 type bridge || status=\$?
+    test \$status -eq 1"
+completion="zsh -fc 'autoload -Uz compinit; compinit -uD; test \$_comps[linkgold] = _linkcap'
+    test \"\$(fish -c 'complete -C \"linkshow --kee\"' | cut -f 1)\" = --keep-going"
 python="python3 -c 'import sys, linkcap
 capture = open(sys.argv[1] + \".bin\", \"rb\").read()
 assert linkcap.lines(capture) == open(sys.argv[1] + \".lines\").read()'"
 # Of these two tests the second has to fail.
-pytest="mkdir -p /tmp/tests && cd /tmp/tests && cp $sample/*.lines . && printf 'def test_equal(linkcap_golden):
-    linkcap_golden(open(\"%s/req-veth.bin\", \"rb\").read(), \"req-veth.lines\", numbers=True)
+pytest="rm -rf /tmp/tests && mkdir /tmp/tests && cp *.lines *.bin /tmp/tests && cd /tmp/tests && printf 'def test_equal(linkcap_golden):
+    linkcap_golden(open(\"req-veth.bin\", \"rb\").read(), \"req-veth.lines\", numbers=True)
 def test_other(linkcap_golden):
-    linkcap_golden(open(\"%s/lo-request.bin\", \"rb\").read(), \"req-veth.lines\", numbers=True)\n' $sample $sample > test_golden.py
+    linkcap_golden(open(\"lo-request.bin\", \"rb\").read(), \"req-veth.lines\", numbers=True)\n' > test_golden.py
     export PYTHONDONTWRITEBYTECODE=1 && python3 -m pytest -q -p no:cacheprovider -k test_equal &&
     status=0 && { python3 -m pytest -q -p no:cacheprovider > failures || status=\$?; } && test \$status -eq 1 &&
     grep 'isn.t that of the golden file' failures && grep '1 failed, 1 passed' failures"
@@ -79,8 +89,20 @@ in_go="mkdir /tmp/linkcap-go && tar -C /tmp/linkcap-go --strip-components=1 -xzf
     cd /tmp/go && export GOPROXY=off GOFLAGS=-mod=mod && go test -run Equal . && ! go test . > failures && grep 'FAIL: TestOther' failures"
 in_rust="mkdir /tmp/linkcap-rust && tar -C /tmp/linkcap-rust --strip-components=1 -xzf /release/linkcap-rust-*.tar.gz
     cd /tmp/rust && cargo test -q --offline equal && ! cargo test -q --offline > failures 2>&1 && grep 'other .*FAILED\|    other' failures"
-archive="tar -C /tmp -xzf /release/linkcap-[0-9]*.tar.gz
+# What PROVED.txt says is needed. A program refuses an older processor with a line, the loader does so for a library; Nehalem is
+# the first processor with x86-64-v2. qemu reports the least kernel. The packages' dependencies have the C library's version.
+needed="cd /tmp
+    refuses() { ! qemu-x86_64 -cpu core2duo \"\$@\" < $sample/lo-request.bin > none 2> report && test ! -s none && cat report; }
+    refuses /usr/bin/linkcap norm | grep x86-64-v2
+    refuses /usr/bin/linkshow | grep x86-64-v2
+    refuses ./shared | grep 'CPU ISA level is lower than required'
+    kernel=\$(sed -n 's/^needs .*linkshow: Linux \([0-9.]*\);.*/\1/p' /release/PROVED.txt)
+    qemu-x86_64 -r \"\$kernel\" -cpu Nehalem /usr/bin/linkshow $sample/lo-request.bin | cmp - $sample/lo-request.lines
+    qemu-x86_64 -r \"\$kernel\" -cpu Nehalem ./shared
+    dpkg-query -W -f '\${Depends}' linkcap | grep -F \"libc6 (>= \$(sed -n 's/^needs .*linkshow:.* glibc \([0-9.]*\).*/\1/p' /release/PROVED.txt))\""
+archive="tar -C /tmp -xzf /release/linkcap-[0-9]*-linux-x86_64.tar.gz
     cd /tmp/linkcap-[0-9]*
+    grep '^bin/linkshow: Linux' README.txt
     ./install.sh /opt/linkcap
     export PATH=/opt/linkcap/bin:\$PATH PKG_CONFIG_PATH=/opt/linkcap/lib/pkgconfig
     linkcap norm < samples/req-veth.bin | cmp - samples/req-veth.bin
@@ -150,17 +172,23 @@ try_suite() {
     step "$1: linkcap and linkshow, as README begins" inside "$first"
     step "$1: linkgold" inside "$golden"
     step "$1: linkgold, another capture" inside "$red"
+    step "$1: linkgold, a command" inside "$recorded"
+    step "$1: completion" inside "$completion"
     step "$1: Python" inside "$python $sample/req-veth"
-    step "$1: pytest" inside "$pytest"
+    step "$1: pytest" inside "cd $sample; $pytest"
     step "$1: C" inside "$in_c"
     write_tests
     step "$1: Go" inside "$in_go"
     step "$1: Rust" inside "$in_rust"
+    step "$1: other processors and kernels" inside "$needed"
     step "$1: apt-get purge" inside 'apt-get purge -y $(for file in /release/*.deb; do dpkg-deb -f "$file" Package; done)'
     step "$1: no file is left" same_files
     step "$1: the archive" inside "$archive"
     step "$1: the wheel" inside "pip install --no-index --target /opt/wheel /release/*.whl && cd /tmp/linkcap-[0-9]*/samples &&
         PYTHONPATH=/opt/wheel $python req-veth"
+    step "$1: the wheel, with pytest" inside "cd /tmp/linkcap-[0-9]*/samples; export PYTHONPATH=/opt/wheel; $pytest"
+    step "$1: the Python package's sources" inside "LINKCAP_LIB_DIR=/opt/linkcap/lib pip install --no-index --target /opt/sources \
+        /release/linkcap-python-*.tar.gz && cd /tmp/linkcap-[0-9]*/samples && PYTHONPATH=/opt/sources $python req-veth"
     rm -rf "$root"
 }
 

@@ -47,6 +47,13 @@ def _sources():
     return {f"{NAME}/{name}": _read(NAME, name) for name in names if name.endswith((".py", ".typed"))}
 
 
+def _license():
+    """The licence as a file: it is beside this file in an archive of the sources, and at the top of the repository. An empty
+    dictionary if this folder alone was copied."""
+    paths = [os.path.join(folder, "LICENSE") for folder in (HERE, os.path.dirname(os.path.dirname(HERE)))]
+    return {"LICENSE": _read(path) for path in paths[::-1] if os.path.exists(path)}
+
+
 def _library():
     """The library as a file of the package; an empty dictionary if the environment names no folder."""
     folder = os.environ.get("LINKCAP_LIB_DIR")
@@ -63,6 +70,7 @@ def _write_wheel(folder, files, tag):
     files[f"{INFO}/METADATA"] = METADATA.encode()
     files[f"{INFO}/WHEEL"] = f"Wheel-Version: 1.0\nGenerator: {NAME}\nRoot-Is-Purelib: {is_pure}\nTag: {tag}\n".encode()
     files[f"{INFO}/entry_points.txt"] = ENTRY_POINTS.encode()
+    files.update({f"{INFO}/{name}": content for name, content in _license().items()})
     record = ""
     for name, content in files.items():
         digest = base64.urlsafe_b64encode(hashlib.sha256(content).digest()).rstrip(b"=").decode()
@@ -96,7 +104,8 @@ def build_editable(wheel_directory, config_settings=None, metadata_directory=Non
 def build_sdist(sdist_directory, config_settings=None):
     """Writes an archive of the sources, without a library."""
     top = f"{NAME}-{VERSION}"
-    files = {"PKG-INFO": METADATA.encode(), **{name: _read(name) for name in ("pyproject.toml", "backend.py")}, **_sources()}
+    files = {"PKG-INFO": METADATA.encode(), **_license(), **_sources()}
+    files.update({name: _read(name) for name in ("pyproject.toml", "backend.py")})
     tar = io.BytesIO()
     with tarfile.open(fileobj=tar, mode="w", format=tarfile.PAX_FORMAT) as archive:
         for name, content in files.items():

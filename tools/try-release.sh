@@ -5,8 +5,8 @@
 #
 # FOLDER was written by tools/release.py. SUITE is trixie if none is named. In each root these have to succeed: the sums; apt-get
 # with all packages for Debian; the commands with which README begins; a golden test with linkgold, of a capture and of a command,
-# and one with pytest, which have to fail for another capture; completion; the Python package; a program in C, with each library;
-# such golden tests in Go and Rust, from their archives; what PROVED.txt says is needed, by qemu as older and other processors
+# and one with pytest, which have to fail for another capture; completion; the Python package; a program in C, with each library,
+# also by musl; such golden tests in Go and Rust, from their archives; what PROVED.txt says is needed, by qemu as older and other processors
 # and kernels; removal, which leaves no file; then the archive with its install.sh, the wheel with pytest, and the Python
 # package's sources, each in a folder of its own.
 #
@@ -45,7 +45,7 @@ same_files() { files | diff "$work/before" -; }
 
 make_root() {
     mmdebstrap --quiet --variant=minbase \
-        --include=python3,python3-pip,python3-pytest,gcc,libc6-dev,pkgconf,golang-go,cargo,strace,iproute2,zsh,fish,qemu-user \
+        --include=python3,python3-pip,python3-pytest,gcc,libc6-dev,pkgconf,golang-go,cargo,strace,iproute2,zsh,fish,qemu-user,musl-tools \
         --aptopt='Acquire::Check-Valid-Until "false"' "$1" "$root" || return
     mkdir "$root/release" && cp "$release"/* "$root/release"
 }
@@ -83,19 +83,26 @@ in_c="cd /tmp
     ./shared
     gcc -o static version.c \$(pkg-config --cflags --libs linkcap-static)
     ./static
+    gcc -o marked version.c \$(pkg-config --cflags --libs linkcap-static) -Wl,-z,x86-64-v2
+    ./marked
+    cp /usr/include/linkcap.h .
+    musl-gcc -static -I. -o musl version.c \$(pkg-config --variable=archive linkcap)
+    ./musl
     ! ldd ./static | grep linkcap"
 # Each of the next two runs a test that has to pass, and then one more, which has to fail.
 in_go="mkdir /tmp/linkcap-go && tar -C /tmp/linkcap-go --strip-components=1 -xzf /release/linkcap-go-*.tar.gz
     cd /tmp/go && export GOPROXY=off GOFLAGS=-mod=mod && go test -run Equal . && ! go test . > failures && grep 'FAIL: TestOther' failures"
 in_rust="mkdir /tmp/linkcap-rust && tar -C /tmp/linkcap-rust --strip-components=1 -xzf /release/linkcap-rust-*.tar.gz
     cd /tmp/rust && cargo test -q --offline equal && ! cargo test -q --offline > failures 2>&1 && grep 'other .*FAILED\|    other' failures"
-# What PROVED.txt says is needed. A program refuses an older processor with a line, the loader does so for a library; Nehalem is
-# the first processor with x86-64-v2. qemu reports the least kernel. The packages' dependencies have the C library's version.
+# What PROVED.txt says is needed. A program refuses an older processor with a line, the loader does so for a marked library or
+# program; Nehalem is the first processor with x86-64-v2. qemu reports the least kernel. The packages' dependencies have the C
+# library's version.
 needed="cd /tmp
     refuses() { ! qemu-x86_64 -cpu core2duo \"\$@\" < $sample/lo-request.bin > none 2> report && test ! -s none && cat report; }
     refuses /usr/bin/linkcap norm | grep x86-64-v2
     refuses /usr/bin/linkshow | grep x86-64-v2
     refuses ./shared | grep 'CPU ISA level is lower than required'
+    refuses ./marked | grep 'CPU ISA level is lower than required'
     kernel=\$(sed -n 's/^needs .*linkshow: Linux \([0-9.]*\);.*/\1/p' /release/PROVED.txt)
     qemu-x86_64 -r \"\$kernel\" -cpu Nehalem /usr/bin/linkshow $sample/lo-request.bin | cmp - $sample/lo-request.lines
     qemu-x86_64 -r \"\$kernel\" -cpu Nehalem ./shared

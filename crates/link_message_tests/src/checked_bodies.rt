@@ -1,11 +1,36 @@
 //! Bodies of link messages, measured and compared on their bytes.
 
-use super::messages::{
-    VETH, VETH_TEXT, VETH_TWICE, VETH_TWICE_TEXT, VXLAN, VXLAN_TEXT, body, canonical,
-};
-use link_message::{BodyMeasure, check, same};
+use link_message::{BodyMeasure, LINK_HEADER_LEN, check, same, write_canonical};
 use std::alloc::Global;
 use std::test::Fail;
+
+// A VXLAN whose learning is switched on by the byte 5, and whose group policy flag has a byte.
+const VXLAN: &[u8] = b"\x24\0\x12\0\x0a\0\x01\0vxlan\0\0\0\
+    \x14\0\x02\0\x05\0\x07\0\x05\0\0\0\x05\0\x17\0\xaa\0\0\0";
+
+// The canonical text of the VXLAN.
+const VXLAN_TEXT: &[u8] = b"\x20\0\x12\0\x0a\0\x01\0vxlan\0\0\0\
+    \x10\0\x02\0\x05\0\x07\0\x01\0\0\0\x04\0\x17\0";
+
+// A veth whose peer has the name `lo` without a NUL.
+const VETH: &[u8] = b"\x2e\0\x12\0\x09\0\x01\0veth\0\0\0\0\x1e\0\x02\0\x1a\0\x01\0\
+    \0\0\0\0\0\0\0\0\0\0\0\0\0\0\0\0\x06\0\x03\0lo";
+
+// The canonical text of the veth.
+const VETH_TEXT: &[u8] = b"\x30\0\x12\0\x09\0\x01\0veth\0\0\0\0\x20\0\x02\0\x1c\0\x01\0\
+    \0\0\0\0\0\0\0\0\0\0\0\0\0\0\0\0\x07\0\x03\0lo\0\0";
+
+// A veth whose peer is a veth, whose peer has 15 bytes.
+const VETH_TWICE: &[u8] = b"\x4f\0\x12\0\x09\0\x01\0veth\0\0\0\0\x3f\0\x02\0\x3b\0\x01\0\
+    \0\0\0\0\0\0\0\0\0\0\0\0\0\0\0\0\
+    \x27\0\x12\0\x09\0\x01\0veth\0\0\0\0\x17\0\x02\0\x13\0\x01\0\
+    \0\0\0\0\0\0\0\0\0\0\0\0\0\0\0";
+
+// The canonical text of this veth.
+const VETH_TWICE_TEXT: &[u8] = b"\x50\0\x12\0\x09\0\x01\0veth\0\0\0\0\x40\0\x02\0\x3c\0\x01\0\
+    \0\0\0\0\0\0\0\0\0\0\0\0\0\0\0\0\
+    \x28\0\x12\0\x09\0\x01\0veth\0\0\0\0\x18\0\x02\0\x13\0\x01\0\
+    \0\0\0\0\0\0\0\0\0\0\0\0\0\0\0\0";
 
 // A name and a mask, in both orders.
 const NAMED: &[u8] = b"\x08\0\x1d\0\x09\0\0\0\x07\0\x03\0lo\0\0";
@@ -74,6 +99,29 @@ const WITH_PEERS: [(&[u8], &[u8], u64); 5] = [
     (VETH_TWICE, VETH_TWICE_TEXT, 8),
     (INSIDE_TEXT, INSIDE_TEXT, 8),
 ];
+
+/// Returns a body of AF_UNSPEC, about all links.
+fn body(alloc: Global, attributes: &[u8]) -> Result<Vec<u8>, Fail> {
+    let mut bytes = Vec::from_elem(alloc, 0u8, LINK_HEADER_LEN)?;
+    bytes.extend_from_slice(attributes)?;
+    Ok(bytes)
+}
+
+/// Returns the canonical text of a body, made from its bytes.
+fn canonical(alloc: Global, bytes: &[u8]) -> Result<Vec<u8>, Fail> {
+    let Ok(found) = check(bytes) else {
+        return Err(Fail::from("refused"));
+    };
+    if found.empty_ports {
+        return Err(Fail::from("empty ports"));
+    }
+    if !found.fits {
+        return Err(Fail::from("too long"));
+    }
+    let mut out = Vec::new(alloc);
+    write_canonical(bytes, &mut out)?;
+    Ok(out)
+}
 
 /// Returns the measure of a body that fits.
 fn measure(text_len: u128, attributes: u64, empty_ports: bool) -> Option<BodyMeasure> {

@@ -1,14 +1,9 @@
-//! Worked cases of link info. The expected values come from outside this project's code.
+//! Link info: number types, and calls that no case of the program read_links reaches. The expected
+//! values come from outside this project's code.
 
-pub(super) mod attributes;
 mod data;
 mod device_types;
-mod devices;
 mod kinds;
 mod lists;
 mod number_types;
-mod overlays;
-mod pairs;
-mod stacked;
 mod tunnel_types;
-mod tunnels;

@@ -4,8 +4,6 @@
 #![tactic(auto)]
 
 #[cfg(test)]
-mod attributes;
-#[cfg(test)]
 mod checked_bodies;
 #[cfg(test)]
 mod checked_link_peers;

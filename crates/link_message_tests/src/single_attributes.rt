@@ -1,7 +1,8 @@
-//! Single attributes by their own readers, which exist beside those of lists. The bytes are written
-//! by hand from if_link.h and mctp.h.
+//! Single attributes by their own readers, which exist beside those of lists, as the program
+//! read_links reads them. The bytes are written by hand from if_link.h and mctp.h.
 
-use super::values::is_shown;
+use super::values::{is_refused, is_shown};
+use link_info::{InfoBareUdp, InfoMacVlan, InfoXfrm};
 use link_message_nested::{
     AfSpecInet, AfSpecInet6, AfSpecUnspec, LinkVfInfo, LinkVfPort, VfInfo, VfVlan,
 };
@@ -75,5 +76,21 @@ fn single_attributes_of_families_are_read(rt: HostRuntime) -> Result<(), Fail> {
             "Mctp([PhysBinding(Usb)])"
         )
     );
+    Ok(())
+}
+
+#[test]
+fn single_attributes_of_kinds_are_read(rt: HostRuntime) -> Result<(), Fail> {
+    let alloc = rt.alloc();
+    let buffer = &NlaBuffer::new_checked([8u8, 0, 2, 0, 10, 0, 0, 0].as_slice())?;
+    assert!(rt; is_shown(alloc, InfoXfrm::parse(alloc, buffer), "IfId(10)"));
+    // A source port of 3 bytes.
+    let buffer = &NlaBuffer::new_checked([7u8, 0, 3, 0, 1, 2, 3, 0].as_slice())?;
+    assert!(rt; is_refused(InfoBareUdp::parse(alloc, buffer)));
+    // A list of source addresses, with one.
+    let bytes = [16u8, 0, 5, 0, 10, 0, 4, 0, 2, 0, 0, 0, 0, 1, 0, 0];
+    let buffer = &NlaBuffer::new_checked(bytes.as_slice())?;
+    let addresses = "MacAddrData([MacAddr([2, 0, 0, 0, 0, 1])])";
+    assert!(rt; is_shown(alloc, InfoMacVlan::parse(alloc, buffer), addresses));
     Ok(())
 }

@@ -1,12 +1,9 @@
 //! Questions and values that tests of several files share.
 
 use link_info::ListMeasure;
-use link_message_nested::{AfSpecMctp, AfSpecUnspec};
-use link_message_types::MctpPhysBinding;
-use netlink_packet_core::DecodeError;
+use netlink_packet_core::{DecodeError, Nla, emit_all, fits_all, len_all};
 use std::alloc::Global;
 use std::fmt::Debug;
-use std::test::Fail;
 
 /// Returns whether a value was read whose Debug text is this; not if an allocation fails.
 pub(crate) fn is_shown<V: Debug + Drop>(
@@ -31,6 +28,28 @@ pub(crate) fn is_refused<V: Drop>(read: Result<V, DecodeError>) -> bool {
     }
 }
 
+/// Returns whether a value is written as these bytes, at most 64.
+pub(crate) fn is_written_as<N: Nla>(value: &N, bytes: &[u8]) -> bool {
+    let mut buffer = [0xffu8; 64];
+    let size = value.buffer_len();
+    if !value.fits() || size > buffer.len() {
+        return false;
+    }
+    value.emit(&mut buffer);
+    &buffer[..size] == bytes
+}
+
+/// Returns whether values are written as these bytes, at most 64.
+pub(crate) fn are_written_as<N: Nla>(values: &[N], bytes: &[u8]) -> bool {
+    let mut buffer = [0xffu8; 64];
+    let size = len_all(values);
+    if !fits_all(values) || size > buffer.len() {
+        return false;
+    }
+    emit_all(values, &mut buffer);
+    &buffer[..size] == bytes
+}
+
 /// Returns the length of a list's text, the number of its attributes, and whether it fits; none if
 /// it is refused.
 pub(crate) fn counts(measure: Result<ListMeasure, DecodeError>) -> Option<(u128, u64, bool)> {
@@ -38,10 +57,4 @@ pub(crate) fn counts(measure: Result<ListMeasure, DecodeError>) -> Option<(u128,
         Ok(measure) => Some((measure.text_len, measure.attributes, measure.fits)),
         Err(_) => None,
     }
-}
-
-/// Returns the attributes of MCTP over USB.
-pub(crate) fn mctp(alloc: Global) -> Result<AfSpecUnspec, Fail> {
-    let binding = AfSpecMctp::PhysBinding(MctpPhysBinding::Usb);
-    Ok(AfSpecUnspec::Mctp(vec![in alloc; binding]?))
 }

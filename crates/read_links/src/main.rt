@@ -5,22 +5,20 @@
 
 mod frame;
 mod link;
+mod value;
 mod walk;
 
-use hex::decode;
+use link::read_hex;
 use std::alloc::Global;
 use std::io::{self, BufRead, BufReader, BufWriter, ErrorKind, Write};
-
-/// Returns the bytes of a case in hex.
-fn read_hex(alloc: Global, fields: &str) -> io::Result<Vec<u8>> {
-    decode(alloc, fields).map_err(|_| io::Error::from(ErrorKind::InvalidInput))
-}
 
 /// Writes the result of a line: the name of a kind, a space, and a case of that kind.
 fn write_line_result<W: Write>(alloc: Global, line: &str, out: &mut W) -> io::Result<()> {
     let (kind, fields) = line.split_once(' ').ok_or(ErrorKind::InvalidInput)?;
     match kind {
-        "body" => link::write_result(alloc, read_hex(alloc, fields)?.as_slice(), out),
+        "body" => link::write_body(alloc, fields, out),
+        "attributes" => link::write_attributes(alloc, fields, out),
+        "link_info" => link::write_link_info(alloc, fields, out),
         "frame" => frame::write_result(alloc, read_hex(alloc, fields)?.as_slice(), out),
         "walk" => walk::write_result(alloc, read_hex(alloc, fields)?.as_slice(), out),
         "reads" => link::write_repeated(alloc, fields, false, out),

@@ -1,106 +1,27 @@
-use crate::info::attributes::is_written_as;
-use link_info::{InfoData, InfoKind, InfoPortData, InfoPortKind, LinkXstats};
-use netlink_packet_core::{Emitable, NlaBuffer, ParseableParametrized};
+use crate::values::{is_refused, is_shown, is_written_as};
+use attribute_tables::parse_first;
+use link_info::{
+    InfoData, InfoKind, InfoMacVlan, InfoPortData, InfoPortKind, InfoVeth, LinkXstats,
+    parse_mac_vlan,
+};
+use netlink_packet_core::{DecodeError, DefaultNla, Emitable, NlaBuffer, ParseableParametrized};
 use std::alloc::Global;
 use std::test::Fail;
 
-// Data of one attribute, of kind 1, as an attribute of link info.
-const NUMBER: [u8; 12] = [12, 0, 2, 0, 8, 0, 1, 0, 3, 0, 0, 0];
-
-const SHORT_NUMBER: [u8; 12] = [12, 0, 2, 0, 6, 0, 1, 0, 2, 0, 0, 0];
-
-const TEXT: [u8; 12] = [12, 0, 2, 0, 6, 0, 1, 0, b'V', 0, 0, 0];
-
-const RAW: [u8; 12] = [12, 0, 2, 0, 5, 0, 1, 0x80, 7, 0, 0, 0];
-
-// Port data of one attribute, of kind 1, as an attribute of link info.
-const PORT_NUMBER: [u8; 12] = [12, 0, 5, 0, 8, 0, 1, 0, 3, 0, 0, 0];
-
-const PORT_RAW: [u8; 12] = [12, 0, 5, 0, 5, 0, 1, 0x80, 7, 0, 0, 0];
-
-// Kinds by their names, and data of them that aren't kept as bytes.
-const DATA: [(&str, [u8; 12]); 23] = [
-    ("bridge", RAW),
-    ("can", RAW),
-    ("tun", RAW),
-    ("vlan", RAW),
-    ("vxlan", NUMBER),
-    ("bond", RAW),
-    ("ipvlan", SHORT_NUMBER),
-    ("ipvtap", SHORT_NUMBER),
-    ("vti", NUMBER),
-    ("vti6", NUMBER),
-    ("vrf", NUMBER),
-    ("gtp", NUMBER),
-    ("ipoib", SHORT_NUMBER),
-    ("xfrm", NUMBER),
-    ("hsr", RAW),
-    ("geneve", NUMBER),
-    ("amt", NUMBER),
-    ("batadv", TEXT),
-    ("bareudp", SHORT_NUMBER),
-    ("dsa", RAW),
-    ("wwan", NUMBER),
-    ("rmnet", SHORT_NUMBER),
-    ("wireguard", RAW),
-];
-
-// Port kinds by their names, and data of them that aren't kept as bytes.
-const PORT_DATA: [(&str, [u8; 12]); 4] = [
-    ("bond", PORT_RAW),
-    ("bridge", PORT_RAW),
-    ("vrf", PORT_NUMBER),
-    ("team", PORT_RAW),
-];
-
-/// Returns whether the data in an attribute are written back unchanged, and whether they are kept
-/// as bytes; `None` if they aren't read.
-fn data_of(alloc: Global, kind: &InfoKind, bytes: &[u8; 12]) -> Option<(bool, bool)> {
-    let data = InfoData::parse_with_param(alloc, &bytes[4..], kind).ok()?;
-    Some((
-        is_written_as(&data, bytes),
-        matches!(data, InfoData::Other(_)),
-    ))
-}
-
-/// Returns the same for port data.
-fn port_data_of(alloc: Global, kind: &InfoPortKind, bytes: &[u8; 12]) -> Option<(bool, bool)> {
-    let data = InfoPortData::parse_with_param(alloc, &bytes[4..], kind).ok()?;
-    Some((
-        is_written_as(&data, bytes),
-        matches!(data, InfoPortData::Other(_)),
-    ))
-}
-
-#[test]
-fn data_are_read_by_their_kind(rt: HostRuntime) -> Result<(), Fail> {
-    assert!(rt; data_of(rt.alloc(), &InfoKind::Dummy, &NUMBER) == Some((true, true)));
-    for (name, bytes) in &DATA {
-        let kind = InfoKind::from_name(rt.alloc(), name)?;
-        assert!(rt;
-            data_of(rt.alloc(), &kind, bytes) == Some((true, false)),
-            "{name:?}"
-        );
-    }
-    for (name, bytes) in &PORT_DATA {
-        let kind = InfoPortKind::from_name(rt.alloc(), name)?;
-        assert!(rt;
-            port_data_of(rt.alloc(), &kind, bytes) == Some((true, false)),
-            "{name:?}"
-        );
-    }
-    Ok(())
-}
+// The depth to which a list is nested in itself.
+const DEPTH: usize = 1000;
 
 /// The data would be rejected under the listed kind of this name.
 #[test]
 fn a_listed_name_in_other_keeps_bytes(rt: HostRuntime) -> Result<(), Fail> {
-    let bytes = [12, 0, 2, 0, 1, 2, 3, 4, 5, 6, 7, 8];
-    let kind = InfoKind::Other("vti".to_string(rt.alloc())?);
-    assert!(rt; data_of(rt.alloc(), &kind, &bytes) == Some((true, true)));
-    let bytes = [12, 0, 5, 0, 1, 2, 3, 4, 5, 6, 7, 8];
-    let kind = InfoPortKind::Other("vrf".to_string(rt.alloc())?);
-    assert!(rt; port_data_of(rt.alloc(), &kind, &bytes) == Some((true, true)));
+    let alloc = rt.alloc();
+    let bytes = &[1, 2, 3, 4, 5, 6, 7, 8];
+    let kind = InfoKind::Other("vti".to_string(alloc)?);
+    let data = InfoData::parse_with_param(alloc, bytes, &kind);
+    assert!(rt; is_shown(alloc, data, "Other([1, 2, 3, 4, 5, 6, 7, 8])"));
+    let kind = InfoPortKind::Other("vrf".to_string(alloc)?);
+    let data = InfoPortData::parse_with_param(alloc, bytes, &kind);
+    assert!(rt; is_shown(alloc, data, "Other([1, 2, 3, 4, 5, 6, 7, 8])"));
     Ok(())
 }
 
@@ -115,5 +36,44 @@ fn statistics_are_bytes(rt: HostRuntime) -> Result<(), Fail> {
     assert!(rt; buffer == [1u8, 2, 0xff]);
     let read = LinkXstats::parse_with_param(rt.alloc(), &buf, &InfoKind::Can);
     assert!(rt; read == Ok(statistics));
+    Ok(())
+}
+
+#[test]
+fn a_pair_has_one_attribute(rt: HostRuntime) -> Result<(), Fail> {
+    let none: Result<InfoVeth, DecodeError> = parse_first(rt.alloc(), &[]);
+    assert!(rt; is_refused(none));
+    let first: InfoVeth = parse_first(rt.alloc(), &[5, 0, 2, 0, b'a', 0, 0, 0, 0xff])?;
+    assert!(rt; is_written_as(&first, &[5, 0, 2, 0, b'a', 0, 0, 0]));
+    Ok(())
+}
+
+/// Returns the only attribute of the only list of addresses in a list, if it is kept as it is.
+fn kept_inside(list: &[InfoMacVlan]) -> Option<&DefaultNla> {
+    match list {
+        [InfoMacVlan::MacAddrData(inner)] => match inner.as_slice() {
+            [InfoMacVlan::Other(nla)] => Some(nla),
+            _ => None,
+        },
+        _ => None,
+    }
+}
+
+/// Returns a list in a list, and so on.
+fn deep_list(alloc: Global) -> Result<Vec<u8>, Fail> {
+    let mut bytes = Vec::new(alloc);
+    for depth in 0..DEPTH {
+        let length = (4 * (DEPTH - depth)) as u16;
+        bytes.extend_from_slice(&length.to_le_bytes())?;
+        bytes.extend_from_slice(&[5, 0])?;
+    }
+    Ok(bytes)
+}
+
+#[test]
+fn a_deep_list_is_read_one_level(rt: HostRuntime) -> Result<(), Fail> {
+    let bytes = deep_list(rt.alloc())?;
+    let list = parse_mac_vlan(rt.alloc(), bytes.as_slice())?;
+    assert!(rt; kept_inside(&list).map(DefaultNla::value) == bytes.get(8..));
     Ok(())
 }

@@ -1,4 +1,4 @@
-use crate::info::attributes::is_written_as;
+use crate::values::is_written_as;
 use link_info::{InfoKind, InfoPortKind};
 use netlink_packet_core::{NlaBuffer, Parseable};
 use std::alloc::Global;

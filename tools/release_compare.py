@@ -1,4 +1,5 @@
-"""Compares two releases, file by file and down to the byte, and tells other versions of tools from other bytes (tools/release.py).
+"""Compares two releases, file by file and down to the byte, and separates other versions of tools from other
+bytes (tools/release.py).
 
 It needs cmp and dpkg-deb.
 """

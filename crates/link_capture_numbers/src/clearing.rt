@@ -15,7 +15,7 @@ const NUMBERS: usize = 8;
 const REQUEST_NUMBERS: usize = 28;
 
 /// The least length of an NLMSG_ERROR that repeats a request's header.
-const REPEATED_LEN: usize = 36;
+const ERROR_WITH_HEADER_LEN: usize = 36;
 
 /// Writes zeros over the 8 bytes at `offset`.
 fn clear_at(bytes: &mut [u8], offset: usize)
@@ -32,7 +32,7 @@ fn repeats(bytes: &[u8], size: usize) -> bool
     requires size { size ≡ frame_length bytes.now }
     ensures { result ≡ repeats_request bytes.now }
 {
-    NetlinkBuffer::new(bytes).message_type() == NLMSG_ERROR && size >= REPEATED_LEN
+    NetlinkBuffer::new(bytes).message_type() == NLMSG_ERROR && size >= ERROR_WITH_HEADER_LEN
 }
 
 /// Writes zeros over the numbers of the first frame, of this length.

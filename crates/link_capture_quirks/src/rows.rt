@@ -163,8 +163,8 @@ pub fn attribute_quirks(table: Table, kind: u16, payload: &[u8]) -> (Option<Quir
     ensures payload { result.1 ≡ payload_quirk table (proper_kind kind) payload.now }
 {
     let nested = bit_quirk(table, kind);
-    let kind_data = payload_quirk(table, kind % 0x4000, payload);
-    (nested, kind_data)
+    let inside = payload_quirk(table, kind % 0x4000, payload);
+    (nested, inside)
 }
 
 /// Returns the quirk of the second byte of a link's header in a message of a type.

@@ -4,400 +4,404 @@
 #[derive(Clone, Copy)]
 pub struct RawTable(pub u8);
 
-/// `link`.
+/// IFLA_* (if_link.h): the attributes of a link that have no typed value.
 pub const LINK: RawTable = RawTable(0);
 
-/// `devlinkport`.
+/// DEVLINK_ATTR_* (devlink.h): what IFLA_DEVLINK_PORT holds.
 pub const DEVLINK_PORT: RawTable = RawTable(1);
 
-/// `gre`.
+/// IFLA_GRE_* (if_tunnel.h): the data of `gre`, `gretap` and `erspan`.
 pub const GRE: RawTable = RawTable(2);
 
-/// `gre6`.
+/// IFLA_GRE_* (if_tunnel.h): the data of `ip6gre`, `ip6gretap` and `ip6erspan`.
 pub const GRE6: RawTable = RawTable(3);
 
-/// `geneve`.
+/// IFLA_GENEVE_* (if_link.h): the data of `geneve`.
 pub const GENEVE: RawTable = RawTable(4);
 
-/// `xfrm`.
+/// IFLA_XFRM_* (if_link.h): the data of `xfrm`.
 pub const XFRM: RawTable = RawTable(5);
 
-/// `netkit`.
+/// IFLA_NETKIT_* (if_link.h): the data of `netkit`.
 pub const NETKIT: RawTable = RawTable(6);
 
-/// `vf`.
+/// IFLA_VF_* (if_link.h): what IFLA_VF_INFO holds of a virtual function.
 pub const VF: RawTable = RawTable(7);
 
-/// `port`.
+/// IFLA_PORT_* (if_link.h): what IFLA_VF_PORT and IFLA_PORT_SELF hold.
 pub const PORT: RawTable = RawTable(8);
 
-/// `af_spec`.
+/// AF_* (socket.h): the address families inside IFLA_AF_SPEC.
 pub const FAMILY_SPECIFIC: RawTable = RawTable(9);
 
-/// `inet`.
+/// IFLA_INET_* (if_link.h): what IFLA_AF_SPEC holds for AF_INET.
 pub const INET: RawTable = RawTable(10);
 
-/// `inet6`.
+/// IFLA_INET6_* (if_link.h): what IFLA_AF_SPEC and IFLA_PROTINFO hold for AF_INET6.
 pub const INET6: RawTable = RawTable(11);
 
-/// `mctp`.
+/// IFLA_MCTP_* (if_link.h): what IFLA_AF_SPEC holds for AF_MCTP.
 pub const MCTP: RawTable = RawTable(12);
 
-/// `vlan`.
+/// IFLA_VLAN_* (if_link.h): the data of `vlan`.
 pub const VLAN: RawTable = RawTable(13);
 
-/// `vlan_qos`.
+/// IFLA_VLAN_QOS_* (if_link.h): what IFLA_VLAN_EGRESS_QOS and IFLA_VLAN_INGRESS_QOS hold.
 pub const VLAN_QOS: RawTable = RawTable(14);
 
-/// `bond`.
+/// IFLA_BOND_* (if_link.h): the data of `bond`.
 pub const BOND: RawTable = RawTable(15);
 
-/// `ad_info`.
+/// IFLA_BOND_AD_INFO_* (if_link.h): what IFLA_BOND_AD_INFO holds.
 pub const AD_INFO: RawTable = RawTable(16);
 
-/// `index_a4`.
+/// IPv4 addresses by their index: what IFLA_BOND_ARP_IP_TARGET (if_link.h) holds.
 pub const INDEXED_IPV4: RawTable = RawTable(17);
 
-/// `index_a16`.
+/// IPv6 addresses by their index: what IFLA_BOND_NS_IP6_TARGET (if_link.h) holds.
 pub const INDEXED_IPV6: RawTable = RawTable(18);
 
-/// `bond_slave`.
+/// IFLA_BOND_SLAVE_* (if_link.h): the data of a port of a `bond`.
 pub const BOND_PORT: RawTable = RawTable(19);
 
-/// `tun`.
+/// IFLA_TUN_* (if_link.h): the data of `tun`.
 pub const TUN: RawTable = RawTable(20);
 
-/// `can`.
+/// IFLA_CAN_* (can/netlink.h): the data of `can`.
 pub const CAN: RawTable = RawTable(21);
 
-/// `can_tdc`.
+/// IFLA_CAN_TDC_* (can/netlink.h): what IFLA_CAN_TDC and IFLA_CAN_XL_TDC hold.
 pub const CAN_TDC: RawTable = RawTable(22);
 
-/// `can_ctrlmode_ext`.
+/// IFLA_CAN_CTRLMODE_* (can/netlink.h): what IFLA_CAN_CTRLMODE_EXT holds.
 pub const CAN_CTRLMODE_EXT: RawTable = RawTable(23);
 
-/// `can_pwm`.
+/// IFLA_CAN_PWM_* (can/netlink.h): what IFLA_CAN_XL_PWM holds.
 pub const CAN_PWM: RawTable = RawTable(24);
 
-/// `hsr`.
+/// IFLA_HSR_* (if_link.h): the data of `hsr`.
 pub const HSR: RawTable = RawTable(25);
 
-/// `dsa`.
+/// IFLA_DSA_* (if_link.h): the data of `dsa`.
 pub const DSA: RawTable = RawTable(26);
 
-/// `br`.
+/// IFLA_BR_* (if_link.h): the data of `bridge`.
 pub const BRIDGE: RawTable = RawTable(27);
 
-/// `querier`.
+/// BRIDGE_QUERIER_* (if_bridge.h): what IFLA_BR_MCAST_QUERIER_STATE and
+/// BRIDGE_VLANDB_GOPTS_MCAST_QUERIER_STATE hold.
 pub const QUERIER_STATE: RawTable = RawTable(28);
 
-/// `brport`.
+/// IFLA_BRPORT_* (if_link.h): the data of a port of a `bridge`.
 pub const BRIDGE_PORT: RawTable = RawTable(29);
 
-/// `bridge`.
+/// IFLA_BRIDGE_* (if_bridge.h): what IFLA_AF_SPEC holds under AF_BRIDGE.
 pub const BRIDGE_SPECIFIC: RawTable = RawTable(30);
 
-/// `vlan_tunnel`.
+/// IFLA_BRIDGE_VLAN_TUNNEL_* (if_bridge.h): what IFLA_BRIDGE_VLAN_TUNNEL_INFO holds.
 pub const VLAN_TUNNEL: RawTable = RawTable(31);
 
-/// `mst`.
+/// IFLA_BRIDGE_MST_* (if_bridge.h): what IFLA_BRIDGE_MST holds.
 pub const MST: RawTable = RawTable(32);
 
-/// `mst_entry`.
+/// IFLA_BRIDGE_MST_ENTRY_* (if_bridge.h): what IFLA_BRIDGE_MST_ENTRY holds.
 pub const MST_ENTRY: RawTable = RawTable(33);
 
-/// `mrp`.
+/// IFLA_BRIDGE_MRP_* (if_bridge.h): what IFLA_BRIDGE_MRP holds.
 pub const MRP: RawTable = RawTable(34);
 
-/// `mrp_instance`.
+/// IFLA_BRIDGE_MRP_INSTANCE_* (if_bridge.h): what IFLA_BRIDGE_MRP_INSTANCE holds.
 pub const MRP_INSTANCE: RawTable = RawTable(35);
 
-/// `mrp_port_state`.
+/// IFLA_BRIDGE_MRP_PORT_STATE_* (if_bridge.h): what IFLA_BRIDGE_MRP_PORT_STATE holds.
 pub const MRP_PORT_STATE: RawTable = RawTable(36);
 
-/// `mrp_port_role`.
+/// IFLA_BRIDGE_MRP_PORT_ROLE_* (if_bridge.h): what IFLA_BRIDGE_MRP_PORT_ROLE holds.
 pub const MRP_PORT_ROLE: RawTable = RawTable(37);
 
-/// `mrp_ring_state`.
+/// IFLA_BRIDGE_MRP_RING_STATE_* (if_bridge.h): what IFLA_BRIDGE_MRP_RING_STATE holds.
 pub const MRP_RING_STATE: RawTable = RawTable(38);
 
-/// `mrp_ring_role`.
+/// IFLA_BRIDGE_MRP_RING_ROLE_* (if_bridge.h): what IFLA_BRIDGE_MRP_RING_ROLE holds.
 pub const MRP_RING_ROLE: RawTable = RawTable(39);
 
-/// `mrp_start_test`.
+/// IFLA_BRIDGE_MRP_START_TEST_* (if_bridge.h): what IFLA_BRIDGE_MRP_START_TEST holds.
 pub const MRP_START_TEST: RawTable = RawTable(40);
 
-/// `mrp_info`.
+/// IFLA_BRIDGE_MRP_INFO_* (if_bridge.h): what IFLA_BRIDGE_MRP_INFO holds.
 pub const MRP_INFO: RawTable = RawTable(41);
 
-/// `mrp_in_state`.
+/// IFLA_BRIDGE_MRP_IN_STATE_* (if_bridge.h): what IFLA_BRIDGE_MRP_IN_STATE holds.
 pub const MRP_IN_STATE: RawTable = RawTable(42);
 
-/// `mrp_in_role`.
+/// IFLA_BRIDGE_MRP_IN_ROLE_* (if_bridge.h): what IFLA_BRIDGE_MRP_IN_ROLE holds.
 pub const MRP_IN_ROLE: RawTable = RawTable(43);
 
-/// `mrp_start_in_test`.
+/// IFLA_BRIDGE_MRP_START_IN_TEST_* (if_bridge.h): what IFLA_BRIDGE_MRP_START_IN_TEST holds.
 pub const MRP_START_IN_TEST: RawTable = RawTable(44);
 
-/// `cfm`.
+/// IFLA_BRIDGE_CFM_* (if_bridge.h): what IFLA_BRIDGE_CFM holds.
 pub const CFM: RawTable = RawTable(45);
 
-/// `cfm_mep_create`.
+/// IFLA_BRIDGE_CFM_MEP_CREATE_* (if_bridge.h): what IFLA_BRIDGE_CFM_MEP_CREATE and its _INFO hold.
 pub const CFM_MEP_CREATE: RawTable = RawTable(46);
 
-/// `cfm_mep_delete`.
+/// IFLA_BRIDGE_CFM_MEP_DELETE_* (if_bridge.h): what IFLA_BRIDGE_CFM_MEP_DELETE holds.
 pub const CFM_MEP_DELETE: RawTable = RawTable(47);
 
-/// `cfm_mep_config`.
+/// IFLA_BRIDGE_CFM_MEP_CONFIG_* (if_bridge.h): what IFLA_BRIDGE_CFM_MEP_CONFIG and its _INFO hold.
 pub const CFM_MEP_CONFIG: RawTable = RawTable(48);
 
-/// `cfm_cc_config`.
+/// IFLA_BRIDGE_CFM_CC_CONFIG_* (if_bridge.h): what IFLA_BRIDGE_CFM_CC_CONFIG and its _INFO hold.
 pub const CFM_CC_CONFIG: RawTable = RawTable(49);
 
-/// `cfm_cc_peer_mep`.
+/// IFLA_BRIDGE_CFM_CC_PEER_MEP* (if_bridge.h): what IFLA_BRIDGE_CFM_CC_PEER_MEP_ADD, _REMOVE and
+/// _INFO hold.
 pub const CFM_CC_PEER_MEP: RawTable = RawTable(50);
 
-/// `cfm_cc_rdi`.
+/// IFLA_BRIDGE_CFM_CC_RDI_* (if_bridge.h): what IFLA_BRIDGE_CFM_CC_RDI and its _INFO hold.
 pub const CFM_CC_RDI: RawTable = RawTable(51);
 
-/// `cfm_cc_ccm_tx`.
+/// IFLA_BRIDGE_CFM_CC_CCM_TX_* (if_bridge.h): what IFLA_BRIDGE_CFM_CC_CCM_TX and its _INFO hold.
 pub const CFM_CC_CCM_TX: RawTable = RawTable(52);
 
-/// `cfm_mep_status`.
+/// IFLA_BRIDGE_CFM_MEP_STATUS_* (if_bridge.h): what IFLA_BRIDGE_CFM_MEP_STATUS_INFO holds.
 pub const CFM_MEP_STATUS: RawTable = RawTable(53);
 
-/// `cfm_cc_peer_status`.
+/// IFLA_BRIDGE_CFM_CC_PEER_STATUS_* (if_bridge.h): what IFLA_BRIDGE_CFM_CC_PEER_STATUS_INFO holds.
 pub const CFM_CC_PEER_STATUS: RawTable = RawTable(54);
 
-/// `addr`.
+/// IFA_* (if_addr.h): the attributes of an address (RTM_NEWADDR).
 pub const ADDRESS: RawTable = RawTable(55);
 
-/// `route`.
+/// RTA_* (rtnetlink.h): the attributes of a route (RTM_NEWROUTE).
 pub const ROUTE: RawTable = RawTable(56);
 
-/// `mpls_route`.
+/// RTA_* (rtnetlink.h): the attributes of a route of AF_MPLS, whose addresses are labels.
 pub const MPLS_ROUTE: RawTable = RawTable(57);
 
-/// `mroute`.
+/// RTA_* (rtnetlink.h): the attributes of a multicast route.
 pub const MROUTE: RawTable = RawTable(58);
 
-/// `metrics`.
+/// RTAX_* (rtnetlink.h): what RTA_METRICS holds.
 pub const ROUTE_METRICS: RawTable = RawTable(59);
 
-/// `encap 1`.
+/// MPLS_IPTUNNEL_* (mpls_iptunnel.h): what RTA_ENCAP holds for LWTUNNEL_ENCAP_MPLS.
 pub const ENCAP_MPLS: RawTable = RawTable(60);
 
-/// `encap 2`.
+/// LWTUNNEL_IP_* (lwtunnel.h): what RTA_ENCAP holds for LWTUNNEL_ENCAP_IP.
 pub const ENCAP_IP: RawTable = RawTable(61);
 
-/// `encap 3`.
+/// ILA_ATTR_* (ila.h): what RTA_ENCAP holds for LWTUNNEL_ENCAP_ILA.
 pub const ENCAP_ILA: RawTable = RawTable(62);
 
-/// `encap 4`.
+/// LWTUNNEL_IP6_* (lwtunnel.h): what RTA_ENCAP holds for LWTUNNEL_ENCAP_IP6.
 pub const ENCAP_IP6: RawTable = RawTable(63);
 
-/// `encap 5`.
+/// SEG6_IPTUNNEL_* (seg6_iptunnel.h): what RTA_ENCAP holds for LWTUNNEL_ENCAP_SEG6.
 pub const ENCAP_SEG6: RawTable = RawTable(64);
 
-/// `encap 6`.
+/// LWT_BPF_* (lwtunnel.h): what RTA_ENCAP holds for LWTUNNEL_ENCAP_BPF.
 pub const ENCAP_BPF: RawTable = RawTable(65);
 
-/// `encap 7`.
+/// SEG6_LOCAL_* (seg6_local.h): what RTA_ENCAP holds for LWTUNNEL_ENCAP_SEG6_LOCAL.
 pub const ENCAP_SEG6_LOCAL: RawTable = RawTable(66);
 
-/// `encap 8`.
+/// RPL_IPTUNNEL_* (rpl_iptunnel.h): what RTA_ENCAP holds for LWTUNNEL_ENCAP_RPL.
 pub const ENCAP_RPL: RawTable = RawTable(67);
 
-/// `encap 9`.
+/// IOAM6_IPTUNNEL_* (ioam6_iptunnel.h): what RTA_ENCAP holds for LWTUNNEL_ENCAP_IOAM6.
 pub const ENCAP_IOAM6: RawTable = RawTable(68);
 
-/// `encap 10`.
+/// LWT_XFRM_* (lwtunnel.h): what RTA_ENCAP holds for LWTUNNEL_ENCAP_XFRM.
 pub const ENCAP_XFRM: RawTable = RawTable(69);
 
-/// `lwt_opts`.
+/// LWTUNNEL_IP_OPTS_* (lwtunnel.h): what LWTUNNEL_IP_OPTS and LWTUNNEL_IP6_OPTS hold.
 pub const TUNNEL_OPTIONS: RawTable = RawTable(70);
 
-/// `lwt_geneve`.
+/// LWTUNNEL_IP_OPT_GENEVE_* (lwtunnel.h): what LWTUNNEL_IP_OPTS_GENEVE holds.
 pub const GENEVE_OPTION: RawTable = RawTable(71);
 
-/// `lwt_vxlan`.
+/// LWTUNNEL_IP_OPT_VXLAN_* (lwtunnel.h): what LWTUNNEL_IP_OPTS_VXLAN holds.
 pub const VXLAN_OPTION: RawTable = RawTable(72);
 
-/// `lwt_erspan`.
+/// LWTUNNEL_IP_OPT_ERSPAN_* (lwtunnel.h): what LWTUNNEL_IP_OPTS_ERSPAN holds.
 pub const ERSPAN_OPTION: RawTable = RawTable(73);
 
-/// `lwt_bpf_prog`.
+/// LWT_BPF_PROG_* (lwtunnel.h): what LWT_BPF_IN, LWT_BPF_OUT and LWT_BPF_XMIT hold.
 pub const BPF_PROGRAM: RawTable = RawTable(74);
 
-/// `seg6_local_bpf`.
+/// SEG6_LOCAL_BPF_* (seg6_local.h): what SEG6_LOCAL_BPF holds.
 pub const SEG6_LOCAL_BPF: RawTable = RawTable(75);
 
-/// `seg6_local_counters`.
+/// SEG6_LOCAL_CNT_* (seg6_local.h): what SEG6_LOCAL_COUNTERS holds.
 pub const SEG6_LOCAL_COUNTERS: RawTable = RawTable(76);
 
-/// `seg6_local_flavors`.
+/// SEG6_LOCAL_FLV_* (seg6_local.h): what SEG6_LOCAL_FLAVORS holds.
 pub const SEG6_LOCAL_FLAVORS: RawTable = RawTable(77);
 
-/// `neigh`.
+/// NDA_* (neighbour.h): the attributes of a neighbour (RTM_NEWNEIGH).
 pub const NEIGHBOUR: RawTable = RawTable(78);
 
-/// `fdb_ext`.
+/// NFEA_* (neighbour.h): what NDA_FDB_EXT_ATTRS holds.
 pub const FORWARDING_ENTRY: RawTable = RawTable(79);
 
-/// `rule`.
+/// FRA_* (fib_rules.h): the attributes of a rule (RTM_NEWRULE).
 pub const RULE: RawTable = RawTable(80);
 
-/// `prefix`.
+/// PREFIX_* (rtnetlink.h): the attributes of a prefix (RTM_NEWPREFIX).
 pub const PREFIX: RawTable = RawTable(81);
 
-/// `neightbl`.
+/// NDTA_* (neighbour.h): the attributes of a neighbour table (RTM_NEWNEIGHTBL).
 pub const NEIGHBOUR_TABLE: RawTable = RawTable(82);
 
-/// `neightbl_parms`.
+/// NDTPA_* (neighbour.h): what NDTA_PARMS holds.
 pub const NEIGHBOUR_TABLE_PARAMETERS: RawTable = RawTable(83);
 
-/// `addrlabel`.
+/// IFAL_* (if_addrlabel.h): the attributes of an address label (RTM_NEWADDRLABEL).
 pub const ADDRESS_LABEL: RawTable = RawTable(84);
 
-/// `nexthop`.
+/// NHA_* (nexthop.h): the attributes of a next hop (RTM_NEWNEXTHOP).
 pub const NEXTHOP: RawTable = RawTable(85);
 
-/// `res_group`.
+/// NHA_RES_GROUP_* (nexthop.h): what NHA_RES_GROUP holds.
 pub const RESILIENT_GROUP: RawTable = RawTable(86);
 
-/// `res_bucket`.
+/// NHA_RES_BUCKET_* (nexthop.h): what NHA_RES_BUCKET holds.
 pub const RESILIENT_BUCKET: RawTable = RawTable(87);
 
-/// `nh_group_stats`.
+/// NHA_GROUP_STATS_* (nexthop.h): what NHA_GROUP_STATS holds.
 pub const GROUP_STATISTICS: RawTable = RawTable(88);
 
-/// `nh_group_stats_entry`.
+/// NHA_GROUP_STATS_ENTRY_* (nexthop.h): what NHA_GROUP_STATS_ENTRY holds.
 pub const GROUP_STATISTICS_ENTRY: RawTable = RawTable(89);
 
-/// `netconf`.
+/// NETCONFA_* (netconf.h): the attributes of RTM_NEWNETCONF.
 pub const NETCONF: RawTable = RawTable(90);
 
-/// `nsid`.
+/// NETNSA_* (net_namespace.h): the attributes of RTM_NEWNSID.
 pub const NAMESPACE: RawTable = RawTable(91);
 
-/// `tc`.
+/// TCA_* (rtnetlink.h): the attributes of queueing disciplines, classes, filters and chains.
 pub const TRAFFIC_CONTROL: RawTable = RawTable(92);
 
-/// `tc_stats2`.
+/// TCA_STATS_* (gen_stats.h): what TCA_STATS2 and TCA_ACT_STATS hold.
 pub const TRAFFIC_CONTROL_STATISTICS: RawTable = RawTable(93);
 
-/// `tc_stab`.
+/// TCA_STAB_* (pkt_sched.h): what TCA_STAB holds.
 pub const SIZE_TABLE: RawTable = RawTable(94);
 
-/// `actions`.
+/// TCA_ROOT_* (rtnetlink.h): the attributes of RTM_NEWACTION.
 pub const ACTIONS: RawTable = RawTable(95);
 
-/// `action_index`.
+/// Actions by their order: what TCA_ROOT_TAB (rtnetlink.h) holds.
 pub const INDEXED_ACTION: RawTable = RawTable(96);
 
-/// `action`.
+/// TCA_ACT_* (pkt_cls.h): an action.
 pub const ACTION: RawTable = RawTable(97);
 
-/// `stats`.
+/// IFLA_STATS_* (if_link.h): the attributes of RTM_NEWSTATS.
 pub const STATISTICS: RawTable = RawTable(98);
 
-/// `stats_set`.
+/// IFLA_STATS_* (if_link.h): the attributes of RTM_GETSTATS and RTM_SETSTATS.
 pub const STATISTICS_REQUEST: RawTable = RawTable(99);
 
-/// `stats_filters`.
+/// IFLA_STATS_* (if_link.h), a filter for each: what IFLA_STATS_GET_FILTERS holds.
 pub const STATISTICS_FILTERS: RawTable = RawTable(100);
 
-/// `xstats`.
+/// LINK_XSTATS_TYPE_* (if_link.h): what IFLA_STATS_LINK_XSTATS and IFLA_STATS_LINK_XSTATS_SLAVE
+/// hold.
 pub const XSTATS: RawTable = RawTable(101);
 
-/// `bridge_xstats`.
+/// BRIDGE_XSTATS_* (if_bridge.h): what LINK_XSTATS_TYPE_BRIDGE holds.
 pub const BRIDGE_XSTATS: RawTable = RawTable(102);
 
-/// `bond_xstats`.
+/// BOND_XSTATS_* (if_bonding.h): what LINK_XSTATS_TYPE_BOND holds.
 pub const BOND_XSTATS: RawTable = RawTable(103);
 
-/// `bond_3ad_stat`.
+/// BOND_3AD_STAT_* (if_bonding.h): what BOND_XSTATS_3AD holds.
 pub const BOND_3AD_STAT: RawTable = RawTable(104);
 
-/// `offload_xstats`.
+/// IFLA_OFFLOAD_XSTATS_* (if_link.h): what IFLA_STATS_LINK_OFFLOAD_XSTATS holds.
 pub const OFFLOAD_XSTATS: RawTable = RawTable(105);
 
-/// `hw_s_info`.
+/// Entries by the kind of statistics: what IFLA_OFFLOAD_XSTATS_HW_S_INFO (if_link.h) holds.
 pub const HW_S_INFO: RawTable = RawTable(106);
 
-/// `hw_s_info_entry`.
+/// IFLA_OFFLOAD_XSTATS_HW_S_INFO_* (if_link.h): what IFLA_OFFLOAD_XSTATS_L3_STATS holds there.
 pub const HW_S_INFO_ENTRY: RawTable = RawTable(107);
 
-/// `stats_af_spec`.
+/// AF_* (socket.h): the address families inside IFLA_STATS_AF_SPEC.
 pub const STATISTICS_FAMILIES: RawTable = RawTable(108);
 
-/// `mpls_stats`.
+/// MPLS_STATS_* (mpls.h): what IFLA_STATS_AF_SPEC holds for AF_MPLS.
 pub const MPLS_STATS: RawTable = RawTable(109);
 
-/// `mdb`.
+/// MDBA_* (if_bridge.h): the attributes of a message about a bridge's multicast database
+/// (RTM_NEWMDB).
 pub const MULTICAST: RawTable = RawTable(110);
 
-/// `mdb_mdb`.
+/// MDBA_MDB_* (if_bridge.h): what MDBA_MDB holds.
 pub const MULTICAST_GROUPS: RawTable = RawTable(111);
 
-/// `mdb_entry`.
+/// MDBA_MDB_ENTRY_* (if_bridge.h): what MDBA_MDB_ENTRY holds.
 pub const MULTICAST_GROUP: RawTable = RawTable(112);
 
-/// `mdb_eattr`.
+/// MDBA_MDB_EATTR_* (if_bridge.h): what follows the record in MDBA_MDB_ENTRY_INFO.
 pub const MULTICAST_ENTRY: RawTable = RawTable(113);
 
-/// `mdb_srclist`.
+/// MDBA_MDB_SRCLIST_* (if_bridge.h): what MDBA_MDB_EATTR_SRC_LIST holds.
 pub const MULTICAST_SOURCES: RawTable = RawTable(114);
 
-/// `mdb_srcattr`.
+/// MDBA_MDB_SRCATTR_* (if_bridge.h): what MDBA_MDB_SRCLIST_ENTRY holds.
 pub const MULTICAST_SOURCE: RawTable = RawTable(115);
 
-/// `mdb_router`.
+/// MDBA_ROUTER_* (if_bridge.h): what MDBA_ROUTER holds.
 pub const MULTICAST_ROUTERS: RawTable = RawTable(116);
 
-/// `mdb_pattr`.
+/// MDBA_ROUTER_PATTR_* (if_bridge.h): what follows the index in MDBA_ROUTER_PORT.
 pub const MULTICAST_ROUTER: RawTable = RawTable(117);
 
-/// `mdb_set`.
+/// MDBA_SET_* (if_bridge.h): the attributes of a request to change a multicast database.
 pub const MULTICAST_SET: RawTable = RawTable(118);
 
-/// `mdb_get`.
+/// MDBA_GET_* (if_bridge.h): the attributes of a request for an entry of a multicast database.
 pub const MULTICAST_GET: RawTable = RawTable(119);
 
-/// `mdbe`.
+/// MDBE_ATTR_* (if_bridge.h): what MDBA_SET_ENTRY_ATTRS and MDBA_GET_ENTRY_ATTRS hold.
 pub const MULTICAST_ATTRIBUTES: RawTable = RawTable(120);
 
-/// `mdbe_src_list`.
+/// MDBE_SRC_LIST_* (if_bridge.h): what MDBE_ATTR_SRC_LIST holds.
 pub const MULTICAST_SET_SOURCES: RawTable = RawTable(121);
 
-/// `mdbe_srcattr`.
+/// MDBE_SRCATTR_* (if_bridge.h): what MDBE_SRC_LIST_ENTRY holds.
 pub const MULTICAST_SET_SOURCE: RawTable = RawTable(122);
 
-/// `vlandb`.
+/// BRIDGE_VLANDB_* (if_bridge.h): the attributes of a bridge's VLANs (RTM_NEWVLAN).
 pub const VLANS: RawTable = RawTable(123);
 
-/// `vlandb_dump`.
+/// BRIDGE_VLANDB_DUMP_* (if_bridge.h): the attributes of a request for them (RTM_GETVLAN).
 pub const VLANS_DUMP: RawTable = RawTable(124);
 
-/// `vlandb_entry`.
+/// BRIDGE_VLANDB_ENTRY_* (if_bridge.h): what BRIDGE_VLANDB_ENTRY holds.
 pub const VLAN_ENTRY: RawTable = RawTable(125);
 
-/// `vlandb_tinfo`.
+/// BRIDGE_VLANDB_TINFO_* (if_bridge.h): what BRIDGE_VLANDB_ENTRY_TUNNEL_INFO holds.
 pub const VLAN_TUNNEL_INFO: RawTable = RawTable(126);
 
-/// `vlandb_stats`.
+/// BRIDGE_VLANDB_STATS_* (if_bridge.h): what BRIDGE_VLANDB_ENTRY_STATS holds.
 pub const VLAN_STATISTICS: RawTable = RawTable(127);
 
-/// `vlandb_gopts`.
+/// BRIDGE_VLANDB_GOPTS_* (if_bridge.h): what BRIDGE_VLANDB_GLOBAL_OPTIONS holds.
 pub const VLAN_GLOBAL_OPTIONS: RawTable = RawTable(128);
 
-/// `tunnel`.
+/// VXLAN_VNIFILTER_* (if_link.h): the attributes of RTM_NEWTUNNEL.
 pub const TUNNEL: RawTable = RawTable(129);
 
-/// `vnifilter_entry`.
+/// VXLAN_VNIFILTER_ENTRY_* (if_link.h): what VXLAN_VNIFILTER_ENTRY holds.
 pub const VNIFILTER_ENTRY: RawTable = RawTable(130);
 
-/// `vnifilter_stats`.
+/// VNIFILTER_ENTRY_STATS_* (if_link.h): what VXLAN_VNIFILTER_ENTRY_STATS holds.
 pub const VNIFILTER_STATS: RawTable = RawTable(131);
 
 /// A table without rows.

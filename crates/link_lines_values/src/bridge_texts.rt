@@ -6,12 +6,12 @@ ghost use Rattle.link_lines_values.specs.NumberTexts.{bridge_texts};
 
 use crate::number_tables::{NumberText, Numbers};
 
-/// `McastMode`.
+/// Whether the sources of a multicast group are those included or excluded (if_bridge.h, MCAST_*).
 pub const MCAST_MODE: Numbers = Numbers(64);
 
 pub(crate) const MCAST_MODE_TEXTS: &[NumberText] = &[(0, b"exclude"), (1, b"include")];
 
-/// `MdbRouterType`.
+/// Types of multicast routers (if_bridge.h, MDB_RTR_TYPE_*).
 pub const MDB_ROUTER_TYPE: Numbers = Numbers(65);
 
 pub(crate) const MDB_ROUTER_TYPE_TEXTS: &[NumberText] = &[
@@ -21,12 +21,12 @@ pub(crate) const MDB_ROUTER_TYPE_TEXTS: &[NumberText] = &[
     (3, b"temp"),
 ];
 
-/// `MdbState`.
+/// States of multicast groups (if_bridge.h, MDB_TEMPORARY and MDB_PERMANENT).
 pub const MDB_STATE: Numbers = Numbers(66);
 
 pub(crate) const MDB_STATE_TEXTS: &[NumberText] = &[(0, b"temporary"), (1, b"permanent")];
 
-/// `BrState`.
+/// States of a bridge's ports (if_bridge.h, BR_STATE_*).
 pub const BR_STATE: Numbers = Numbers(67);
 
 pub(crate) const BR_STATE_TEXTS: &[NumberText] = &[
@@ -37,22 +37,22 @@ pub(crate) const BR_STATE_TEXTS: &[NumberText] = &[
     (4, b"blocking"),
 ];
 
-/// `BrStpMode`.
+/// Who runs a bridge's spanning tree protocol (if_link.h, IFLA_BR_STP_MODE).
 pub const BR_STP_MODE: Numbers = Numbers(68);
 
 pub(crate) const BR_STP_MODE_TEXTS: &[NumberText] = &[(0, b"auto"), (1, b"user"), (2, b"kernel")];
 
-/// `BridgeMode`.
+/// How a device's embedded bridge forwards (if_bridge.h, BRIDGE_MODE_*).
 pub const BRIDGE_MODE: Numbers = Numbers(69);
 
 pub(crate) const BRIDGE_MODE_TEXTS: &[NumberText] = &[(0, b"veb"), (1, b"vepa"), (65535, b"undef")];
 
-/// `HsrProtocol`.
+/// Protocols of redundant rings (if_link.h, IFLA_HSR_PROTOCOL).
 pub const HSR_PROTOCOL: Numbers = Numbers(70);
 
 pub(crate) const HSR_PROTOCOL_TEXTS: &[NumberText] = &[(0, b"hsr"), (1, b"prp")];
 
-/// `CanState`.
+/// States of a CAN controller (can/netlink.h, `enum can_state`).
 pub const CAN_STATE: Numbers = Numbers(71);
 
 pub(crate) const CAN_STATE_TEXTS: &[NumberText] = &[
@@ -64,17 +64,17 @@ pub(crate) const CAN_STATE_TEXTS: &[NumberText] = &[
     (5, b"sleeping"),
 ];
 
-/// `TunType`.
+/// Types of tunnels to a process (if_tun.h, IFF_TUN and IFF_TAP).
 pub const TUN_TYPE: Numbers = Numbers(72);
 
 pub(crate) const TUN_TYPE_TEXTS: &[NumberText] = &[(1, b"tun"), (2, b"tap")];
 
-/// `NetkitPairing`.
+/// Whether a netkit has a peer (if_link.h, NETKIT_DEVICE_*).
 pub const NETKIT_PAIRING: Numbers = Numbers(73);
 
 pub(crate) const NETKIT_PAIRING_TEXTS: &[NumberText] = &[(0, b"pair"), (1, b"single")];
 
-/// `PortRequest`.
+/// Requests of a virtual port (if_link.h, PORT_REQUEST_*).
 pub const PORT_REQUEST: Numbers = Numbers(74);
 
 pub(crate) const PORT_REQUEST_TEXTS: &[NumberText] = &[
@@ -84,12 +84,12 @@ pub(crate) const PORT_REQUEST_TEXTS: &[NumberText] = &[
     (3, b"disassociate"),
 ];
 
-/// `VlandbDumpFlags`.
+/// What a dump of a bridge's VLANs has (if_bridge.h, BRIDGE_VLANDB_DUMPF_*).
 pub const VLANDB_DUMP_FLAGS: Numbers = Numbers(75);
 
 pub(crate) const VLANDB_DUMP_FLAGS_TEXTS: &[NumberText] = &[(0x1, b"STATS"), (0x2, b"GLOBAL")];
 
-/// `MdbFlags`.
+/// Flags of multicast groups (if_bridge.h, MDB_FLAGS_*).
 pub const MDB_FLAGS: Numbers = Numbers(76);
 
 pub(crate) const MDB_FLAGS_TEXTS: &[NumberText] = &[
@@ -100,12 +100,12 @@ pub(crate) const MDB_FLAGS_TEXTS: &[NumberText] = &[
     (0x10, b"OFFLOAD_FAILED"),
 ];
 
-/// `BridgeFlags`.
+/// Whom a request about a bridge's port is for (if_bridge.h, BRIDGE_FLAGS_*).
 pub const BRIDGE_FLAGS: Numbers = Numbers(77);
 
 pub(crate) const BRIDGE_FLAGS_TEXTS: &[NumberText] = &[(0x1, b"MASTER"), (0x2, b"SELF")];
 
-/// `BridgeVlanFlags`.
+/// Flags of a port's VLANs (if_bridge.h, BRIDGE_VLAN_INFO_*).
 pub const BRIDGE_VLAN_FLAGS: Numbers = Numbers(78);
 
 pub(crate) const BRIDGE_VLAN_FLAGS_TEXTS: &[NumberText] = &[
@@ -118,7 +118,7 @@ pub(crate) const BRIDGE_VLAN_FLAGS_TEXTS: &[NumberText] = &[
     (0x40, b"ONLY_OPTS"),
 ];
 
-/// `VlanFlags`.
+/// Flags of a `vlan` (if_vlan.h, `enum vlan_flags`).
 pub const VLAN_FLAGS: Numbers = Numbers(79);
 
 pub(crate) const VLAN_FLAGS_TEXTS: &[NumberText] = &[
@@ -129,7 +129,7 @@ pub(crate) const VLAN_FLAGS_TEXTS: &[NumberText] = &[
     (0x10, b"BRIDGE_BINDING"),
 ];
 
-/// `BrBoolopt`.
+/// Options of a bridge, by their number as a bit (if_bridge.h, BR_BOOLOPT_*).
 pub const BR_BOOLOPT: Numbers = Numbers(80);
 
 pub(crate) const BR_BOOLOPT_TEXTS: &[NumberText] = &[
@@ -140,7 +140,7 @@ pub(crate) const BR_BOOLOPT_TEXTS: &[NumberText] = &[
     (0x10, b"FDB_LOCAL_VLAN_0"),
 ];
 
-/// `CanCtrlmode`.
+/// Modes of a CAN controller (can/netlink.h, CAN_CTRLMODE_*).
 pub const CAN_CTRLMODE_FLAGS: Numbers = Numbers(81);
 
 pub(crate) const CAN_CTRLMODE_FLAGS_TEXTS: &[NumberText] = &[

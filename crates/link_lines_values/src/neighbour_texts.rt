@@ -7,7 +7,7 @@ ghost use Rattle.link_lines_values.specs.NumberTexts.{neighbour_texts};
 
 use crate::number_tables::{NumberText, Numbers};
 
-/// `FrAct`.
+/// Actions of rules (fib_rules.h, FR_ACT_*).
 pub const FR_ACT: Numbers = Numbers(48);
 
 pub(crate) const FR_ACT_TEXTS: &[NumberText] = &[
@@ -22,7 +22,7 @@ pub(crate) const FR_ACT_TEXTS: &[NumberText] = &[
     (8, b"prohibit"),
 ];
 
-/// `TcParent`.
+/// Handles with a name (pkt_sched.h, TC_H_*).
 pub const TC_PARENT: Numbers = Numbers(49);
 
 pub(crate) const TC_PARENT_TEXTS: &[NumberText] = &[
@@ -30,7 +30,7 @@ pub(crate) const TC_PARENT_TEXTS: &[NumberText] = &[
     (4294967295, b"root"),
 ];
 
-/// `NetconfIfindex`.
+/// Indexes that stand for no single link (netconf.h, NETCONFA_IFINDEX_*).
 pub const NETCONF_IFINDEX: Numbers = Numbers(50);
 
 pub(crate) const NETCONF_IFINDEX_TEXTS: &[NumberText] = &[
@@ -38,12 +38,12 @@ pub(crate) const NETCONF_IFINDEX_TEXTS: &[NumberText] = &[
     (4294967295, b"all"),
 ];
 
-/// `NexthopGrpType`.
+/// Types of groups of next hops (nexthop.h, NEXTHOP_GRP_TYPE_*).
 pub const NEXTHOP_GRP_TYPE: Numbers = Numbers(51);
 
 pub(crate) const NEXTHOP_GRP_TYPE_TEXTS: &[NumberText] = &[(0, b"mpath"), (1, b"res")];
 
-/// `NeighState`.
+/// States of neighbours (neighbour.h, NUD_*).
 pub const NEIGH_STATE: Numbers = Numbers(52);
 
 pub(crate) const NEIGH_STATE_TEXTS: &[NumberText] = &[
@@ -57,7 +57,7 @@ pub(crate) const NEIGH_STATE_TEXTS: &[NumberText] = &[
     (0x80, b"PERMANENT"),
 ];
 
-/// `NeighFlags`.
+/// Flags of neighbours (neighbour.h, NTF_*).
 pub const NEIGH_FLAGS: Numbers = Numbers(53);
 
 pub(crate) const NEIGH_FLAGS_TEXTS: &[NumberText] = &[
@@ -71,7 +71,7 @@ pub(crate) const NEIGH_FLAGS_TEXTS: &[NumberText] = &[
     (0x80, b"ROUTER"),
 ];
 
-/// `NeighFlagsExt`.
+/// More flags of neighbours (neighbour.h, NTF_EXT_*).
 pub const NEIGH_FLAGS_EXT: Numbers = Numbers(54);
 
 pub(crate) const NEIGH_FLAGS_EXT_TEXTS: &[NumberText] = &[
@@ -80,12 +80,13 @@ pub(crate) const NEIGH_FLAGS_EXT_TEXTS: &[NumberText] = &[
     (0x4, b"EXT_VALIDATED"),
 ];
 
-/// `FdbNotify`.
+/// When a bridge reports a forwarding entry (neighbour.h, FDB_NOTIFY_BIT and
+/// FDB_NOTIFY_INACTIVE_BIT).
 pub const FDB_NOTIFY: Numbers = Numbers(55);
 
 pub(crate) const FDB_NOTIFY_TEXTS: &[NumberText] = &[(0x1, b"NOTIFY"), (0x2, b"INACTIVE")];
 
-/// `FibRuleFlags`.
+/// Flags of rules (fib_rules.h, FIB_RULE_*).
 pub const FIB_RULE_FLAGS: Numbers = Numbers(56);
 
 pub(crate) const FIB_RULE_FLAGS_TEXTS: &[NumberText] = &[
@@ -97,12 +98,12 @@ pub(crate) const FIB_RULE_FLAGS_TEXTS: &[NumberText] = &[
     (0x10000, b"FIND_SADDR"),
 ];
 
-/// `TcaDumpFlags`.
+/// Flags of a dump of filters (rtnetlink.h, TCA_DUMP_FLAGS_*).
 pub const TCA_DUMP_FLAGS: Numbers = Numbers(57);
 
 pub(crate) const TCA_DUMP_FLAGS_TEXTS: &[NumberText] = &[(0x1, b"TERSE")];
 
-/// `TcaRootFlags`.
+/// Flags of a dump of actions (rtnetlink.h, TCA_ACT_FLAG_*).
 pub const TCA_ROOT_FLAGS: Numbers = Numbers(58);
 
 pub(crate) const TCA_ROOT_FLAGS_TEXTS: &[NumberText] = &[
@@ -110,7 +111,7 @@ pub(crate) const TCA_ROOT_FLAGS_TEXTS: &[NumberText] = &[
     (0x2, b"TERSE_DUMP"),
 ];
 
-/// `TcaActFlags`.
+/// Flags of actions (pkt_cls.h, TCA_ACT_FLAGS_*).
 pub const TCA_ACT_FLAGS: Numbers = Numbers(59);
 
 pub(crate) const TCA_ACT_FLAGS_TEXTS: &[NumberText] = &[
@@ -119,12 +120,12 @@ pub(crate) const TCA_ACT_FLAGS_TEXTS: &[NumberText] = &[
     (0x4, b"SKIP_SW"),
 ];
 
-/// `TcaActHwStats`.
+/// How a device reports statistics of actions (pkt_cls.h, TCA_ACT_HW_STATS_*).
 pub const TCA_ACT_HW_STATS: Numbers = Numbers(60);
 
 pub(crate) const TCA_ACT_HW_STATS_TEXTS: &[NumberText] = &[(0x1, b"IMMEDIATE"), (0x2, b"DELAYED")];
 
-/// `StatsFilter`.
+/// Statistics that are asked for, by their number as a bit (if_link.h, IFLA_STATS_*).
 pub const STATS_FILTER: Numbers = Numbers(61);
 
 pub(crate) const STATS_FILTER_TEXTS: &[NumberText] = &[
@@ -135,7 +136,7 @@ pub(crate) const STATS_FILTER_TEXTS: &[NumberText] = &[
     (0x10, b"AF_SPEC"),
 ];
 
-/// `NhaOpFlags`.
+/// What a dump of next hops has (nexthop.h, NHA_OP_FLAG_*).
 pub const NHA_OP_FLAGS: Numbers = Numbers(62);
 
 pub(crate) const NHA_OP_FLAGS_TEXTS: &[NumberText] = &[
@@ -144,7 +145,7 @@ pub(crate) const NHA_OP_FLAGS_TEXTS: &[NumberText] = &[
     (0x80000000, b"RESP_GRP_RESVD_0"),
 ];
 
-/// `TunnelMsgFlags`.
+/// Flags of messages about tunnels (if_link.h, TUNNEL_MSG_FLAG_*).
 pub const TUNNEL_MSG_FLAGS: Numbers = Numbers(63);
 
 pub(crate) const TUNNEL_MSG_FLAGS_TEXTS: &[NumberText] = &[(0x1, b"STATS")];

@@ -6,7 +6,7 @@ ghost use Rattle.link_lines_values.specs.NumberTexts.{route_texts};
 
 use crate::number_tables::{NumberText, Numbers};
 
-/// `Family`.
+/// Address families (socket.h, AF_*; RTNL_FAMILY_* of rtnetlink.h).
 pub const FAMILY: Numbers = Numbers(30);
 
 pub(crate) const FAMILY_TEXTS: &[NumberText] = &[
@@ -24,7 +24,7 @@ pub(crate) const FAMILY_TEXTS: &[NumberText] = &[
     (129, b"RTNL_FAMILY_IP6MR"),
 ];
 
-/// `RtScope`.
+/// How far the destination of a route or an address is (rtnetlink.h, `enum rt_scope_t`).
 pub const RT_SCOPE: Numbers = Numbers(31);
 
 pub(crate) const RT_SCOPE_TEXTS: &[NumberText] = &[
@@ -35,7 +35,7 @@ pub(crate) const RT_SCOPE_TEXTS: &[NumberText] = &[
     (255, b"nowhere"),
 ];
 
-/// `RtTable`.
+/// Routing tables (rtnetlink.h, `enum rt_class_t`).
 pub const RT_TABLE: Numbers = Numbers(32);
 
 pub(crate) const RT_TABLE_TEXTS: &[NumberText] = &[
@@ -46,7 +46,7 @@ pub(crate) const RT_TABLE_TEXTS: &[NumberText] = &[
     (255, b"local"),
 ];
 
-/// `RtProtocol`.
+/// Who made a route (rtnetlink.h, RTPROT_*).
 pub const RT_PROTOCOL: Numbers = Numbers(33);
 
 pub(crate) const RT_PROTOCOL_TEXTS: &[NumberText] = &[
@@ -76,7 +76,7 @@ pub(crate) const RT_PROTOCOL_TEXTS: &[NumberText] = &[
     (192, b"eigrp"),
 ];
 
-/// `RtnType`.
+/// Types of routes (rtnetlink.h, RTN_*).
 pub const RTN_TYPE: Numbers = Numbers(34);
 
 pub(crate) const RTN_TYPE_TEXTS: &[NumberText] = &[
@@ -94,7 +94,7 @@ pub(crate) const RTN_TYPE_TEXTS: &[NumberText] = &[
     (11, b"xresolve"),
 ];
 
-/// `RtDelReason`.
+/// Why a route was deleted (rtnetlink.h, `enum rt_del_reason`).
 pub const RT_DEL_REASON: Numbers = Numbers(35);
 
 pub(crate) const RT_DEL_REASON_TEXTS: &[NumberText] = &[
@@ -103,7 +103,7 @@ pub(crate) const RT_DEL_REASON_TEXTS: &[NumberText] = &[
     (2, b"ra_withdrawn"),
 ];
 
-/// `RouterPref`.
+/// Preferences of routers (icmpv6.h, ICMPV6_ROUTER_PREF_*).
 pub const ROUTER_PREF: Numbers = Numbers(36);
 
 pub(crate) const ROUTER_PREF_TEXTS: &[NumberText] = &[
@@ -113,7 +113,7 @@ pub(crate) const ROUTER_PREF_TEXTS: &[NumberText] = &[
     (3, b"low"),
 ];
 
-/// `IfaProto`.
+/// Who made an address (if_addr.h, IFAPROT_*).
 pub const IFA_PROTO: Numbers = Numbers(37);
 
 pub(crate) const IFA_PROTO_TEXTS: &[NumberText] = &[
@@ -123,7 +123,7 @@ pub(crate) const IFA_PROTO_TEXTS: &[NumberText] = &[
     (3, b"kernel_ll"),
 ];
 
-/// `IpProto`.
+/// Protocols over IP (in.h, IPPROTO_*).
 pub const IP_PROTO: Numbers = Numbers(38);
 
 pub(crate) const IP_PROTO_TEXTS: &[NumberText] = &[
@@ -134,7 +134,7 @@ pub(crate) const IP_PROTO_TEXTS: &[NumberText] = &[
     (132, b"sctp"),
 ];
 
-/// `EncapType`.
+/// Encapsulations of a route (lwtunnel.h, `enum lwtunnel_encap_types`).
 pub const ENCAP_TYPE: Numbers = Numbers(39);
 
 pub(crate) const ENCAP_TYPE_TEXTS: &[NumberText] = &[
@@ -151,7 +151,7 @@ pub(crate) const ENCAP_TYPE_TEXTS: &[NumberText] = &[
     (10, b"xfrm"),
 ];
 
-/// `Seg6LocalAction`.
+/// Actions of a local segment (seg6_local.h, SEG6_LOCAL_ACTION_*).
 pub const SEG6_LOCAL_ACTION: Numbers = Numbers(40);
 
 pub(crate) const SEG6_LOCAL_ACTION_TEXTS: &[NumberText] = &[
@@ -174,12 +174,12 @@ pub(crate) const SEG6_LOCAL_ACTION_TEXTS: &[NumberText] = &[
     (16, b"end_dt46"),
 ];
 
-/// `Ioam6Mode`.
+/// Ways in which IOAM is added (ioam6_iptunnel.h, IOAM6_IPTUNNEL_MODE_*).
 pub const IOAM6_MODE: Numbers = Numbers(41);
 
 pub(crate) const IOAM6_MODE_TEXTS: &[NumberText] = &[(1, b"inline"), (2, b"encap"), (3, b"auto")];
 
-/// `IfaFlags`.
+/// Flags of addresses (if_addr.h, IFA_F_*).
 pub const IFA_FLAGS: Numbers = Numbers(42);
 
 pub(crate) const IFA_FLAGS_TEXTS: &[NumberText] = &[
@@ -197,7 +197,7 @@ pub(crate) const IFA_FLAGS_TEXTS: &[NumberText] = &[
     (0x800, b"STABLE_PRIVACY"),
 ];
 
-/// `NexthopFlags`.
+/// Flags of next hops (rtnetlink.h, RTNH_F_*).
 pub const NEXTHOP_FLAGS: Numbers = Numbers(43);
 
 pub(crate) const NEXTHOP_FLAGS_TEXTS: &[NumberText] = &[
@@ -210,7 +210,7 @@ pub(crate) const NEXTHOP_FLAGS_TEXTS: &[NumberText] = &[
     (0x40, b"TRAP"),
 ];
 
-/// `RouteFlags`.
+/// Flags of routes (rtnetlink.h, RTM_F_* and RTNH_F_*).
 pub const ROUTE_FLAGS: Numbers = Numbers(44);
 
 pub(crate) const ROUTE_FLAGS_TEXTS: &[NumberText] = &[
@@ -232,7 +232,7 @@ pub(crate) const ROUTE_FLAGS_TEXTS: &[NumberText] = &[
     (0x20000000, b"OFFLOAD_FAILED"),
 ];
 
-/// `RtaxLock`.
+/// Metrics that are locked, by their number as a bit (rtnetlink.h, RTAX_*).
 pub const RTAX_LOCK: Numbers = Numbers(45);
 
 pub(crate) const RTAX_LOCK_TEXTS: &[NumberText] = &[
@@ -252,7 +252,7 @@ pub(crate) const RTAX_LOCK_TEXTS: &[NumberText] = &[
     (0x8000, b"QUICKACK"),
 ];
 
-/// `RtaxFeatures`.
+/// Features of a route (rtnetlink.h, RTAX_FEATURE_*).
 pub const RTAX_FEATURES: Numbers = Numbers(46);
 
 pub(crate) const RTAX_FEATURES_TEXTS: &[NumberText] = &[
@@ -263,7 +263,7 @@ pub(crate) const RTAX_FEATURES_TEXTS: &[NumberText] = &[
     (0x10, b"TCP_USEC_TS"),
 ];
 
-/// `Seg6Flavors`.
+/// Flavours of a local segment, by their number as a bit (seg6_local.h, SEG6_LOCAL_FLV_OP_*).
 pub const SEG6_FLAVORS: Numbers = Numbers(47);
 
 pub(crate) const SEG6_FLAVORS_TEXTS: &[NumberText] = &[

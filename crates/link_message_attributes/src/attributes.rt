@@ -340,7 +340,7 @@ impl LinkAttribute {
     }
 
     // Reads the payload of a kind that holds neither link info nor a number; `None` if the kind has
-    // no row. It is out of line, since each call clears room for a value of every arm: a number is
+    // no row. It is out of line, since each call clears the temporaries of every arm: a number is
     // read without that.
     #[inline(never)]
     fn read_large_row(
@@ -388,7 +388,7 @@ impl LinkAttribute {
 
     // Reads the payload of a kind other than link info; `None` if the kind has no row. Kinds that
     // hold a number are left to `read_number`, since the prover's time for a match grows with its
-    // paths times the variants. An arm for each kind tells the prover which kinds are left.
+    // paths times the variants. With an arm for each kind the prover knows which kinds are left.
     fn read_plain_row(
         alloc: Global,
         family: AddressFamily,

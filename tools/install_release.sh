@@ -14,4 +14,6 @@ mkdir -p "${DESTDIR:-}$prefix"
 for part in bin include lib share; do
     cp -RP --remove-destination "$from/$part" "${DESTDIR:-}$prefix"
 done
+command -v python3 > /dev/null || echo "install.sh: linkdiff, linkrec, linkgold and linkjson need Python 3.8 or later"
+command -v strace > /dev/null || echo "install.sh: linkrec and linkgold need strace to record a command"
 case :$PATH: in *:"$prefix/bin":*) ;; *) echo "install.sh: put $prefix/bin on your PATH" ;; esac

@@ -27,7 +27,7 @@ def members(file):
     if file.suffix not in (".gz", ".deb"):
         return {}
     unpack = ["dpkg-deb", "--fsys-tarfile"] if file.suffix == ".deb" else ["gzip", "-dc"]
-    stream = subprocess.run([*unpack, file], stdout=subprocess.PIPE, check=True).stdout
+    stream = subprocess.run([*unpack, file], stdout=subprocess.PIPE, stderr=subprocess.DEVNULL, check=True).stdout
     with tarfile.open(fileobj=io.BytesIO(stream)) as archive:
         return {member.name: archive.extractfile(member).read() for member in archive if member.isfile()}
 
@@ -59,13 +59,14 @@ def count_differing(made, folder, names):
     differing = 0
     for name in names:
         missing = [side for side in (made, folder) if not (side / name).is_file()]
+        found = subprocess.run(["cmp", made / name, folder / name], stdout=subprocess.PIPE, stderr=subprocess.STDOUT, text=True,
+                               check=False)
         if missing:
             print("release: only %s has %s" % ("this build" if missing[0] == folder else folder, name), flush=True)
-        elif subprocess.run(["cmp", made / name, folder / name], check=False).returncode:
+        elif found.returncode:
+            print("release: " + found.stdout, end="", flush=True)
             print_differing_members(made / name, folder / name)
-        else:
-            continue
-        differing += 1
+        differing += found.returncode != 0
     return differing
 
 

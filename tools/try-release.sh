@@ -4,11 +4,11 @@
 #     tools/try-release.sh FOLDER [SUITE..]
 #
 # FOLDER was written by tools/release.py. SUITE is trixie if none is named. In each root these have to succeed: the sums; apt-get
-# with all packages for Debian; the commands with which README begins; a golden test with linkgold, of a capture and of a command,
-# and one with pytest, which have to fail for another capture; completion; the Python package; a program in C, with each library,
-# also by musl; such golden tests in Go and Rust, from their archives; what PROVED.txt says is needed, by qemu as older and other processors
-# and kernels; removal, which leaves no file; then the archive with its install.sh, the wheel with pytest, and the Python
-# package's sources, each in a folder of its own.
+# with all packages for Debian; the commands with which README begins; a golden test with linkgold, of a capture and of a
+# command, and one with pytest, which have to fail for another capture; completion; the Python package; a program in C, with
+# each library, also by musl; such golden tests in Go and Rust, from their archives; what PROVED.txt says is needed, by qemu as
+# other processors and kernels; removal, which leaves no file; then the archive with its install.sh, the wheel with pytest, and
+# the Python package's sources, each in a folder of its own.
 #
 # It needs root, mmdebstrap and a network, and ends with a line and status 0 where they are missing. ./check doesn't run it. A
 # root takes some minutes. The last line is `N passed, M failed, K skipped`; what is skipped is a suite without a root.
@@ -44,8 +44,8 @@ files() { (cd "$root" && find etc usr opt var/lib/python* -not -name '*.cache' 2
 same_files() { files | diff "$work/before" -; }
 
 make_root() {
-    mmdebstrap --quiet --variant=minbase \
-        --include=python3,python3-pip,python3-pytest,gcc,libc6-dev,pkgconf,golang-go,cargo,strace,iproute2,zsh,fish,qemu-user,musl-tools \
+    local include=python3,python3-pip,python3-pytest,gcc,libc6-dev,pkgconf,golang-go,cargo,musl-tools
+    mmdebstrap --quiet --variant=minbase --include="$include,strace,iproute2,zsh,fish,qemu-user" \
         --aptopt='Acquire::Check-Valid-Until "false"' "$1" "$root" || return
     mkdir "$root/release" && cp "$release"/* "$root/release"
 }
@@ -70,7 +70,8 @@ python="python3 -c 'import sys, linkcap
 capture = open(sys.argv[1] + \".bin\", \"rb\").read()
 assert linkcap.lines(capture) == open(sys.argv[1] + \".lines\").read()'"
 # Of these two tests the second has to fail.
-pytest="rm -rf /tmp/tests && mkdir /tmp/tests && cp *.lines *.bin /tmp/tests && cd /tmp/tests && printf 'def test_equal(linkcap_golden):
+pytest="rm -rf /tmp/tests && mkdir /tmp/tests && cp *.lines *.bin /tmp/tests && cd /tmp/tests &&
+    printf 'def test_equal(linkcap_golden):
     linkcap_golden(open(\"req-veth.bin\", \"rb\").read(), \"req-veth.lines\", numbers=True)
 def test_other(linkcap_golden):
     linkcap_golden(open(\"lo-request.bin\", \"rb\").read(), \"req-veth.lines\", numbers=True)\n' > test_golden.py
@@ -106,7 +107,8 @@ needed="cd /tmp
     kernel=\$(sed -n 's/^needs .*linkshow: Linux \([0-9.]*\);.*/\1/p' /release/PROVED.txt)
     qemu-x86_64 -r \"\$kernel\" -cpu Nehalem /usr/bin/linkshow $sample/lo-request.bin | cmp - $sample/lo-request.lines
     qemu-x86_64 -r \"\$kernel\" -cpu Nehalem ./shared
-    dpkg-query -W -f '\${Depends}' linkcap | grep -F \"libc6 (>= \$(sed -n 's/^needs .*linkshow:.* glibc \([0-9.]*\).*/\1/p' /release/PROVED.txt))\""
+    libc=\$(sed -n 's/^needs .*linkshow:.* glibc \([0-9.]*\).*/\1/p' /release/PROVED.txt)
+    dpkg-query -W -f '\${Depends}' linkcap | grep -F \"libc6 (>= \$libc)\""
 archive="tar -C /tmp -xzf /release/linkcap-[0-9]*-linux-x86_64.tar.gz
     cd /tmp/linkcap-[0-9]*
     grep '^bin/linkshow: Linux' README.txt

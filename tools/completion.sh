@@ -87,11 +87,11 @@ if command -v fish > /dev/null; then
 else
     echo "completion: skipped: no fish"
 fi
-if command -v zsh > /dev/null; then
+if zsh -fc 'zmodload zsh/zpty && zpty shell true' 2> /dev/null; then
     mkdir "$work/zsh" && cp man/linkcap.zsh "$work/zsh/_linkcap"
     check_zsh
 else
-    echo "completion: skipped: no zsh"
+    echo "completion: skipped: no zsh, or no terminal for it"
 fi
 [ "$failed" -eq 0 ] && echo "completion: no faults"
 exit "$failed"

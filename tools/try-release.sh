@@ -65,7 +65,7 @@ recorded="cd /tmp
     linkgold command.lines -- ip link add br8 type bridge || status=\$?
     test \$status -eq 1"
 completion="zsh -fc 'autoload -Uz compinit; compinit -uD; test \$_comps[linkgold] = _linkcap'
-    test \"\$(fish -c 'complete -C \"linkshow --kee\"' | cut -f 1)\" = --keep-going"
+    test \"\$(fish -c 'complete -C \"linkshow --keep-g\"' | cut -f 1)\" = --keep-going"
 python="python3 -c 'import sys, linkcap
 capture = open(sys.argv[1] + \".bin\", \"rb\").read()
 assert linkcap.lines(capture) == open(sys.argv[1] + \".lines\").read()'"

@@ -1,5 +1,4 @@
-"""Compares two releases, file by file and down to the byte, and separates other versions of tools from other
-bytes (tools/release.py).
+"""Compares two releases, file by file and down to the byte, and distinguishes other tools from other bytes (tools/release.py).
 
 It needs cmp and dpkg-deb.
 """

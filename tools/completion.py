@@ -24,15 +24,14 @@ LISTS = re.compile(r"(?<=^# ---- lists, by tools/completion.py\n).*?(?=^# ---- e
 # Lines of help, in which a description isn't wrapped: an option, with its short name and its value; a command of linkrec
 OPTION = re.compile(r"^  (?:(-\w)(?: [^ ,]+)?, )?(--[a-z-]+)(?: (\S+))?(?:  +(.*))?$", re.M)
 COMMAND = re.compile(r"^    ([a-z]+)  +(.*)$", re.M)
-OPERAND = re.compile(r"^  ([A-Z]\S*)", re.M)
 # What completes a value, by its name in help; nothing does so for other values
 KINDS = {"TYPE,..": "types", "NAME,..": "groups", "FILE": "files"}
 CHOICES = re.compile(r"\{(.*)\}")
 
 # An option: its short name or None, its long name, its value as help has it or None, and what it does in a few words.
 Option = namedtuple("Option", "short name value summary")
-# A program, or a command of linkrec: its name, what it does, its options, and the names of its operands.
-Program = namedtuple("Program", "name summary options operands")
+# A program, or a command of linkrec: its name, what it does, and its options.
+Program = namedtuple("Program", "name summary options")
 
 
 def summary(text):
@@ -51,9 +50,9 @@ def help_of(*command):
 
 
 def program(name, text, described=""):
-    operands = re.search(r"^positional arguments:\n(.*?)^\S", text, re.M | re.S)
-    return Program(name, summary(described), [Option(short or None, option, value or None, summary(words))
-                   for short, option, value, words in OPTION.findall(text)], OPERAND.findall(operands[1] if operands else ""))
+    """The program with this help."""
+    options = [Option(short or None, option, value or None, summary(words)) for short, option, value, words in OPTION.findall(text)]
+    return Program(name, summary(described), options)
 
 
 def programs():
@@ -84,13 +83,17 @@ def commands(listed):
 
 # ---- bash
 
+def bash_array(name, values):
+    """An associative array. Bash loads completion in a function, where it would else be a local one."""
+    return "declare -gA %s=(\n%s)\n" % (name, "".join('    ["%s"]="%s"\n' % item for item in values))
+
+
 def bash_lists(listed):
-    lines = ['    ["%s"]="%s"\n' % (each.name, " ".join(option.name for option in each.options)) for each in listed]
+    options = [(each.name, " ".join(option.name for option in each.options)) for each in listed]
     values = {name: kind_of(option) or "" for each in listed for option in each.options if option.value
               for name in (option.short, option.name) if name}
-    return 'declare -gA _linkcap_options=(\n%s)\ndeclare -gA _linkcap_values=(\n%s)\n_linkcap_commands="%s"\n_linkcap_types="%s"\n' % (
-        "".join(lines), "".join('    ["%s"]="%s"\n' % item for item in sorted(values.items())),
-        " ".join(word for word, _ in commands(listed)), type_words())
+    words = '_linkcap_commands="%s"\n_linkcap_types="%s"\n' % (" ".join(word for word, _ in commands(listed)), type_words())
+    return bash_array("_linkcap_options", options) + bash_array("_linkcap_values", sorted(values.items())) + words
 
 
 # ---- zsh
@@ -104,8 +107,8 @@ def zsh_option(option):
         is_optional = option.value.startswith("[")
         action = "_linkcap_" + kind if kind in KINDS.values() else "(%s)" % kind if kind else ""
         value = "%s:%s:%s" % (":" * is_optional, option.name[2:], action)
-    described = '"%s%s"' % ("[%s]" % option.summary if option.summary else "", value)
-    return "    '(%s)'{%s}%s\n" % (" ".join(names), ",".join(names), described) if option.short else "    %s%s\n" % (names[0], described)
+    name = "'(%s)'{%s}" % (" ".join(names), ",".join(names)) if option.short else option.name
+    return '    %s"%s%s"\n' % (name, "[%s]" % option.summary if option.summary else "", value)
 
 
 def zsh_lists(listed):
@@ -117,15 +120,19 @@ def zsh_lists(listed):
 
 # ---- fish
 
+def fish_value(option):
+    """The arguments of complete that offer what completes the value of an option."""
+    kind = kind_of(option)
+    if kind == "files":
+        return "-r"
+    return "-x -a '%s'" % ("(__linkcap_%s)" % kind if kind in KINDS.values() else kind) if kind else "-x"
+
+
 def fish_option(each, option):
     name, _, command = each.name.partition(" ")
-    parts = ["complete -c", name, '-n "__linkcap_is %s"' % command if command else "", "-s " + option.short[1:] if option.short else "",
-             "-l " + option.name[2:]]
-    if option.value:
-        kind = kind_of(option)
-        offered = "" if not kind or kind == "files" else "-a '(__linkcap_%s)'" % kind if kind in KINDS.values() else "-a '%s'" % kind
-        parts += ["-r" if kind == "files" else "-x", offered]
-    parts.append('-d "%s"' % option.summary if option.summary else "")
+    parts = ["complete -c " + name, '-n "__linkcap_is %s"' % command if command else "",
+             "-s " + option.short[1:] if option.short else "", "-l " + option.name[2:],
+             fish_value(option) if option.value else "", '-d "%s"' % option.summary if option.summary else ""]
     return " ".join(filter(None, parts)) + "\n"
 
 

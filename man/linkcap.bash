@@ -83,7 +83,7 @@ _linkcap_command() {
 
 # _linkcap_options_of PROGRAM: offers what may follow the options of a program, or of a command as `linkrec run`
 _linkcap_options_of() {
-    if _linkcap_command || _linkcap_value; then
+    if _linkcap_value; then
         return
     elif [[ ${COMP_WORDS[COMP_CWORD]} == -* ]]; then
         _linkcap_words "${_linkcap_options[$1]}"
@@ -103,14 +103,14 @@ _linkcap() {
 _linkrec() {
     if [ "$COMP_CWORD" -eq 1 ]; then
         _linkcap_words "$_linkcap_commands ${_linkcap_options[linkrec]}"
-    else
+    elif ! _linkcap_command; then
         _linkcap_options_of "linkrec ${COMP_WORDS[1]}"
     fi
 }
 
 _linkshow() { _linkcap_options_of linkshow; }
 _linkdiff() { _linkcap_options_of linkdiff; }
-_linkgold() { _linkcap_options_of linkgold; }
+_linkgold() { _linkcap_command || _linkcap_options_of linkgold; }
 _linkjson() { _linkcap_options_of linkjson; }
 
 complete -o filenames -F _linkcap linkcap

@@ -127,6 +127,7 @@ _linkcap_command() {
     shift $at words
     (( CURRENT -= at ))
     _normal
+    return 0
 }
 
 _linkcap_program() {
@@ -156,10 +157,9 @@ _linkcap_recorder() {
     fi
 }
 
-_linkcap_command && return
 case $service in
     linkcap) _linkcap_program ;;
-    linkrec) _linkcap_recorder ;;
-    linkgold) _arguments $_linkcap_options_linkgold '1:golden file:_files -g "*.lines"' '2:capture:_files' ;;
+    linkrec) _linkcap_command || _linkcap_recorder ;;
+    linkgold) _linkcap_command || _arguments $_linkcap_options_linkgold '1:golden file:_files -g "*.lines"' '2:capture:_files' ;;
     *) _arguments ${(P)${:-_linkcap_options_$service}} '*:capture:_files' ;;
 esac

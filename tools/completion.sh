@@ -54,6 +54,7 @@ check_shell() {
     expect "$1" "--setup" linkrec effect --s
     expect "$1" "README.md" linkrec run -o READ
     expect "$1" "README.md" linkgold golden.lines -- cat READ
+    expect "$1" "README.md" linkdiff -- READ
 }
 check_zsh() {
     local line
@@ -71,6 +72,7 @@ linkrec cu|linkrec cut
 linkrec effect --s|linkrec effect --setup
 linkrec run -o READ|linkrec run -o README.md
 linkgold golden.lines -- cat READ|linkgold golden.lines -- cat README.md
+linkdiff -- READ|linkdiff -- README.md
 END
 }
 

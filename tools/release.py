@@ -53,8 +53,8 @@ OF_TESTS = re.compile(r"_test\.go$|_test/|/tests/|/route_example/")
 TOOLS_OF_A_BUILD = [os.environ.get("CC", "cc"), "ld", "objcopy", "ar", "ldd", "dpkg-deb", "xz"]
 README = """%s: compares, normalises and shows captures of netlink link messages.
 
-./install.sh PREFIX copies bin, include, lib and share to PREFIX. bash and fish then find completion by themselves; for zsh put
-PREFIX/share/zsh/site-functions into fpath, before compinit. Without installing:
+./install.sh PREFIX copies bin, include, lib and share to PREFIX. If that is ~/.local or /usr/local, bash and fish then find
+completion by themselves; for zsh put PREFIX/share/zsh/site-functions into fpath, before compinit. Without installing:
 
     bin/linkshow samples/lo-request.bin
     man -l share/man/man1/linkcap.1

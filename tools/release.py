@@ -316,6 +316,8 @@ def install(root):
 
 def main():
     args = parse_arguments()
+    # Otherwise some tools translate what they print, and their versions with it.
+    os.environ["LC_ALL"] = "C"
     if platform.system() != "Linux" or platform.machine() != "x86_64":
         sys.exit("release: needs Linux on x86-64")
     for tool in ["rt", "git", "readelf", "cmp", *TOOLS_OF_A_BUILD]:

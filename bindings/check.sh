@@ -87,6 +87,9 @@ exports_only_linkcap() {
         && ! nm --defined-only --extern-only "$lib/liblinkcap.a" | awk 'NF == 3 { print $3 }' | grep -v '^linkcap_'
 }
 
+# Whether the loader refuses the shared library on a processor without x86-64-v2.
+is_marked() { LC_ALL=C readelf --notes "$lib/liblinkcap.so" | grep 'x86 ISA needed: .*x86-64-v2'; }
+
 page_in_c() {
     block c > "$work/norm.c"
     "$cc" -std=c11 -Wall -Wextra -Werror -I "$lib" -o "$work/norm" "$work/norm.c" "$lib/liblinkcap.a"
@@ -152,6 +155,7 @@ test_c() {
     step "C: build, shared" "$cc" "${flags[@]}" -O2 -o "$work/shared" bindings/c/tests/results.c -L "$lib" -llinkcap "-Wl,-rpath,$lib"
     step "C: build of the edges" "$cc" "${flags[@]}" -O2 -o "$work/edges" bindings/c/tests/edges.c "$lib/liblinkcap.a" "${wrap[@]}"
     step "C: only linkcap_* is exported" exports_only_linkcap
+    step "C: the shared library is marked as code for x86-64-v2" is_marked
     for kind in norm same show refusal spelling; do cut_vectors $kind; done
     compare_all_results "static" "$work/results"
     compare_all_results "shared" "$work/shared"

@@ -16,6 +16,10 @@
 //
 // Calls share nothing, and may run in goroutines at once. Nobody may write to a capture while a call reads it.
 //
+// A module uses the package from a folder:
+//
+//	go mod edit -require linkcap.invalid/linkcap@v0.0.0 -replace linkcap.invalid/linkcap=FOLDER
+//
 // pkg-config finds the library; PKG_CONFIG_PATH names its folder. The archive liblinkcap.a is linked in, so that the program
 // needs no file when it runs; with the build tag linkcap_shared the program loads liblinkcap.so instead. The package needs
 // cgo, a C compiler and Linux.

@@ -6,6 +6,9 @@
 //! The C library of linkcap does the work; its calls are proved. This crate passes slices to it. Calls may run in threads
 //! at once. They must not run in a signal handler, nor in the forked child of a process with threads.
 //!
+//! The build finds the library in the folder that `LINKCAP_LIB_DIR` names, or by pkg-config. Another crate uses this one from
+//! a folder: `linkcap = { path = "FOLDER" }`.
+//!
 //! ```
 //! use linkcap::{lines_with, normalize, same, LineOptions, DEFAULT_LIMIT};
 //!

@@ -24,7 +24,7 @@ _linkshow() {
 }
 
 _linkdiff() {
-    _linkshow_words "--quiet --without-numbers --without --link --only --ignore-order --empty --offsets --keep-going --limit --kernels --label --color --help"
+    _linkshow_words "--quiet --without-numbers --without --link --only --ignore-order --empty --offsets --keep-going --limit --kernels --no-record --label --color --help"
 }
 
 _linkrec() {
@@ -34,22 +34,22 @@ _linkrec() {
         return
     fi
     case ${COMP_WORDS[1]} in
-        run) _linkshow_words "--quiet --netns --setup --answers --output --attach --help" ;;
+        run) _linkshow_words "--quiet --time --netns --setup --answers --output --attach --help" ;;
         effect) _linkshow_words "--setup --output --help" ;;
         dump) _linkshow_words "--all --port --help" ;;
         watch) _linkshow_words "--all --time --port --help" ;;
         strace) _linkshow_words "--answers --output --help" ;;
-        cut) _linkshow_words "--at --type --legal --help" ;;
+        cut) _linkshow_words "--at --type --legal --output --help" ;;
         *) _linkshow_words "--help" ;;
     esac
 }
 
 _linkgold() {
-    _linkshow_words "--update --effect --setup --here --may-fail --legal --numbers --indexes --counters --without --link --only --ignore-order --help"
+    _linkshow_words "--update --effect --setup --here --may-fail --legal --keep-going --reasons --numbers --counters --without --link --only --ignore-order --help"
 }
 
 _linkjson() {
-    _linkshow_words "--without-numbers --without --link --only --offsets --keep-going --limit --help"
+    _linkshow_words "--without-numbers --without --link --only --offsets --keep-going --limit --no-record --help"
 }
 
 complete -o filenames -F _linkcap linkcap

@@ -1,4 +1,4 @@
-"""Route netlink messages: the names of their types, the tables that a kernel dumps, where messages start, and what an answer
+"""Route netlink messages: the names of their types, the tables that a kernel dumps, where messages start, and what a reply
 says. The scripts share it."""
 import errno
 import os
@@ -6,12 +6,21 @@ import socket
 import struct
 
 HEADER_SIZE = 16
+ERROR_SIZE = HEADER_SIZE + 4 + HEADER_SIZE  # an NLMSG_ERROR's least: the code, and the request's header
 
+AF_UNSPEC = 0  # linux/socket.h
 NETLINK_ROUTE = 0  # linux/netlink.h
 NLMSG_ERROR, NLMSG_DONE = 2, 3
 NLM_F_REQUEST, NLM_F_CAPPED, NLM_F_ACK_TLVS, NLM_F_DUMP = 0x001, 0x100, 0x200, 0x300
 NLMSGERR_ATTR_MSG = 1
 SOL_NETLINK, NETLINK_ADD_MEMBERSHIP = 270, 1
+ATTRIBUTE_HEADER_SIZE = 4
+KIND_BITS = 0x3FFF  # NLA_TYPE_MASK
+IFINFOMSG_SIZE = 16  # linux/rtnetlink.h, struct ifinfomsg
+RTM_NEWLINK, RTM_DELLINK, RTM_GETLINK, RTM_SETLINK = 16, 17, 18, 19
+IFLA_IFNAME, IFLA_LINKINFO, IFLA_NET_NS_PID, IFLA_NET_NS_FD = 3, 18, 19, 28  # linux/if_link.h
+IFLA_INFO_DATA = 2
+VETH_INFO_PEER = 1  # linux/veth.h, and VXCAN_INFO_PEER of linux/can/vxcan.h
 
 MESSAGE_TYPES = {  # linux/rtnetlink.h
     1: "NLMSG_NOOP", 2: "NLMSG_ERROR", 3: "NLMSG_DONE", 4: "NLMSG_OVERRUN", 15: "NLMSG_TSTAMP",
@@ -124,18 +133,37 @@ def as_capture(datagram):
     return bytes(capture), len(rest) if any(rest) else 0
 
 
-def refusals(capture):
-    """A line for each NLMSG_ERROR with an error code: the type of the request, the error, and the kernel's message."""
+def attributes(data, offset, end):
+    """The kind and the payload of each attribute of a list, up to its end or to bytes that are no whole attribute."""
+    while offset + ATTRIBUTE_HEADER_SIZE <= end:
+        length, kind = struct.unpack_from("<HH", data, offset)
+        if not ATTRIBUTE_HEADER_SIZE <= length <= end - offset:
+            return
+        yield kind & KIND_BITS, data[offset + ATTRIBUTE_HEADER_SIZE:offset + length]
+        offset += padded_length(length)
+
+
+def route_socket(port=0):
+    """A route socket; with port number 0 the kernel chooses one."""
+    route = socket.socket(socket.AF_NETLINK, socket.SOCK_RAW, socket.NETLINK_ROUTE)
+    route.setsockopt(socket.SOL_SOCKET, socket.SO_RCVBUF, 8 << 20)
+    route.bind((port, 0))
+    return route
+
+
+def replies(capture):
+    """The header of the request, the error code and the kernel's message, or None, of each NLMSG_ERROR."""
     for offset, length in messages(capture):
-        if message_type(capture, offset) != NLMSG_ERROR or length < HEADER_SIZE + 20:
-            continue
-        code, = struct.unpack_from("<i", capture, offset + HEADER_SIZE)
-        if code >= 0:
-            continue
-        name = type_name(message_type(capture, offset + HEADER_SIZE + 4))
-        reason = extended_message(capture[offset:offset + length])
-        error = ERROR_NAMES.get(-code, f"error {-code}")
-        yield f"{name}: {error} ({os.strerror(-code)})" + (f": {reason}" if reason else "")
+        start = offset + HEADER_SIZE
+        if message_type(capture, offset) == NLMSG_ERROR and length >= ERROR_SIZE:
+            code, = struct.unpack_from("<i", capture, start)
+            yield capture[start + 4:offset + ERROR_SIZE], code, extended_message(capture[offset:offset + length])
+
+
+def refusal(request, code, reason):
+    """The line for a refused request: its type, the error, and the kernel's message."""
+    error = ERROR_NAMES.get(-code, f"error {-code}")
+    return f"{type_name(message_type(request))}: {error} ({os.strerror(-code)})" + (f": {reason}" if reason else "")
 
 
 def extended_message(message):
@@ -145,11 +173,5 @@ def extended_message(message):
         return None
     request, = struct.unpack_from("<I", message, HEADER_SIZE + 4)
     offset = HEADER_SIZE + 4 + (HEADER_SIZE if flags & NLM_F_CAPPED else padded_length(request))
-    while offset + 4 <= len(message):
-        length, kind = struct.unpack_from("<HH", message, offset)
-        if length < 4:
-            return None
-        if kind & 0x3FFF == NLMSGERR_ATTR_MSG:
-            return message[offset + 4:offset + length].rstrip(b"\0").decode(errors="replace")
-        offset += padded_length(length)
-    return None
+    texts = [value for kind, value in attributes(message, offset, len(message)) if kind == NLMSGERR_ATTR_MSG]
+    return texts[0].rstrip(b"\0").decode(errors="replace") if texts else None

@@ -26,7 +26,7 @@ class Namespace:
         self._names = {}  # by index: stamps and names, None for no link
 
     def learn(self, stamp):
-        """Reads what the kernel has told of links since the last time."""
+        """Reads what the kernel has notified of links since the last time."""
         while self.watch:
             try:
                 datagram = self.watch.recv(DATAGRAM_SIZE, socket.MSG_DONTWAIT)
@@ -53,7 +53,7 @@ class Namespace:
             self._set_name(index, None, stamp)
 
     def _take(self, datagram, stamp):
-        """Takes the names that messages tell, and returns the indexes of their links."""
+        """Takes the names in messages, and returns the indexes of their links."""
         indexes = set()
         for offset, length in messages(datagram):
             kind, start = message_type(datagram, offset), offset + HEADER_SIZE
@@ -138,7 +138,7 @@ class Namespaces:
 
 
 def watch_in(namespace, folder):
-    """A route socket in a network namespace, which is told of links; or None if the kernel doesn't permit that. `folder` is
+    """A route socket in a network namespace, which gets notifications of links; or None if the kernel doesn't permit that. `folder` is
     that of the namespaces of a process, by whose user namespace the network namespace is entered."""
     if os.fstat(namespace).st_ino == os.stat("/proc/self/ns/net").st_ino:
         watch = route_socket()

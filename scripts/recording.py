@@ -9,8 +9,9 @@ from route_messages import (
     ERROR_NAMES, HEADER_SIZE, IFINFOMSG_SIZE, IFLA_INFO_DATA, IFLA_LINKINFO, IFLA_NET_NS_FD, IFLA_NET_NS_PID, RTM_DELLINK,
     RTM_GETLINK, RTM_NEWLINK, RTM_SETLINK, VETH_INFO_PEER, as_capture, attributes, message_type, messages, refusal, replies,
     type_name)
-from traces import RECEIVING, ROUTE, SENDING, UNKNOWN, Sockets
+from traces import EXIT, RECEIVING, ROUTE, SENDING, UNKNOWN, Sockets
 
+LEAVING = {EXIT, "setns", "unshare"}
 LINK_TYPES = {RTM_NEWLINK, RTM_DELLINK, RTM_GETLINK, RTM_SETLINK}
 
 
@@ -48,7 +49,7 @@ class Recorder:
         if self.namespaces:
             self.namespaces.follow(call)
         self.sockets.follow(call, self.namespaces and self.namespaces.of_process(call.process))
-        if self.namespaces:
+        if self.namespaces and call.name in LEAVING:
             self.namespaces.release(self.sockets.namespaces())
 
     def _take_sent(self, capture, dropped_bytes, call, socket):

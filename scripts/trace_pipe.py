@@ -14,6 +14,7 @@ PIPE_SIZE = 4096  # a page, the least size of a pipe
 SET_PIPE_SIZE = 1031  # F_SETPIPE_SZ, linux/fcntl.h
 PIDFD_OPEN, PIDFD_GETFD = 434, 438  # asm-generic/unistd.h, the same on each processor
 POLL_INTERVAL = 0.001
+BLOCK = 1 << 16  # more than a piece
 _libc = ctypes.CDLL(None, use_errno=True)
 
 
@@ -51,7 +52,7 @@ class TracePipe:
         while select.select([self.read_end], [], [])[0]:
             stamp += 1
             before_piece(stamp)
-            piece = os.read(self.read_end, PIPE_SIZE)
+            piece = os.read(self.read_end, BLOCK)
             if not piece:
                 break
             rest_stamp = rest_stamp if rest else stamp

@@ -23,6 +23,7 @@ class Namespace:
     def __init__(self, number):
         self.number = number
         self.watch = None  # a route socket in it
+        self.is_known = False  # whether the kernel was asked for its links
         self._names = {}  # by index: stamps and names, None for no link
 
     def learn(self, stamp):
@@ -51,6 +52,7 @@ class Namespace:
             is_done = any(message_type(datagram, offset) in (NLMSG_DONE, NLMSG_ERROR) for offset, _ in messages(datagram))
         for index in unseen:
             self._set_name(index, None, stamp)
+        self.is_known = True
 
     def _take(self, datagram, stamp):
         """Takes the names in messages, and returns the indexes of their links."""
@@ -138,8 +140,8 @@ class Namespaces:
 
 
 def watch_in(namespace, folder):
-    """A route socket in a network namespace, which gets notifications of links; or None if the kernel doesn't permit that. `folder` is
-    that of the namespaces of a process, by whose user namespace the network namespace is entered."""
+    """A route socket in a network namespace, which gets notifications of links; or None if the kernel doesn't permit that.
+    `folder` is that of the namespaces of a process, by whose user namespace the network namespace is entered."""
     if os.fstat(namespace).st_ino == os.stat("/proc/self/ns/net").st_ino:
         watch = route_socket()
     else:

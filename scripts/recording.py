@@ -68,8 +68,9 @@ class Recorder:
                  "namespace": namespace.number if namespace else 1, "process": int(call.process or 0)}
         if call.began and "." in call.began and ":" not in call.began:
             entry["time"] = datetime.datetime.fromtimestamp(float(call.began)).astimezone().isoformat(timespec="microseconds")
-        if namespace:
+        if namespace and namespace.is_known:
             entry["names"] = names_in(message, lambda index: namespace.name(index, call.stamp))
+        if self.namespaces:
             entry["namespaces"] = {f"{kind} {value}": number for kind, value, path in referred_namespaces(message, call.process)
                                    if (number := self.namespaces.number(path))}
         return {key: value for key, value in entry.items() if value != {} or key == "names"}

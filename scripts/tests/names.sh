@@ -52,6 +52,16 @@ if "${CC:-cc}" -o "$work/by_name" "$top/scripts/tests/by_name.c" 2> /dev/null; t
 else
     skip "a wrong master from a program in C" "no C compiler"
 fi
+if "${CC:-cc}" -static -o "$work/renames" "$top/scripts/tests/renames.c" 2> /dev/null; then
+    # Half of the renamings are requests, which have the name before.
+    expected=$(for number in {0..19}; do echo "n$number"; [ $((number % 2)) -eq 1 ] || [ "$number" -eq 19 ] || echo "n$number"; done | paste -sd ' ')
+    succeeds "names of a link that is renamed fast" bash -c 'for run in {1..10}; do
+        "$0" run -q --netns --setup "ip link add v0 type veth peer name v1" -o renamed -- ./renames || exit
+        "$1" --only newlink renamed | grep -o "\"index\": {\"value\": \"[a-z0-9]*\"" | cut -d \" -f 6 | paste -sd " " > shown
+        [ "$(cat shown)" = "$2" ] || { cat shown; exit 1; }; done' "$linkrec" "$linkjson" "$expected"
+else
+    skip "names of a link that is renamed fast" "no C compiler with a static library"
+fi
 succeeds "an index that is chosen, and one of no link" bash -c '"$0" --may-fail --update chosen.lines -- sh -c "ip link add index 77 name v0 type veth peer name v1; ip route add 10.0.0.0/8 dev if99" &&
     grep -q "ifinfomsg .* index 77 " chosen.lines' "$linkgold"
 
@@ -82,6 +92,32 @@ END
 succeeds "an address in another namespace" bash -c 'sed "s/^nsenter.* ip addr add 10.0.0.2.24 dev v1/ip addr add 10.0.0.2\/24 dev v0/" namespaces.sh > changed.sh
     "$0" namespaces.lines -- sh changed.sh > difference; [ $? -eq 1 ] && grep -q "^+# namespace 1" difference' "$linkgold"
 succeeds "a golden file with namespaces as JSON" bash -c '"$0" namespaces.lines | grep -q "^{\"type\": \"RTM_NEWADDR\".*\"namespace\": 2"' "$linkjson"
+
+succeeds "sockets of two namespaces in one process" bash -c '"$0" run -q --netns -o sockets -- python3 "$1"' "$linkrec" "$top/scripts/tests/sockets.py"
+: > "$work/nothing.lines"
+expect "a namespace is that in which the socket was made" 0 "" bash -c '"$0" --empty --without numbers --only newlink nothing.lines sockets |
+    sed -n "s/^+//; s/ flags 0x0 change 0x0$//; /^# /p; / index [^0]/p; /MASTER/p; /NET_NS/p; /\"w0\"$/p"' "$linkdiff" << 'END'
+# namespace 2
+  ifinfomsg family 0 (AF_UNSPEC) type 0 (netrom) index 2
+# namespace 1
+  ifinfomsg family 0 (AF_UNSPEC) type 0 (netrom) index "v1"
+  IFLA_NET_NS_FD netns 2
+  ifinfomsg family 0 (AF_UNSPEC) type 0 (netrom) index "v0"
+  IFLA_MASTER "br0"
+# namespace 2
+  ifinfomsg family 0 (AF_UNSPEC) type 0 (netrom) index "v1"
+  IFLA_MASTER "br1"
+# namespace 1
+  ifinfomsg family 0 (AF_UNSPEC) type 0 (netrom) index "v0"
+  IFLA_IFNAME "w0"
+  ifinfomsg family 0 (AF_UNSPEC) type 0 (netrom) index "w0" flags 0x1 (Up) change 0x1 (Up)
+# namespace 2
+  ifinfomsg family 0 (AF_UNSPEC) type 0 (netrom) index "v1"
+  IFLA_NET_NS_FD netns 1
+# namespace 1
+  ifinfomsg family 0 (AF_UNSPEC) type 0 (netrom) index "br0" flags 0x1 (Up) change 0x1 (Up)
+END
+succeeds "without order, with namespaces" bash -c '"$0" --ignore-order namespaces.lines -- sh namespaces.sh 2> /dev/null && "$1" -q --ignore-order namespaces.lines namespaces.lines 2> /dev/null' "$linkgold" "$linkdiff"
 
 # Refused requests.
 succeeds "a golden file isn't written with a refused request" bash -c 'rm -f refused.lines; "$0" --update refused.lines -- sh -c "ip link add v0 type no_such_kind; true" 2> report

@@ -100,7 +100,7 @@ class Names:
     def annotated(self, message: List[str], entry: Entry, reasons: bool = False) -> List[str]:
         """The lines of a message with what its entry knows; with the kernel's words for what it refused, if `reasons`."""
         words = {line.split()[0] for line in message}
-        lines = [self._named(line, message[0], words, entry) for line in message] if "names" in entry else message
+        lines = [self._named(line, message[0], words, entry) for line in message]
         if entry["namespace"] != 1:
             lines = [_in_namespace(lines[0], entry["namespace"]), *lines[1:]]
         if "error" in entry:
@@ -113,7 +113,7 @@ class Names:
         if attribute and attribute[2] in NAMESPACE_REFERENCES:
             number = entry.get("namespaces", {}).get(f"{NAMESPACE_REFERENCES[attribute[2]]} {attribute[4]}")
             return f"{attribute[1]}{attribute[2]}{attribute[3] or ''} netns {number}" if number else line
-        if words & _ELSEWHERE:
+        if "names" not in entry or words & _ELSEWHERE:
             return line
         if attribute and attribute[2] in LINK_INDEXES:
             if attribute[2] == "IFLA_NEW_IFINDEX" or attribute[2] == "IFLA_LINK" and "IFLA_LINK_NETNSID" in words:

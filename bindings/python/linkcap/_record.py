@@ -63,7 +63,10 @@ def record(command: Sequence[_Word], *, setup: Sequence[str] = (), here: bool = 
         if process.returncode:
             report = process.stderr.decode(errors="replace").strip()
             raise RecordError(f"{os.fspath(command[0])} ended with status {process.returncode}: {report}")
-        return Recording.read(capture)
+        try:
+            return Recording.read(capture)
+        except FileNotFoundError:
+            raise RecordError(f"{program} wrote no record: it is of an older version") from None
 
 
 def _options(setup: Sequence[str], here: bool) -> List[str]:

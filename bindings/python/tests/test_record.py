@@ -77,6 +77,15 @@ class Record(unittest.TestCase):
         with self.assertRaisesRegex(TypeError, "a list of words"):
             linkcap.record("ip link")
 
+    def test_an_older_linkrec(self) -> None:
+        with tempfile.TemporaryDirectory() as folder:
+            path = os.path.join(folder, "linkrec")
+            with open(path, "w", encoding="ascii") as script:
+                script.write('#!/bin/sh\n: > "$4"\n')
+            os.chmod(path, 0o755)
+            with mock.patch.dict(os.environ, LINKREC=path), self.assertRaisesRegex(linkcap.RecordError, "wrote no record"):
+                linkcap.record(ADD)
+
     def test_no_linkrec(self) -> None:
         with mock.patch.dict(os.environ, LINKREC="/nowhere/linkrec"), self.assertRaisesRegex(linkcap.RecordError, "no program"):
             linkcap.record(ADD)

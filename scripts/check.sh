@@ -234,6 +234,7 @@ json+='"header": {"struct": "ifinfomsg", "family": {"value": 0, "text": "AF_UNSP
 json+='"flags": {"value": 0, "flags": []}, "change": {"value": 0, "flags": []}}, '
 json+='"attributes": [{"name": "IFLA_EXT_MASK", "value": 9, "flags": ["Vf", "SkipStats"]}, {"name": "IFLA_IFNAME", "value": "lo", "quoted": true}]}'
 succeeds "stored lines as JSON" "$top/scripts/tests/lines.py"
+succeeds "lines with what a record knows" "$top/scripts/tests/record.py"
 expect "a capture as JSON" 0 "" "$linkjson" a <<< "$json"
 expect "JSON of linkshow" 0 "" "$LINKSHOW" --json a <<< "$json"
 expect "lines as JSON" 0 "" "$linkjson" a.lines <<< "$json"

@@ -12,6 +12,7 @@ from route_messages import (
 from traces import EXIT
 
 CLONE_NEWUSER, CLONE_NEWNET = 0x10000000, 0x40000000  # linux/sched.h
+SO_NETNS_COOKIE, COOKIE_SIZE = 71, 8  # asm-generic/socket.h
 DATAGRAM_SIZE = 1 << 20
 _libc = ctypes.CDLL(None, use_errno=True)
 
@@ -86,10 +87,12 @@ class Namespace:
 
 
 class Namespaces:
-    """The network namespaces of traced processes, which are numbered in order of appearance."""
+    """The network namespaces of traced processes, which are numbered in order of appearance. Where the kernel has cookies of
+    namespaces these are known again by them, since it gives the inode of a removed namespace to the next one."""
 
     def __init__(self):
-        self._by_inode = {}
+        self._known = {}  # by cookie, or by inode where there is no cookie
+        self._by_inode = {}  # those that are watched, so that no other namespace gets the inode
         self._by_process = {}
 
     def learn(self, stamp):
@@ -101,7 +104,8 @@ class Namespaces:
         if call.name == EXIT:
             self._by_process.pop(call.process, None)
         elif call.process not in self._by_process or call.name in ("setns", "unshare"):
-            namespace = self._of_file(f"/proc/{call.process}/ns/net", call.stamp)
+            folder = f"/proc/{call.process}/ns"
+            namespace = self.of_file(f"{folder}/net", folder, call.stamp)
             self._by_process[call.process] = namespace or self._by_process.get(call.process)
 
     def of_process(self, process):
@@ -111,32 +115,39 @@ class Namespaces:
     def release(self, used):
         """Leaves the namespaces in which no traced process is, but for those that are used, so that the kernel may remove
         them."""
-        for namespace in set(self._by_inode.values()) - set(self._by_process.values()) - set(used):
-            namespace.close()
+        kept = {*used, *self._by_process.values()}
+        for inode, namespace in list(self._by_inode.items()):
+            if namespace not in kept:
+                namespace.close()
+                del self._by_inode[inode]
 
-    def number(self, path):
-        """The number of the namespace of a file, or None if there is none: of `/proc/7/ns/net`, or of a descriptor."""
-        try:
-            inode = os.stat(path).st_ino
-        except OSError:
-            return None
-        return self._numbered(inode).number
-
-    def _numbered(self, inode):
-        return self._by_inode.setdefault(inode, Namespace(len(self._by_inode) + 1))
-
-    def _of_file(self, path, stamp):
-        """The namespace of a process by its file, with a watch in it; or None if the process has ended."""
+    def of_file(self, path, folder, stamp):
+        """The namespace of a file, as `/proc/7/ns/net` or a descriptor, with a watch in it; or None if there is none. `folder`
+        has the namespaces of a process that may enter it."""
         try:
             with open(path, "rb") as file:
-                namespace = self._numbered(os.fstat(file.fileno()).st_ino)
-                if namespace.watch is None:
-                    namespace.watch = watch_in(file.fileno(), os.path.dirname(path))
-                    if namespace.watch:
-                        namespace.ask(stamp - 1)
-                return namespace
+                inode = os.fstat(file.fileno()).st_ino
+                if inode not in self._by_inode:
+                    self._by_inode[inode] = self._entered(inode, watch_in(file.fileno(), folder), stamp)
+                return self._by_inode[inode]
         except OSError:
             return None
+
+    def _entered(self, inode, watch, stamp):
+        """The namespace of an inode, which isn't watched yet. There is no watch if it can't be entered."""
+        namespace = self._known.setdefault(cookie(watch) or inode, Namespace(len(self._known) + 1))
+        if watch:
+            namespace.watch = watch
+            namespace.ask(stamp - 1)
+        return namespace
+
+
+def cookie(watch):
+    """What the kernel tells the namespace of a socket apart by, or None if it doesn't say that."""
+    try:
+        return watch and watch.getsockopt(socket.SOL_SOCKET, SO_NETNS_COOKIE, COOKIE_SIZE)
+    except OSError:
+        return None
 
 
 def watch_in(namespace, folder):

@@ -71,8 +71,9 @@ class Recorder:
         if namespace and namespace.is_known:
             entry["names"] = names_in(message, lambda index: namespace.name(index, call.stamp))
         if self.namespaces:
-            entry["namespaces"] = {f"{kind} {value}": number for kind, value, path in referred_namespaces(message, call.process)
-                                   if (number := self.namespaces.number(path))}
+            entry["namespaces"] = {f"{kind} {value}": namespace.number
+                                   for kind, value, *file in referred_namespaces(message, call.process)
+                                   if (namespace := self.namespaces.of_file(*file, call.stamp))}
         return {key: value for key, value in entry.items() if value != {} or key == "names"}
 
     def _take_received(self, capture, socket):
@@ -108,7 +109,8 @@ def names_in(message, name_of):
 
 
 def referred_namespaces(message, process):
-    """The namespaces to which a link message of a process refers: `pid` or `fd`, its number, and the namespace's file."""
+    """The namespaces to which a link message of a process refers: `pid` or `fd`, its number, the namespace's file, and the
+    folder of the namespaces of a process that may enter it."""
     if message_type(message) not in LINK_TYPES:
         return
     values = list(attributes(message, HEADER_SIZE + IFINFOMSG_SIZE, len(message)))
@@ -120,9 +122,10 @@ def referred_namespaces(message, process):
     for kind, value in values:
         if kind in (IFLA_NET_NS_PID, IFLA_NET_NS_FD) and len(value) >= 4:
             number, = struct.unpack_from("<I", value)
-            is_process = kind == IFLA_NET_NS_PID
-            path = f"/proc/{number}/ns/net" if is_process else f"/proc/{process}/fd/{number}"
-            yield "pid" if is_process else "fd", number, path
+            if kind == IFLA_NET_NS_PID:
+                yield "pid", number, f"/proc/{number}/ns/net", f"/proc/{number}/ns"
+            else:
+                yield "fd", number, f"/proc/{process}/fd/{number}", f"/proc/{process}/ns"
 
 
 def take_reply(socket, request, code, reason):

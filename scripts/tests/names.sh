@@ -93,6 +93,10 @@ succeeds "an address in another namespace" bash -c 'sed "s/^nsenter.* ip addr ad
     "$0" namespaces.lines -- sh changed.sh > difference; [ $? -eq 1 ] && grep -q "^+# namespace 1" difference' "$linkgold"
 succeeds "a golden file with namespaces as JSON" bash -c '"$0" namespaces.lines | grep -q "^{\"type\": \"RTM_NEWADDR\".*\"namespace\": 2"' "$linkjson"
 
+# The kernel gives the inode of the second namespace, which is removed, to the third one.
+fresh='unshare -n ip link set lo up; sleep 0.1; unshare -n ip link set lo up'
+succeeds "namespaces one after the other" bash -c '"$0" --update fresh.lines -- sh -c "$1" && [ "$(grep "^# n" fresh.lines | paste -sd " ")" = "# namespace 2 # namespace 3" ] &&
+    for run in {1..10}; do "$0" fresh.lines -- sh -c "$1" || exit; done' "$linkgold" "$fresh"
 succeeds "sockets of two namespaces in one process" bash -c '"$0" run -q --netns -o sockets -- python3 "$1"' "$linkrec" "$top/scripts/tests/sockets.py"
 : > "$work/nothing.lines"
 expect "a namespace is that in which the socket was made" 0 "" bash -c '"$0" --empty --without numbers --only newlink nothing.lines sockets |
@@ -132,6 +136,7 @@ succeeds "a port's option" bash -c 'setup="ip -batch batch"; "$0" --setup "$setu
     { "$0" --setup "$setup" --keep-going port.lines -- ip link set vb type bridge_slave cost 11 > /dev/null 2>&1; [ $? -eq 1 ]; }' "$linkgold"
 
 # The record beside a capture.
+succeeds "a golden file and its own capture" bash -c '"$0" --update own.lines -- ip -batch batch 2> /dev/null && "$1" run -q --netns -o own -- ip -batch batch && "$2" own.lines own' "$linkgold" "$linkrec" "$linkdiff"
 "$linkrec" run -q --netns -o "$work/recorded" -- ip -batch "$work/batch" 2> /dev/null
 succeeds "a record of another capture" bash -c 'cp a other; cp recorded.record other.record; "$0" other other 2> report; [ $? -eq 2 ] &&
     grep -qx "linkdiff: other.record: a record of another capture, without the message at 0: remove it" report; status=$?; rm other.record; exit $status' "$linkdiff"

@@ -31,7 +31,7 @@ def golden(capture: Capture, path: Union[str, "os.PathLike[str]"], *, update: bo
     """
     __tracebackhide__ = True
     if isinstance(capture, Recording):
-        text = _recorded_lines(capture, lines(capture, limit, numbers=numbers, only=only, offsets=True))
+        text = _recorded_lines(capture, lines(capture, limit, only=only, offsets=True), numbers)
     else:
         text = lines(capture, limit, numbers=numbers, only=only)
     if not text:
@@ -45,11 +45,12 @@ def golden(capture: Capture, path: Union[str, "os.PathLike[str]"], *, update: bo
         raise AssertionError(_difference(name, version, expected, text))
 
 
-def _recorded_lines(recording: Recording, text: str) -> str:
-    """The lines of a recording, from those with offsets, without the probes of iproute2."""
+def _recorded_lines(recording: Recording, text: str, numbers: bool) -> str:
+    """The lines of a recording, from those with offsets and numbers, without the probes of iproute2."""
     annotated = lines_record.without_offsets(lines_record.annotated(text.splitlines(), recording.entries))
     messages = [message for message in lines_filter.messages(annotated) if not lines_record.is_probe(message)]
-    return "".join(line + "\n" for line in lines_record.for_file(line for message in messages for line in message))
+    kept = lines_filter.without((line for message in messages for line in message), set() if numbers else {"numbers"})
+    return "".join(line + "\n" for line in lines_record.for_file(kept))
 
 
 def _write(name: str, text: str) -> None:

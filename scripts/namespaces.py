@@ -1,6 +1,7 @@
 """The network namespaces of traced processes, and the name that each link of them has, or had before some call."""
 import array
 import ctypes
+import errno
 import os
 import socket
 import struct
@@ -47,7 +48,9 @@ class Namespace:
         while not is_done:
             try:
                 datagram = self.watch.recv(DATAGRAM_SIZE)
-            except OSError:  # the kernel dropped notifications, and answers all the same
+            except OSError as error:
+                if error.errno != errno.ENOBUFS:  # else it dropped notifications, and sends its reply all the same
+                    raise
                 continue
             unseen -= self._take(datagram, stamp)
             is_done = any(message_type(datagram, offset) in (NLMSG_DONE, NLMSG_ERROR) for offset, _ in messages(datagram))
@@ -143,7 +146,7 @@ class Namespaces:
 
 
 def cookie(watch):
-    """What the kernel tells the namespace of a socket apart by, or None if it doesn't say that."""
+    """What identifies the namespace of a socket as long as the kernel runs, or None if it has no such number."""
     try:
         return watch and watch.getsockopt(socket.SOL_SOCKET, SO_NETNS_COOKIE, COOKIE_SIZE)
     except OSError:

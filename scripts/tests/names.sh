@@ -93,7 +93,7 @@ succeeds "an address in another namespace" bash -c 'sed "s/^nsenter.* ip addr ad
     "$0" namespaces.lines -- sh changed.sh > difference; [ $? -eq 1 ] && grep -q "^+# namespace 1" difference' "$linkgold"
 succeeds "a golden file with namespaces as JSON" bash -c '"$0" namespaces.lines | grep -q "^{\"type\": \"RTM_NEWADDR\".*\"namespace\": 2"' "$linkjson"
 
-# The kernel gives the inode of the second namespace, which is removed, to the third one.
+# Kernels may give the inode of the second namespace, which is removed, to the third one.
 fresh='unshare -n ip link set lo up; sleep 0.1; unshare -n ip link set lo up'
 succeeds "namespaces one after the other" bash -c '"$0" --update fresh.lines -- sh -c "$1" && [ "$(grep "^# n" fresh.lines | paste -sd " ")" = "# namespace 2 # namespace 3" ] &&
     for run in {1..10}; do "$0" fresh.lines -- sh -c "$1" || exit; done' "$linkgold" "$fresh"
@@ -142,6 +142,10 @@ succeeds "a record of another capture" bash -c 'cp a other; cp recorded.record o
     grep -qx "linkdiff: other.record: a record of another capture, without the message at 0: remove it" report; status=$?; rm other.record; exit $status' "$linkdiff"
 succeeds "a record that is cut" bash -c 'cp recorded cut-off; head -c 300 recorded.record > cut-off.record; "$0" cut-off 2> report; [ $? -eq 2 ] && grep -q "cut-off.record: line 3 isn.t of a record" report' "$linkjson"
 succeeds "a capture without its record" bash -c '"$0" --no-record recorded | grep -q "\"index\": 3," && "$0" recorded | grep -q "\"index\": {\"value\": \"va\""' "$linkjson"
+succeeds "a capture with a record and one without" bash -c 'cp recorded copied; "$0" --without-numbers --only dellink recorded copied > difference 2> report; [ $? -eq 1 ] &&
+    grep -q "^-.* index \"va\"" difference && grep -q "^+.* index 3 " difference && "$0" --no-record recorded copied &&
+    grep -qx "linkdiff: copied has no record, so it has indexes where the other capture has names; --no-record shows indexes of both" report' "$linkdiff"
+succeeds "another user namespace" bash -c '"$0" run -q -o inner -- unshare --map-root-user --net ip link set lo up && grep -q "\"names\": {\"1\": \"lo\"}" inner.record' "$linkrec"
 succeeds "a part of a capture has its record" bash -c '"$0" cut --type getlink -o part recorded && "$1" --only newlink part > shown && "$1" --only newlink recorded | cmp - shown' "$linkrec" "$linkjson"
 succeeds "pieces of a capture have their records" bash -c 'rm -rf pieces; "$0" split recorded 300 pieces > names && [ "$(wc -l < names)" -gt 2 ] &&
     for name in pieces/*.bin; do "$1" "$name" || exit; done > shown; "$1" recorded | cmp - shown' "$linkrec" "$linkjson"

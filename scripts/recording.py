@@ -5,6 +5,7 @@ import os
 import struct
 import zlib
 
+import lines_filter
 from route_messages import (
     ERROR_NAMES, HEADER_SIZE, IFINFOMSG_SIZE, IFLA_INFO_DATA, IFLA_LINKINFO, IFLA_NET_NS_FD, IFLA_NET_NS_PID, RTM_DELLINK,
     RTM_GETLINK, RTM_NEWLINK, RTM_SETLINK, VETH_INFO_PEER, as_capture, attributes, message_type, messages, refusal, replies,
@@ -102,10 +103,11 @@ def sequence_number(capture, offset=0):
 
 
 def names_in(message, name_of):
-    """The names of the indexes that a message may hold: of each number of 4 bytes in its body that is an index of a link."""
+    """The names of the indexes that a message may hold, as lines have them: of each number of 4 bytes in its body that is an
+    index of a link."""
     numbers = {struct.unpack_from("<i", message, at)[0] for at in range(HEADER_SIZE, len(message) - 3, 4)}
     names = {number: name_of(number) for number in sorted(numbers) if number > 0}
-    return {str(number): name for number, name in names.items() if name is not None}
+    return {str(number): lines_filter.quoted(name)[1:-1] for number, name in names.items() if name is not None}
 
 
 def referred_namespaces(message, process):

@@ -65,6 +65,12 @@ fi
 succeeds "an index that is chosen, and one of no link" bash -c '"$0" --may-fail --update chosen.lines -- sh -c "ip link add index 77 name v0 type veth peer name v1; ip route add 10.0.0.0/8 dev if99" &&
     grep -q "ifinfomsg .* index 77 " chosen.lines' "$linkgold"
 
+cat > "$work/odd.sh" << 'END'
+ip link add 'a"b\c' type veth peer name v1
+ip link set 'a"b\c' up
+END
+succeeds "a name with a quote and a backslash" bash -c '"$0" run -q --netns -o odd -- sh odd.sh && "$1" odd | tail -n 1 | grep -qF "\"index\": {\"value\": \"a\\\"b\\\\c\", \"quoted\": true}"' "$linkrec" "$linkjson"
+
 # Namespaces.
 cat > "$work/namespaces.sh" << 'END'
 ip link add v0 type veth peer name v1

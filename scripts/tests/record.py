@@ -13,7 +13,7 @@ sys.dont_write_bytecode = True
 import lines_filter  # noqa: E402
 import lines_record  # noqa: E402
 
-NAMES = {"2": "br0", "3": "va", "4": 'a"b\\c'}
+NAMES = {"2": "br0", "3": "va", "4": 'a\\"b\\\\c'}
 LINK = "  ifinfomsg family 0 (AF_UNSPEC) type 1 (ether) index 3 flags 0x0 change 0x0"
 NEW, SET = "RTM_NEWLINK flags 0x605 (REQUEST | ACK | EXCL | CREATE)", "RTM_NEWLINK flags 0x5 (REQUEST | ACK)"
 
@@ -80,6 +80,19 @@ class Record(unittest.TestCase):
         for name in lines_record.LINK_INDEXES - {"IFLA_NEW_IFINDEX"}:
             self.assertEqual(shown([SET, f"  {name} 3"])[1], f'  {name} "va"')
         self.assertLessEqual(lines_record.LINK_INDEXES, lines_filter.INDEXES)
+
+    def test_every_header_with_an_index(self):
+        with open(os.path.join(HERE, "../../tools/oracle/rows.tsv"), encoding="utf-8") as rows:
+            records = [row.rstrip("\n").split("\t")[1:3] for row in rows if row.startswith("record\t")]
+        found = 0
+        for name, fields in records:
+            names = [field.split(":")[0] for field in fields.split() if not field.startswith("-")]
+            if {"index", "ifindex"} & set(names):
+                values = [f'{field} "va"' if field in ("index", "ifindex") else f"{field} 3" for field in names]
+                line = f"  {name.split('/')[0]} "
+                self.assertEqual(shown([SET, line + " ".join(f"{field} 3" for field in names)])[1], line + " ".join(values))
+                found += 1
+        self.assertGreater(found, 10)
 
     def test_links_of_other_namespaces_keep_their_numbers(self):
         other = [SET, LINK, "  IFLA_LINK 3", "  IFLA_LINK_NETNSID 0"]

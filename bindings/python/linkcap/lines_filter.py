@@ -317,7 +317,8 @@ def _without_numbers(line: str, level: int, names: Set[str]) -> str:
     return line
 
 
-def _quote(name: str) -> str:
+def quoted(name: str) -> str:
+    """A text as lines have it, in quotes."""
     return '"' + "".join(_escape(byte) for byte in name.encode(errors="surrogateescape")) + '"'
 
 
@@ -330,7 +331,7 @@ def _escape(byte: int) -> str:
 def is_about(message: List[str], link: str) -> bool:
     """Whether a message is about the link with a name or index."""
     header = message[1] if len(message) > 1 and depth(message[1]) == 1 and _is_struct(message[1]) else ""
-    name = _quote(link)
+    name = quoted(link)
     if re.search(rf" (?:if)?index (?:{re.escape(link)}|{re.escape(name)})(?: |$)", header):
         return True
     name_lines = {f"  IFLA_IFNAME {name}", f"  IFLA_ALT_IFNAME {name}", f"    IFLA_ALT_IFNAME {name}"}

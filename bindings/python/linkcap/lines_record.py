@@ -134,20 +134,9 @@ class Names:
         if int(index) in _NO_INDEX:
             return index
         if index in entry["names"]:
-            return quoted(entry["names"][index])
+            return f'"{entry["names"][index]}"'
         place = entry["namespace"], int(index)
         return f"#{self._numbers.setdefault(place, len(self._numbers) + 1)}"
-
-
-def quoted(name: str) -> str:
-    """A text as lines have it."""
-    return '"' + "".join(_escape(byte) for byte in name.encode(errors="surrogateescape")) + '"'
-
-
-def _escape(byte: int) -> str:
-    if byte in b'"\\':
-        return "\\" + chr(byte)
-    return chr(byte) if 32 <= byte < 127 else f"\\x{byte:02x}"
 
 
 def annotated(lines: Iterable[str], entries: Dict[int, Entry], reasons: bool = False) -> Iterator[str]:

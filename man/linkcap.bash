@@ -3,18 +3,18 @@
 # ---- lists, by tools/completion.py
 declare -gA _linkcap_options=(
     ["linkshow"]="--only --link --without --without-numbers --offsets --keep-going --json --limit --kernels --help --version"
-    ["linkdiff"]="--help --quiet --without-numbers --without --link --only --ignore-order --empty --offsets --keep-going --limit --kernels --label --color"
+    ["linkdiff"]="--help --quiet --without-numbers --without --link --only --ignore-order --empty --offsets --keep-going --limit --kernels --no-record --label --color"
     ["linkrec"]="--help"
-    ["linkrec run"]="--help --output --answers --netns --setup --quiet --attach"
+    ["linkrec run"]="--help --output --answers --netns --setup --quiet --time --attach"
     ["linkrec effect"]="--help --output --setup"
     ["linkrec dump"]="--help --all --port"
     ["linkrec watch"]="--help --all --time --port"
     ["linkrec pcap"]="--help"
     ["linkrec strace"]="--help --output --answers"
-    ["linkrec cut"]="--help --at --type --legal"
+    ["linkrec cut"]="--help --at --type --legal --output"
     ["linkrec split"]="--help"
-    ["linkgold"]="--help --update --effect --setup --here --may-fail --legal --numbers --indexes --counters --without --only --link --ignore-order"
-    ["linkjson"]="--help --without --without-numbers --link --only --offsets --keep-going --limit"
+    ["linkgold"]="--help --update --effect --setup --here --may-fail --legal --keep-going --reasons --numbers --counters --without --only --link --ignore-order"
+    ["linkjson"]="--help --without --without-numbers --link --only --offsets --keep-going --limit --no-record"
 )
 declare -gA _linkcap_values=(
     ["--answers"]="files"

@@ -28,6 +28,7 @@ local -a _linkcap_options_linkdiff=(
     --keep-going"[messages with a fault in their body count too, by its bytes]"
     --limit"[the greatest length of a message in bytes, as linkshow has it]:limit:"
     --kernels"[notes what kernels treat differently, as linkshow has it]"
+    --no-record"[shows indexes, although there is a record with names beside a capture]"
     --label"[names a side in the diff]:label:"
     --color"::color:(always auto never)"
 )
@@ -41,6 +42,7 @@ local -a _linkcap_options_linkrec_run=(
     --netns"[in a new network namespace]"
     --setup"[a shell command to run in that namespace before, which isn't recorded]:setup:"
     '(-q --quiet)'{-q,--quiet}"[doesn't report refused requests]"
+    --time"[when each message was sent, its offset and type, by which process, and in which namespace, on standard error]"
     --attach"[record a running program until it ends or Ctrl-C]:attach:"
 )
 local -a _linkcap_options_linkrec_effect=(
@@ -72,6 +74,7 @@ local -a _linkcap_options_linkrec_cut=(
     --at"[without those that start at these offsets, in bytes]:at:"
     --type"[without those of these types, by name or number]:type:_linkcap_types"
     --legal"[without those that linkcap finds invalid, which are reported]"
+    '(-o --output)'{-o,--output}"[where the messages go]:output:_linkcap_files"
 )
 local -a _linkcap_options_linkrec_split=(
     '(-h --help)'{-h,--help}"[show this help message and exit]"
@@ -84,8 +87,9 @@ local -a _linkcap_options_linkgold=(
     --here"[records in the caller's network namespace]"
     --may-fail"[records a command that fails, too]"
     --legal"[leaves out messages with an invalid body, which are reported]"
+    --keep-going"[compares messages with an invalid body by their bytes]"
+    --reasons"[shows the kernel's words for what it refused, which change from kernel to kernel]"
     --numbers"[keeps numbers]"
-    --indexes"[keeps indexes]"
     --counters"[keeps counters]"
     --without"[leaves out these attributes too]:without:_linkcap_groups"
     --only"[messages of these types alone count]:only:_linkcap_types"
@@ -101,6 +105,7 @@ local -a _linkcap_options_linkjson=(
     --offsets"[each message's offset in bytes, as linkshow has it]"
     --keep-going"[messages with a fault in their body too, with the reason, and those after them]"
     --limit"[the greatest length of a message in bytes, as linkshow has it]:limit:"
+    --no-record"[indexes of links, although there is a record with their names beside FILE]"
 )
 local -a _linkcap_commands=(
     "run:Records the route messages that a command sends"

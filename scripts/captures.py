@@ -1,9 +1,12 @@
-"""Captures and files of lines, as linkdiff and linkjson read them."""
+"""Captures with their records, and files of lines, as linkdiff, linkgold and linkjson read them."""
 import os
 import shutil
 
+import lines_record
+
 HEADER_SIZE, DEFAULT_LIMIT = 16, 1 << 20
-FIRST_WORDS = (b"RTM_", b"NLMSG_", b"type ", b"# linkcap lines")
+FORMAT_WORDS = b"# linkcap lines"
+FIRST_WORDS = (b"RTM_", b"NLMSG_", b"type ", b"# namespace", FORMAT_WORDS)
 BODY_FAULTS = (
     "refused body", "ports with foreign entries alone", "attribute over 65535", "normal text over the limit")
 
@@ -60,11 +63,29 @@ def are_lines(start):
 
 def has_version(start):
     """Whether the first line of a file of lines is that of a golden file, which has their format version."""
-    return start.startswith(b"#")
+    return start.startswith(FORMAT_WORDS)
 
 
 def decode_lines(lines):
-    """The lines of a file of lines as text, without the one with their format version."""
-    for number, line in enumerate(lines):
-        if number or not has_version(line):
-            yield line.decode(errors="replace").rstrip("\r\n")
+    """The lines of a file of lines as text, without the one with their format version. The messages' first lines have their
+    namespaces."""
+    texts = (line.decode(errors="replace").rstrip("\r\n") for number, line in enumerate(lines)
+             if number or not has_version(line))
+    return lines_record.from_file(texts)
+
+
+def record_of(name, capture):
+    """The entries of the record beside the file of a capture, by their offsets, or None if there is no record.
+
+    # Errors
+
+    RecordFault, with the record's name.
+    """
+    name += lines_record.SUFFIX
+    try:
+        with open(name, encoding="utf-8") as file:
+            return lines_record.read_record(file.read(), capture)
+    except FileNotFoundError:
+        return None
+    except lines_record.RecordFault as fault:
+        raise lines_record.RecordFault(f"{name}: {fault}") from None

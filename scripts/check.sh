@@ -234,6 +234,7 @@ json+='"header": {"struct": "ifinfomsg", "family": {"value": 0, "text": "AF_UNSP
 json+='"flags": {"value": 0, "flags": []}, "change": {"value": 0, "flags": []}}, '
 json+='"attributes": [{"name": "IFLA_EXT_MASK", "value": 9, "flags": ["Vf", "SkipStats"]}, {"name": "IFLA_IFNAME", "value": "lo", "quoted": true}]}'
 succeeds "stored lines as JSON" "$top/scripts/tests/lines.py"
+succeeds "lines with what a record knows" "$top/scripts/tests/record.py"
 expect "a capture as JSON" 0 "" "$linkjson" a <<< "$json"
 expect "JSON of linkshow" 0 "" "$LINKSHOW" --json a <<< "$json"
 expect "lines as JSON" 0 "" "$linkjson" a.lines <<< "$json"
@@ -401,7 +402,7 @@ done
 
 expect "a golden file and a capture" 0 "" "$linkgold" a.lines a < /dev/null
 expect "a golden file and a capture with another number" 0 "" "$linkgold" a.lines later < /dev/null
-expect "a golden file and another number, which counts" 1 "" "$linkgold" --numbers --indexes --counters a.lines later << 'END'
+expect "a golden file and another number, which counts" 1 "" "$linkgold" --numbers --counters a.lines later << 'END'
 --- a.lines
 +++ later
 @@ -1,4 +1,4 @@ RTM_GETLINK lo
@@ -416,7 +417,7 @@ expect "a golden file and another name" 1 "" "$linkgold" a.lines b << 'END'
 +++ b
 @@ -1,4 +1,4 @@ RTM_GETLINK lo
  RTM_GETLINK flags 0x301 (REQUEST | ROOT | MATCH)
-   ifinfomsg family 0 (AF_UNSPEC) type 0 (netrom) flags 0x0 change 0x0
+   ifinfomsg family 0 (AF_UNSPEC) type 0 (netrom) index 0 flags 0x0 change 0x0
    IFLA_EXT_MASK 0x9 (Vf | SkipStats)
 -  IFLA_IFNAME "lo"
 +  IFLA_IFNAME "l1"
@@ -428,7 +429,7 @@ expect "a golden file and another order" 0 "$ignored" "$linkgold" --ignore-order
 expect "a golden file of nothing" 2 "linkgold: none: no messages" "$linkgold" --update none.lines none < /dev/null
 expect "no golden file" 2 "linkgold: missing.lines: no such file; --update writes it" "$linkgold" missing.lines a < /dev/null
 expect "a golden file and an invalid message" 2 \
-    "linkgold: mixed: refused body at 48: a header of 4 bytes at 64; --legal leaves such messages out" "$linkgold" a.lines mixed < /dev/null
+    "linkgold: mixed: refused body at 48: a header of 4 bytes at 64; --keep-going compares such messages by their bytes" "$linkgold" a.lines mixed < /dev/null
 expect "a golden file without invalid messages" 0 "linkrec: left out the message at 48: refused body" \
     "$linkgold" --legal --update "with space.lines" mixed < /dev/null
 expect "the lines without invalid messages" 0 "" "$linkdiff" --without numbers,indexes,counters "with space.lines" <(cat "$work/a" "$work/b") < /dev/null
@@ -464,6 +465,8 @@ else
     else
         skip "all ways to send" "no C compiler with a static library"
     fi
+    succeeds "when messages are sent" bash -c '"$0" run --netns --time -o made -- ip link show dev lo 2> times &&
+        grep -qx "20.*T.* 32 RTM_GETLINK process [0-9]* namespace 1" times' "$linkrec"
     succeeds "a process that is attached to" "$top/scripts/tests/attach.sh" "$linkrec"
     succeeds "the links after a command" bash -c '"$0" effect --setup "ip link set lo mtu 5000" -- ip link set lo up > made && "$LINKSHOW" made | grep -q "IFLA_MTU 5000" &&
         "$LINKSHOW" made | grep -q "flags 0x.*Up"' "$linkrec"
@@ -496,6 +499,7 @@ else
     else
         skip "effects with random addresses" "no veth"
     fi
+    . scripts/tests/names.sh
     succeeds "a dump" bash -c '"$0" dump > dumped && "$LINKSHOW" dumped | grep -q "^NLMSG_DONE"' "$linkrec"
     succeeds "a dump from a port" bash -c '"$0" dump --port 7777 > dumped && "$LINKSHOW" dumped | grep -q "^RTM_NEWLINK.* port 7777$"' "$linkrec"
     succeeds "all tables" bash -c '"$0" dump --all > dumped && "$LINKSHOW" dumped > shown &&

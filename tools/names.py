@@ -1,8 +1,9 @@
 #!/usr/bin/env python3
 """Writes the sets of attributes' names that are needed to read lines.
 
-    tools/names.py            writes NAMES, COUNTERS and INDEXES of lines_filter.py, and BYTES and NUMBER_LISTS of lines_json.py;
-                              and these, but for NAMES, in the crates link_lines_parts and link_lines_json, as code and in specs
+    tools/names.py            writes NAMES, COUNTERS and INDEXES of lines_filter.py, LINK_INDEXES of lines_record.py, and BYTES
+                              and NUMBER_LISTS of lines_json.py; and these, but for NAMES and LINK_INDEXES, in the crates
+                              link_lines_parts and link_lines_json, as code and in specs
     tools/names.py --check    ends with status 1 if one of these differs from the tables
 
 The names, their groups and the formats of values are those of the independent implementation, tools/oracle/rows.tsv and
@@ -31,12 +32,15 @@ def names_with(*formats):
 
 BYTES = names_with("bytes", "hardware_address", "bridge_id")
 NUMBER_LISTS = names_with("numbers")
+# The group has two kinds of names: those of numbers of namespaces end alike, and all others hold indexes of links.
+LINK_INDEXES = {name for name in linkshow.GROUPS["indexes"] if not name.endswith("NETNSID")}
 
 # (file, set, names)
 SETS = (
     (PACKAGE / "lines_filter.py", "NAMES", linkshow.NAMES),
     (PACKAGE / "lines_filter.py", "COUNTERS", linkshow.GROUPS["counters"]),
     (PACKAGE / "lines_filter.py", "INDEXES", linkshow.GROUPS["indexes"]),
+    (PACKAGE / "lines_record.py", "LINK_INDEXES", LINK_INDEXES),
     (PACKAGE / "lines_json.py", "BYTES", BYTES),
     (PACKAGE / "lines_json.py", "NUMBER_LISTS", NUMBER_LISTS),
     (PARTS / "src/names.rt", "COUNTERS", linkshow.GROUPS["counters"]),

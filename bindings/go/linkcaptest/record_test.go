@@ -78,3 +78,60 @@ func TestRecordOfIP(t *testing.T) {
 		t.Errorf("%v %q", err, lines)
 	}
 }
+
+// goldenCommand runs GoldenCommand, with a shell script as linkgold.
+func goldenCommand(t *testing.T, script string) *fakeTest {
+	t.Helper()
+	installScript(t, script)
+	t.Setenv("LINKGOLD", os.Getenv("LINKREC"))
+	return runFake(func(inner testing.TB) { GoldenCommand(inner, exec.Command("/bin/echo", "a b"), "made.lines") })
+}
+
+func TestGoldenCommand(t *testing.T) {
+	folder, err := os.Getwd()
+	if err != nil {
+		t.Fatal(err)
+	}
+	if f := goldenCommand(t, "exit 0"); f.message != "" {
+		t.Error(f.message)
+	}
+	f := goldenCommand(t, `printf '%s,' "$@"; exit 1`)
+	if f.stopped || f.message != "linkcap: the command doesn't send what the golden file has\n"+folder+"/made.lines,--,/bin/echo,a b," {
+		t.Error(f.message)
+	}
+	f = goldenCommand(t, "echo 'linkgold: /bin/echo: ended with status 3'; exit 2")
+	if !f.stopped || f.message != "linkcap: /bin/echo: exit status 2: linkgold: /bin/echo: ended with status 3\n" {
+		t.Error(f.message)
+	}
+	f = goldenCommand(t, "echo 'linkrec: needs the program strace'; echo 'linkgold: nothing was recorded'; exit 2")
+	if !strings.HasPrefix(f.message, "skipped: linkcap: nothing is recorded here: linkrec: needs the program strace") {
+		t.Error(f.message)
+	}
+}
+
+// TestGoldenCommandOfIP compares ip(8) with golden files by the repository's linkgold; it is skipped without linkshow, or if
+// linkrec can't record here.
+func TestGoldenCommandOfIP(t *testing.T) {
+	for _, program := range []string{"ip", "linkshow"} {
+		if _, err := exec.LookPath(program); err != nil {
+			t.Skip(err)
+		}
+	}
+	t.Setenv("LINKGOLD", "../../../scripts/linkgold")
+	path := filepath.Join(t.TempDir(), "made.lines")
+	const lines = "# linkcap lines, format 4\n" +
+		"RTM_GETLINK flags 0x1 (REQUEST)\n" +
+		"  ifinfomsg family 0 (AF_UNSPEC) type 0 (netrom) index 0 flags 0x0 change 0x0\n" +
+		"  IFLA_EXT_MASK 0x9 (Vf | SkipStats)\n" +
+		"  IFLA_IFNAME \"lo\"\n" +
+		"RTM_NEWLINK flags 0x5 (REQUEST | ACK)\n" +
+		"  ifinfomsg family 0 (AF_UNSPEC) type 0 (netrom) index \"lo\" flags 0x1 (Up) change 0x1 (Up)\n"
+	if err := os.WriteFile(path, []byte(lines), 0o666); err != nil {
+		t.Fatal(err)
+	}
+	GoldenCommand(t, exec.Command("ip", "link", "set", "lo", "up"), path)
+	f := runFake(func(inner testing.TB) { GoldenCommand(inner, exec.Command("ip", "link", "set", "lo", "down"), path) })
+	if !strings.Contains(f.message, "@@ RTM_NEWLINK lo\n") {
+		t.Error(f.message)
+	}
+}

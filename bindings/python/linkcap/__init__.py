@@ -23,10 +23,10 @@ from ._fault import Fault, Kind, Refusal
 from ._golden import golden
 from ._native import FORMAT, LIBRARY_PATH, Capture
 from ._reader import LineReader, Reader
-from ._record import RecordError, record
+from ._record import RecordError, Recording, record
 
 __version__ = "2.0"
 
 __all__ = ["DEFAULT_LIMIT", "FORMAT", "LIBRARY_PATH", "Capture", "Fault", "Kind", "LineReader", "Measure", "Message", "Quirk",
-           "QuirkKind", "Reader", "RecordError", "Refusal", "check", "golden", "lines", "measure", "messages", "normalize",
+           "QuirkKind", "Reader", "RecordError", "Recording", "Refusal", "check", "golden", "lines", "measure", "messages", "normalize",
            "quirks", "record", "same", "to_json", "why"]

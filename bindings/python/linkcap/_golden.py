@@ -4,8 +4,10 @@ import os
 import re
 from typing import Iterable, Optional, SupportsIndex, Tuple, Union
 
+from . import lines_filter, lines_record
 from ._calls import DEFAULT_LIMIT, lines
 from ._native import FORMAT, Capture
+from ._record import Recording
 from ._types import MessageType
 
 # Frames of this module are left out of tracebacks, by unittest and by pytest.
@@ -22,10 +24,16 @@ def golden(capture: Capture, path: Union[str, "os.PathLike[str]"], *, update: bo
     are those of some message types with `only`, as for `lines`. A capture that isn't legal raises its `Fault`, and one
     without lines AssertionError: the test has captured nothing.
 
+    Of a `Recording` the lines are those of linkgold: names of links in place of indexes, a line `# namespace 2` where the
+    namespace changes, and a line `refused: ENODEV` after a request that the kernel refused.
+
     The file's first line has the format version of the lines. It may be missing, as in the output of linkshow.
     """
     __tracebackhide__ = True
-    text = lines(capture, limit, numbers=numbers, only=only)
+    if isinstance(capture, Recording):
+        text = _recorded_lines(capture, lines(capture, limit, only=only, offsets=True), numbers)
+    else:
+        text = lines(capture, limit, numbers=numbers, only=only)
     if not text:
         raise AssertionError("the capture is empty, or has no message of these types")
     name = os.fspath(path)
@@ -35,6 +43,14 @@ def golden(capture: Capture, path: Union[str, "os.PathLike[str]"], *, update: bo
     version, expected = _read(name)
     if text != expected:
         raise AssertionError(_difference(name, version, expected, text))
+
+
+def _recorded_lines(recording: Recording, text: str, numbers: bool) -> str:
+    """The lines of a recording, from those with offsets and numbers, without the probes of iproute2."""
+    annotated = lines_record.without_offsets(lines_record.annotated(text.splitlines(), recording.entries))
+    messages = [message for message in lines_filter.messages(annotated) if not lines_record.is_probe(message)]
+    kept = lines_filter.without((line for message in messages for line in message), set() if numbers else {"numbers"})
+    return "".join(line + "\n" for line in lines_record.for_file(kept))
 
 
 def _write(name: str, text: str) -> None:

@@ -3,7 +3,9 @@ import os
 import shutil
 import subprocess
 import tempfile
-from typing import List, Sequence, Union
+from typing import Any, Dict, List, Sequence, Type, TypeVar, Union
+
+from . import lines_record
 
 _Word = Union[str, "os.PathLike[str]"]
 
@@ -12,8 +14,34 @@ class RecordError(RuntimeError):
     """A command that couldn't be recorded, or that failed. The text is what the programs reported."""
 
 
-def record(command: Sequence[_Word], *, setup: Sequence[str] = (), here: bool = False) -> bytes:
-    """The capture of the route messages that a command sends, its threads and child processes included.
+_Recording = TypeVar("_Recording", bound="Recording")
+
+
+class Recording(bytes):
+    """A capture, as bytes, with what its record knows of each message: the names of links, the namespace, and the kernel's
+    reply. `golden` shows these; a slice of it is bytes alone."""
+
+    #: the entries of the record by the offsets of their messages, as docs/capturing.md of linkcap describes them
+    entries: Dict[int, Dict[str, Any]]
+
+    @classmethod
+    def read(cls: Type[_Recording], path: _Word) -> _Recording:
+        """The capture of a file, with the record in the file beside it, as `linkrec run -o` writes both.
+
+        # Errors
+
+        OSError if one of them can't be read, and ValueError if the record isn't of this capture.
+        """
+        name = os.fspath(path)
+        with open(name, "rb") as file:
+            recording = cls(file.read())
+        with open(name + lines_record.SUFFIX, encoding="utf-8") as text:
+            recording.entries = lines_record.read_record(text.read(), recording)
+        return recording
+
+
+def record(command: Sequence[_Word], *, setup: Sequence[str] = (), here: bool = False) -> Recording:
+    """The capture of the route messages that a command sends, its threads and child processes included, with its record.
 
     The command runs in a new network namespace, in which the shell commands of `setup` have run, or, with `here`, in the
     caller's. The program linkrec has to be on the PATH, or named by LINKREC; it needs strace, and without root a kernel
@@ -35,8 +63,10 @@ def record(command: Sequence[_Word], *, setup: Sequence[str] = (), here: bool = 
         if process.returncode:
             report = process.stderr.decode(errors="replace").strip()
             raise RecordError(f"{os.fspath(command[0])} ended with status {process.returncode}: {report}")
-        with open(capture, "rb") as file:
-            return file.read()
+        try:
+            return Recording.read(capture)
+        except FileNotFoundError:
+            raise RecordError(f"{program} wrote no record: it is of an older version") from None
 
 
 def _options(setup: Sequence[str], here: bool) -> List[str]:

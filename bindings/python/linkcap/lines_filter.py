@@ -239,12 +239,16 @@ INDEXES = frozenset("""
     NDA_IFINDEX NDA_LINK_NETNSID NDA_MASTER NDTPA_IFINDEX NETCONFA_IFINDEX NHA_MASTER NHA_OIF RTA_IIF RTA_OIF SEG6_LOCAL_IIF
     SEG6_LOCAL_OIF""".split())
 
-# The numbers at the end of a message's line, which only an offset may follow; and a message's line with its offset.
-NUMBERS = re.compile(r" seq [0-9]+ port [0-9]+(?= offset [0-9]+$|$)")
+# The numbers at the end of a message's line, which only its namespace and an offset may follow; and a message's line with its
+# offset.
+NUMBERS = re.compile(r" seq [0-9]+ port [0-9]+(?=(?: namespace [0-9]+)?(?: offset [0-9]+)?$)")
 LINE_WITH_OFFSET = re.compile(r"(\S.*) offset ([0-9]+)")
 
-_GROUPS = {"numbers": frozenset({"numbers"}), "counters": COUNTERS, "indexes": INDEXES | {"indexes"}}
-_INDEX = re.compile(r" (?:if)?index -?[0-9]+(?= |$)")
+# The group indexes also has the references to namespaces by a process or a descriptor, which change from run to run.
+_GROUPS = {"numbers": frozenset({"numbers"}), "counters": COUNTERS,
+           "indexes": INDEXES | {"indexes", "IFLA_NET_NS_PID", "IFLA_NET_NS_FD"}}
+# An index, or what lines_record.py shows instead: a name, or a number in order of appearance.
+_INDEX = re.compile(r' (?:if)?index (?:-?[0-9]+|#[0-9]+|"(?:[^"\\]|\\.)*")(?= |$)')
 _NO_STRUCT = {"kind", "code", "request", "rest", "body", "refused:"}
 
 
@@ -313,7 +317,8 @@ def _without_numbers(line: str, level: int, names: Set[str]) -> str:
     return line
 
 
-def _quote(name: str) -> str:
+def quoted(name: str) -> str:
+    """A text as lines have it, in quotes."""
     return '"' + "".join(_escape(byte) for byte in name.encode(errors="surrogateescape")) + '"'
 
 
@@ -326,9 +331,9 @@ def _escape(byte: int) -> str:
 def is_about(message: List[str], link: str) -> bool:
     """Whether a message is about the link with a name or index."""
     header = message[1] if len(message) > 1 and depth(message[1]) == 1 and _is_struct(message[1]) else ""
-    if re.search(rf" (?:if)?index {re.escape(link)}(?: |$)", header):
+    name = quoted(link)
+    if re.search(rf" (?:if)?index (?:{re.escape(link)}|{re.escape(name)})(?: |$)", header):
         return True
-    name = _quote(link)
     name_lines = {f"  IFLA_IFNAME {name}", f"  IFLA_ALT_IFNAME {name}", f"    IFLA_ALT_IFNAME {name}"}
     return any(line in name_lines for line in message)
 

@@ -36,6 +36,7 @@ _TOKEN = re.compile(r'[^\s"(]*"(?:[^"\\]|\\.)*"|\([^)]*\)|[^\s"]+')
 _NUMBER = re.compile(r"-?[0-9]+")
 _ESCAPE = re.compile(r"\\(?:x([0-9a-f]{2})|(.))")
 _ASSIGNMENT = re.compile(r'[^\s="(]+=')
+_ERROR = re.compile(r"(E[A-Z0-9]+|error [0-9]+)(?: \((.*)\))?")
 _INDENT = 2
 
 
@@ -149,6 +150,14 @@ def _several(words: List[str]) -> Any:
     return [int(word) for word in words] if all(map(_NUMBER.fullmatch, words)) else " ".join(words)
 
 
+def _refusal(text: str) -> Json:
+    """Why the kernel refused a request, by the name of an error, or why linkcap did."""
+    error = _ERROR.fullmatch(text)
+    if not error:
+        return {"refused": text}
+    return {"reply": {"error": error[1], "reason": error[2]} if error[2] else {"error": error[1]}}
+
+
 def _is_struct(word: str) -> bool:
     """Whether a word is the name of a struct. Names of attributes are in upper case, or `[3]`."""
     return word[0].islower() and word != "kind"
@@ -176,7 +185,7 @@ class _Message:
         elif depth == 1 and word == "code":
             self._members["code"] = int(tokens.rest()[1])
         elif depth == 1 and word == "refused:":
-            self._members["refused"] = line.strip().partition(" ")[2]
+            self._members.update(_refusal(line.strip().partition(" ")[2]))
         elif depth == 1 and word == "request":
             self._members["request"] = self._request(tokens)
         elif depth == 1 and _is_struct(word):

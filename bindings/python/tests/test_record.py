@@ -2,6 +2,7 @@
 import os
 import shutil
 import subprocess
+import tempfile
 import unittest
 from unittest import mock
 
@@ -38,6 +39,34 @@ class Record(unittest.TestCase):
         capture = linkcap.record(["ip", "link", "set", "v1", "up"], setup=[" ".join(ADD)])
         self.assertNotIn("veth", linkcap.lines(capture))
 
+    def test_golden_files_have_names(self) -> None:
+        setup = ["ip link add br0 type bridge", "ip link add br1 type bridge", " ".join(ADD)]
+        recording = linkcap.record(["ip", "link", "set", "v0", "master", "br0"], setup=setup)
+        self.assertIn("br0", [name for entry in recording.entries.values() for name in entry["names"].values()])
+        with tempfile.TemporaryDirectory() as folder:
+            path = os.path.join(folder, "master.lines")
+            linkcap.golden(recording, path, update=True)
+            with open(path, encoding="ascii") as file:
+                text = file.read()
+            self.assertTrue(text.endswith('index "v0" flags 0x0 change 0x0\n  IFLA_MASTER "br0"\n'), text)
+            self.assertNotIn("refused", text)
+            linkcap.golden(linkcap.record(["ip", "link", "set", "v0", "master", "br0"], setup=setup), path)
+            with self.assertRaisesRegex(AssertionError, '-  IFLA_MASTER "br0"\n\\+  IFLA_MASTER "br1"\n'):
+                linkcap.golden(linkcap.record(["ip", "link", "set", "v0", "master", "br1"], setup=setup), path)
+
+    def test_the_record_of_another_capture(self) -> None:
+        recording = linkcap.record(ADD)
+        with tempfile.TemporaryDirectory() as folder:
+            path = os.path.join(folder, "made.bin")
+            with open(path, "wb") as file:
+                file.write(recording)
+            with self.assertRaises(FileNotFoundError):
+                linkcap.Recording.read(path)
+            with open(path + ".record", "w", encoding="ascii") as record:
+                record.write('{"record": 1}\n')
+            with self.assertRaisesRegex(ValueError, "a record of another capture, without the message at 0"):
+                linkcap.Recording.read(path)
+
     def test_failures(self) -> None:
         with self.assertRaisesRegex(linkcap.RecordError, "ip ended with status 2: .*no_such_kind|Unknown device type"):
             linkcap.record(["ip", "link", "add", "v0", "type", "no_such_kind"])
@@ -47,6 +76,15 @@ class Record(unittest.TestCase):
     def test_a_command_in_one_word(self) -> None:
         with self.assertRaisesRegex(TypeError, "a list of words"):
             linkcap.record("ip link")
+
+    def test_an_older_linkrec(self) -> None:
+        with tempfile.TemporaryDirectory() as folder:
+            path = os.path.join(folder, "linkrec")
+            with open(path, "w", encoding="ascii") as script:
+                script.write('#!/bin/sh\n: > "$4"\n')
+            os.chmod(path, 0o755)
+            with mock.patch.dict(os.environ, LINKREC=path), self.assertRaisesRegex(linkcap.RecordError, "wrote no record"):
+                linkcap.record(ADD)
 
     def test_no_linkrec(self) -> None:
         with mock.patch.dict(os.environ, LINKREC="/nowhere/linkrec"), self.assertRaisesRegex(linkcap.RecordError, "no program"):

@@ -256,12 +256,12 @@ def system_name():
 
 def proved_text(release, files):
     """The text of PROVED.txt."""
-    trusted = re.search(r"^## What is trusted\n\n(.*?)\n\n##", read("README.md").decode(), re.M | re.S)[1]
+    trusted = re.search(r"^## What is trusted\n\n(.*?)\n\n##", read("docs/proved.md").decode(), re.M | re.S)[1]
     tools = [output(tool, "--version").split("\n")[0] for tool in TOOLS_OF_A_BUILD]
     tools += ["Python " + platform.python_version(), "zlib " + zlib.ZLIB_RUNTIME_VERSION, system_name()]
     lines = ["linkcap %s" % release.version, "commit  " + release.commit, "kit     " + release.kit, "check   " + release.result]
     lines += ["needs   " + line for line in needs_lines(files)] + ["tool    " + tool for tool in tools]
-    lines += ["", "Trusted (README.md has what is proved, tested and not claimed):", "", trusted, "",
+    lines += ["", "Trusted (docs/proved.md has what is proved, tested and not claimed):", "", trusted, "",
               "Sums of the crates, each as of", "git ls-files crates/NAME/{src,specs,proofs} | xargs sha256sum | sha256sum", ""]
     return "\n".join(lines + ["%s  %s" % (crate_sum(name), name) for name in crates()]) + "\n"
 

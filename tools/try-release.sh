@@ -4,11 +4,11 @@
 #     tools/try-release.sh FOLDER [SUITE..]
 #
 # FOLDER was written by tools/release.py. SUITE is trixie if none is named. In each root these have to succeed: the sums; apt-get
-# with all packages for Debian; the commands with which README begins; a golden test with linkgold, of a capture and of a
-# command, and one with pytest, which have to fail for another capture; completion; the Python package; a program in C, with
-# each library, also by musl; such golden tests in Go and Rust, from their archives; what PROVED.txt says is needed, by qemu as
-# other processors and kernels; removal, which leaves no file; then the archive with its install.sh, the wheel with pytest, and
-# the Python package's sources, each in a folder of its own.
+# with all packages for Debian; README's first screen, a golden test that fails for a changed command; README's commands of
+# captures; a golden test with linkgold, of a capture and of a command, and one with pytest, which have to fail for another
+# capture; completion; the Python package; a program in C, with each library, also by musl; such golden tests in Go and Rust,
+# from their archives; what PROVED.txt says is needed, by qemu as other processors and kernels; removal, which leaves no file;
+# then the archive with its install.sh, the wheel with pytest, and the Python package's sources, each in a folder of its own.
 #
 # It needs root, mmdebstrap and a network, and ends with a line and status 0 where they are missing. ./check doesn't run it. A
 # root takes some minutes. The last line is `N passed, M failed, K skipped`; what is skipped is a suite without a root.
@@ -51,7 +51,14 @@ make_root() {
 }
 
 sample=/usr/share/doc/linkcap/examples/samples
-first="linkcap norm < $sample/lo-request.bin > /tmp/text
+first="cd \$(mktemp -d)
+    linkgold --update network.lines -- sh $sample/network.sh
+    linkgold network.lines -- sh $sample/network.sh
+    sed 's/ mtu 9000//; s/master br0/master br1/' $sample/network.sh > changed.sh
+    status=0; linkgold network.lines -- sh changed.sh > diff || status=\$?; test \$status -eq 1
+    grep -x -- '-  IFLA_MTU 9000' diff
+    grep -x -- '+  IFLA_MASTER \"br1\"' diff"
+captures="linkcap norm < $sample/lo-request.bin > /tmp/text
     cmp -l $sample/lo-request.bin /tmp/text > /tmp/changed || true
     printf '44 200   0\n48 377   0\n' | cmp - /tmp/changed
     test \"\$(linkcap same $sample/lo-request.bin /tmp/text)\" = same
@@ -178,7 +185,8 @@ try_suite() {
     files > "$work/before"
     step "$1: sums" inside "cd /release && sha256sum -c SHA256SUMS"
     step "$1: apt-get install" inside "apt-get install -y --no-install-recommends /release/*.deb"
-    step "$1: linkcap and linkshow, as README begins" inside "$first"
+    step "$1: linkgold, as README begins" inside "$first"
+    step "$1: linkcap and linkshow, as in README" inside "$captures"
     step "$1: linkgold" inside "$golden"
     step "$1: linkgold, another capture" inside "$red"
     step "$1: linkgold, a command" inside "$recorded"

@@ -35,9 +35,10 @@ _linkrec() {
     fi
     case ${COMP_WORDS[1]} in
         run) _linkshow_words "--quiet --time --netns --setup --answers --output --attach --help" ;;
-        effect) _linkshow_words "--setup --output --help" ;;
-        dump) _linkshow_words "--all --port --help" ;;
-        watch) _linkshow_words "--all --time --port --help" ;;
+        effect) _linkshow_words "--setup --all --output --help" ;;
+        dump) _linkshow_words "--all --settled --port --output --help" ;;
+        watch) _linkshow_words "--all --time --port --output --help" ;;
+        pcap) _linkshow_words "--output --help" ;;
         strace) _linkshow_words "--answers --output --help" ;;
         cut) _linkshow_words "--at --type --legal --output --help" ;;
         *) _linkshow_words "--help" ;;

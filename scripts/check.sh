@@ -322,7 +322,7 @@ expect "no pcap file" 1 "linkrec: no pcap or pcapng file" "$linkrec" pcap a < /d
 expect "a missing file" 1 "linkrec: missing: No such file or directory" "$linkrec" pcap missing < /dev/null
 expect "cut by offset" 0 "" "$linkrec" cut --at 48 three < <(cat "$work/a" "$work/a")
 expect "cut by type" 0 "" "$linkrec" cut --type getlink three < /dev/null
-expect "cut at no message" 1 "linkrec: no message starts at 4" "$linkrec" cut --at 4 a < "$work/a"
+expect "cut at no message" 1 "linkrec: no message starts at 4" "$linkrec" cut --at 4 a < /dev/null
 expect "no offset" 2 "linkrec: no offset: x" "$linkrec" cut --at 4,x a < /dev/null
 expect "an unknown type" 2 "linkrec: no type of messages: link" "$linkrec" cut --type link a < /dev/null
 expect "without invalid messages" 0 "linkrec: left out the message at 48: refused body" "$linkrec" cut --legal mixed < <(cat "$work/a" "$work/b")
@@ -334,6 +334,8 @@ succeeds "a size of nothing" bash -c '"$0" split three 0 zero 2> report; [ $? -e
 expect "split" 0 "" "$linkrec" split three 60 pieces < <(printf '0\tpieces/piece-000000.bin\n96\tpieces/piece-000001.bin\n')
 succeeds "the pieces are the capture" bash -c 'cat pieces/* | cmp - three'
 expect "a folder that is there" 1 "linkrec: pieces: File exists" "$linkrec" split three 60 pieces < /dev/null
+
+. scripts/tests/linkrec_checks.sh
 
 # ---- linkrec: traces
 

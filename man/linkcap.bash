@@ -24,7 +24,7 @@ _linkshow() {
 }
 
 _linkdiff() {
-    _linkshow_words "--quiet --without-numbers --without --link --only --ignore-order --empty --offsets --keep-going --limit --kernels --no-record --label --color --help"
+    _linkshow_words "--quiet --without-numbers --without --replace --link --only --ignore-order --empty --offsets --keep-going --limit --kernels --no-record --label --color --help"
 }
 
 _linkrec() {
@@ -46,11 +46,11 @@ _linkrec() {
 }
 
 _linkgold() {
-    _linkshow_words "--update --effect --setup --here --may-fail --legal --keep-going --reasons --numbers --counters --without --link --only --ignore-order --help"
+    _linkshow_words "--update --effect --setup --here --may-fail --legal --keep-going --reasons --numbers --counters --without --replace --link --only --ignore-order --help"
 }
 
 _linkjson() {
-    _linkshow_words "--without-numbers --without --link --only --offsets --keep-going --limit --no-record --help"
+    _linkshow_words "--without-numbers --without --replace --link --only --offsets --keep-going --limit --no-record --help"
 }
 
 complete -o filenames -F _linkcap linkcap

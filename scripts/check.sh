@@ -388,6 +388,8 @@ trace << END
 END
 expect "a trace without bytes" 1 $'linkrec: left out 1 calls without their bytes: trace with -e write=all\nlinkrec: no route message in the trace' "$linkrec" strace trace < /dev/null
 
+. scripts/tests/golden_checks.sh
+
 # ---- linkrec run and effect, linkgold
 
 for arguments in run effect "run --attach 1 ip"; do

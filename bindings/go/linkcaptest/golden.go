@@ -39,10 +39,22 @@ func Golden(t testing.TB, capture []byte, path string) {
 // GoldenLines is Golden with lines of the caller's choice.
 func GoldenLines(t testing.TB, capture []byte, path string, options linkcap.LineOptions) {
 	t.Helper()
+	GoldenReplacing(t, capture, path, options)
+}
+
+// GoldenReplacing is GoldenLines with fixed names in place of random names of links and hardware addresses: each word is
+// REGEX=NAME, as for linkgold --replace. It stops the test at a malformed word.
+func GoldenReplacing(t testing.TB, capture []byte, path string, options linkcap.LineOptions, words ...string) {
+	t.Helper()
+	names, err := newReplacement(words)
+	if err != nil {
+		t.Fatalf("linkcap: %v", err)
+	}
 	lines, err := linkcap.Lines(capture, options)
 	if err != nil {
 		t.Fatalf("linkcap: %v", err)
 	}
+	lines = names.apply(lines)
 	if lines == "" {
 		t.Fatalf("linkcap: the capture is empty, or has no message of these types")
 	}

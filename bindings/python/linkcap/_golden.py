@@ -9,6 +9,7 @@ from ._calls import DEFAULT_LIMIT, lines
 from ._native import FORMAT, Capture
 from ._record import Recording
 from ._types import MessageType
+from .lines_replace import Replacement
 
 # Frames of this module are left out of tracebacks, by unittest and by pytest.
 __unittest = True
@@ -17,12 +18,14 @@ _FIRST_LINE = re.compile(r"# linkcap lines, format ([0-9]+)\n")
 
 
 def golden(capture: Capture, path: Union[str, "os.PathLike[str]"], *, update: bool = False, numbers: bool = False,
-           only: Optional[Iterable[MessageType]] = None, limit: SupportsIndex = DEFAULT_LIMIT) -> None:
+           only: Optional[Iterable[MessageType]] = None, replace: Iterable[str] = (),
+           limit: SupportsIndex = DEFAULT_LIMIT) -> None:
     """Compares a capture's lines with those of a file; if they differ, raises AssertionError with a unified diff.
 
     With `update` it writes the file instead, and its folder. Lines have sequence and port numbers with `numbers`, and
-    are those of some message types with `only`, as for `lines`. A capture that isn't legal raises its `Fault`, and one
-    without lines AssertionError: the test has captured nothing.
+    are those of some message types with `only`, as for `lines`. Each `REGEX=NAME` of `replace` puts NAME in place of the
+    names of links and hardware addresses that match, as `linkgold --replace`; ValueError names one that is malformed. A
+    capture that isn't legal raises its `Fault`, and one without lines AssertionError: the test has captured nothing.
 
     Of a `Recording` the lines are those of linkgold: names of links in place of indexes, a line `# namespace 2` where the
     namespace changes, and a line `refused: ENODEV` after a request that the kernel refused.
@@ -30,10 +33,12 @@ def golden(capture: Capture, path: Union[str, "os.PathLike[str]"], *, update: bo
     The file's first line has the format version of the lines. It may be missing, as in the output of linkshow.
     """
     __tracebackhide__ = True
+    replacement = Replacement(replace)
     if isinstance(capture, Recording):
         text = _recorded_lines(capture, lines(capture, limit, only=only, offsets=True), numbers)
     else:
         text = lines(capture, limit, numbers=numbers, only=only)
+    text = "".join(line + "\n" for line in replacement.apply(text.splitlines()))
     if not text:
         raise AssertionError("the capture is empty, or has no message of these types")
     name = os.fspath(path)

@@ -9,10 +9,34 @@ _linkcap() {
     fi
 }
 
-# _linkshow_words OPTIONS: the options where the word begins with -, else files.
+# The types of messages, without RTM_, as rtnetlink.h names them.
+_linkshow_types="
+    newlink dellink getlink setlink newaddr deladdr getaddr newroute delroute getroute newneigh delneigh getneigh
+    newrule delrule getrule newqdisc delqdisc getqdisc newtclass deltclass gettclass newtfilter deltfilter
+    gettfilter newaction delaction getaction newprefix newmulticast delmulticast getmulticast newanycast delanycast
+    getanycast newneightbl getneightbl setneightbl newnduseropt newaddrlabel deladdrlabel getaddrlabel getdcb setdcb
+    newnetconf delnetconf getnetconf newmdb delmdb getmdb newnsid delnsid getnsid newstats getstats setstats
+    newcachereport newchain delchain getchain newnexthop delnexthop getnexthop newlinkprop dellinkprop getlinkprop
+    newvlan delvlan getvlan newnexthopbucket delnexthopbucket getnexthopbucket newtunnel deltunnel gettunnel"
+
+# _linkshow_list: the types of messages for the last one of a list with commas, in upper case after RTM_.
+_linkshow_list() {
+    local word=${COMP_WORDS[COMP_CWORD]} before="" types=$_linkshow_types
+    [[ $word != *,* ]] || before=${word%,*},
+    if [[ ${word##*,} == RTM_* ]]; then
+        types=${types^^} word=${word##*,} before+=RTM_
+        mapfile -t COMPREPLY < <(compgen -P "$before" -W "$types" -- "${word#RTM_}")
+    else
+        mapfile -t COMPREPLY < <(compgen -P "$before" -W "$types" -- "${word##*,}")
+    fi
+}
+
+# _linkshow_words OPTIONS: types after an option that takes them, else the options where the word begins with -, else files.
 _linkshow_words() {
     local word=${COMP_WORDS[COMP_CWORD]}
-    if [[ $word == -* ]]; then
+    if [[ ${COMP_WORDS[COMP_CWORD - 1]} == @(--only|--type) ]]; then
+        _linkshow_list
+    elif [[ $word == -* ]]; then
         mapfile -t COMPREPLY < <(compgen -W "$1" -- "$word")
     else
         mapfile -t COMPREPLY < <(compgen -f -- "$word")
@@ -46,7 +70,7 @@ _linkrec() {
 }
 
 _linkgold() {
-    _linkshow_words "--update --effect --setup --here --may-fail --legal --keep-going --reasons --numbers --counters --without --replace --link --only --ignore-order --help"
+    _linkshow_words "--update --effect --all --setup --here --may-fail --legal --keep-going --reasons --numbers --counters --without --replace --link --only --ignore-order --help"
 }
 
 _linkjson() {

@@ -75,5 +75,10 @@ for name in $(sort -u <<< "$names"); do
 done
 [ "$(completions linkcap n)" = norm ] || fault "man/linkcap.bash: linkcap n is norm"
 [ "$(completions linkcap same READ)" = README.md ] || fault "man/linkcap.bash: linkcap same takes files"
+[ "$(completions linkshow --only newr | paste -sd ' ')" = "newroute newrule" ] || fault "man/linkcap.bash: linkshow --only newr is newroute, newrule"
+[ "$(completions linkrec cut --type newlink,RTM_DELR | paste -sd ' ')" = "newlink,RTM_DELROUTE newlink,RTM_DELRULE" ] \
+    || fault "man/linkcap.bash: linkrec cut --type newlink,RTM_DELR are RTM_DELROUTE, RTM_DELRULE"
+names=$(grep -oE '[0-9]+: "RTM_[A-Z]+' scripts/route_messages.py | grep -oE 'RTM_[A-Z]+' | sort -u)
+[ "$(. man/linkcap.bash; printf 'RTM_%s\n' ${_linkshow_types^^} | sort -u)" = "$names" ] || fault "man/linkcap.bash: other types than scripts/route_messages.py"
 [ "$failed" -eq 0 ] && echo "manuals: no faults"
 exit "$failed"

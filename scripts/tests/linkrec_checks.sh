@@ -4,9 +4,9 @@
 # ---- files that are no captures
 
 gzip -c "$work/a" > "$work/a.gz"
-printf '\xfd7zXZ\0\0\4' > "$work/a.xz"
-printf '\x7fELF\2\1\1\0' > "$work/elf"
-echo "$json" > "$work/a.json"
+printf '\xfd7zXZ\0\0\4%24s' > "$work/a.xz"
+printf '\x7fELF\2\1\1\0%24s' > "$work/elf"
+echo '{"type": "RTM_GETLINK"}' > "$work/a.json"
 xxd "$work/a" > "$work/a.hex"
 declare -A looks=(
     [a.gz]="a gzip file: decompress it first, by gzip -dc"

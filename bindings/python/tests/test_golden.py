@@ -72,10 +72,9 @@ class Golden(unittest.TestCase):
     def test_names_are_replaced(self) -> None:
         linkcap.golden(self.capture, self.path, update=True, replace=["l[a-z]=link"])
         self.assertEqual(self.read().splitlines()[-1], '  IFLA_IFNAME "link"')
-        other = self.capture.replace(b"lo", b"l\0")
         linkcap.golden(self.capture.replace(b"lo", b"lx"), self.path, replace=["l[a-z]=link"])
-        with self.assertRaisesRegex(AssertionError, '\\+  IFLA_IFNAME "l"\n'):
-            linkcap.golden(other, self.path, replace=["l[a-z]=link"])
+        with self.assertRaisesRegex(AssertionError, '\\+  IFLA_IFNAME "hi"\n'):
+            linkcap.golden(self.capture.replace(b"lo", b"hi"), self.path, replace=["l[a-z]=link"])
         for word in ("lo", "l[=link", "lo=1"):
             with self.assertRaisesRegex(ValueError, "^" + re.escape(word) + ": "):
                 linkcap.golden(self.capture, self.path, replace=[word])
@@ -107,6 +106,19 @@ class Golden(unittest.TestCase):
         linkcap.golden(self.capture, self.path)
         self.write("# linkcap lines, format 3\n" + lines.replace("lo", "hi"))
         with self.assertRaisesRegex(AssertionError, "has lines of format 3, and this linkcap writes format 4"):
+            linkcap.golden(self.capture, self.path)
+
+    def test_what_a_head_leaves_out(self) -> None:
+        linkcap.golden(self.capture, self.path, update=True, numbers=True)
+        first, *rest = [line for line in self.read().splitlines() if "IFLA_EXT_MASK" not in line]
+        rest[0] = rest[0][:rest[0].index(" seq ")]
+        head = [first, "# leaves out: numbers", '# leaves out what varies: RTM_GETLINK "lo" > IFLA_EXT_MASK']
+        self.write("\n".join(head + rest) + "\n")
+        linkcap.golden(self.capture, self.path, numbers=True)
+        with self.assertRaisesRegex(AssertionError, '(?s)-  IFLA_IFNAME "lo".*\\+  IFLA_EXT_MASK'):
+            linkcap.golden(self.capture.replace(b"lo", b"hi"), self.path)
+        self.write("\n".join([first, "# leaves out: numbers, IFLA_NAM", *rest]))
+        with self.assertRaisesRegex(ValueError, "no attribute or group is called IFLA_NAM"):
             linkcap.golden(self.capture, self.path)
 
     def test_format_is_that_of_linkshow(self) -> None:

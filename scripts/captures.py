@@ -1,4 +1,5 @@
 """Captures with their records, and files of lines, as linkdiff, linkgold and linkjson read them."""
+import io
 import itertools
 import os
 import shutil
@@ -77,8 +78,8 @@ def read_head(content):
 
     ValueError if the head names what is no attribute or group.
     """
-    lines = content.decode(errors="replace").splitlines() if are_lines(content) else []
-    return lines_golden.read_head(lines)
+    lines = (line.decode(errors="replace").rstrip("\r\n") for line in io.BytesIO(content))
+    return lines_golden.read_head(list(itertools.takewhile(lines_golden.is_in_head, lines)))
 
 
 def record_of(name, capture):

@@ -15,10 +15,16 @@ _LASTING = re.compile(r"  ndmsg .* state 0x(?:80|40|c0) .*")
 _OWN_TYPE = re.compile(r"  ndmsg .* type [2-5] .*")
 _GROUP_ADDRESS = re.compile(r"  NDA_LLADDR [0-9a-f][13579bdf]:.*")
 
+# The major numbers of handles that the kernel gives to queueing disciplines, by one counter for all namespaces
+# (qdisc_alloc_handle of net/sched/sch_api.c).
+_ALLOCATED_HANDLE = re.compile(r"(?<= (?:handle|parent) )(?!ffff)[89a-f][0-9a-f]{3}(?=:)")
 
-def lasting(lines):
-    """The lines without neighbours and forwarding entries that the kernel learned from traffic, or enters by itself."""
-    return [line for message in lines_filter.messages(lines) if _is_lasting(message) for line in message]
+
+def comparable(lines):
+    """The lines that count: without neighbours and forwarding entries that the kernel learned from traffic, or enters by
+    itself; and with `auto` in place of a handle that it allocated."""
+    return [_ALLOCATED_HANDLE.sub("auto", line) if line.startswith("  tcmsg ") else line
+            for message in lines_filter.messages(lines) if _is_lasting(message) for line in message]
 
 
 def _is_lasting(message):

@@ -71,7 +71,13 @@ class Entries(unittest.TestCase):
         lasting = neighbour("02:00:00:00:00:07") + neighbour("02:00:00:00:00:08", "0x40 (NOARP)")
         learned = neighbour("02:00:00:00:00:09", "0x2 (REACHABLE)") + neighbour("33:33:00:00:00:01")
         group = [line.replace("type 0 (unspec)", "type 5 (multicast)") for line in neighbour("02:00:00:00:00:0a", "0x40 (NOARP)")]
-        self.assertEqual(effects.lasting(learned + lasting + group), lasting)
+        self.assertEqual(effects.comparable(learned + lasting + group), lasting)
+
+    def test_allocated_handles(self):
+        line = "  tcmsg family 0 (AF_UNSPEC) ifindex 7 handle {}:0 parent {}:{} info 5"
+        for handle, parent, expected in (("8001", "ffff", ("auto", "ffff")), ("10", "fffe", ("10", "auto")), ("ffff", "8000", ("ffff", "auto"))):
+            made = effects.comparable(["RTM_NEWQDISC flags 0x2 (MULTI)", line.format(handle, parent, "ffff")])
+            self.assertEqual(made[1], line.format(*expected, "ffff"))
 
     def test_order(self):
         links = link(3, "v1", "02:00:00:00:00:03") + link(2, "v0", "02:00:00:00:00:01")

@@ -79,6 +79,7 @@ expect "an unknown name in the head of a golden file" 2 "linkgold: unknown.made:
 expect "positions in a head" 0 "" "$linkdiff" positions.made a < /dev/null
 sed -i 's/"lo" >/"l1" >/' "$work/positions.made"
 succeeds "a position of another link" bash -c '"$0" positions.made a > diff; [ $? -eq 1 ] && grep -qx -- "+  IFLA_EXT_MASK 0x9 (Vf | SkipStats)" diff' "$linkdiff"
+succeeds "a comparison to a closed pipe" bash -c '"$0" headed.made b 2> report | { exec 0<&-; sleep 1; }; [ ${PIPESTATUS[0]} -eq 141 ] && [ ! -s report ]' "$linkgold"
 expect "a golden file and a pipe" 0 "" bash -c '"$0" headed.made <(cat a) && "$0" headed.made - < a && "$0" <(cat headed.made) a' "$linkgold" < /dev/null
 fault="frame over the limit at 0"
 for name in a.gz a.xz elf a.json a.hex; do

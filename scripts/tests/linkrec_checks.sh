@@ -37,6 +37,9 @@ succeeds "the file has the packets" cmp "$work/from_cooked" "$work/a"
 succeeds "a dump into a file" bash -c '"$0" dump -o dumped && "$LINKSHOW" dumped | grep -q "^NLMSG_DONE"' "$linkrec"
 succeeds "a watch into a file" bash -c 'rm -f seen; "$0" watch 0.1 -o seen > printed && [ -e seen ] && [ ! -s printed ]' "$linkrec"
 
+succeeds "split to a closed pipe" bash -c 'for i in {1..50}; do cat three; done > many; "$0" split many 16 split_pieces 2> report | { exec 0<&-; sleep 1; }
+    [ ${PIPESTATUS[0]} -eq 141 ] && [ ! -s report ]' "$linkrec"
+
 # ---- SIGINT
 
 # A shell without job control has the jobs that it runs in the background ignore SIGINT.
@@ -55,6 +58,10 @@ else
         grep -q "^linkrec: strace may not trace here (.*Operation not permitted): allow ptrace, as by --cap-add SYS_PTRACE .* linkgold --effect$" report' "$refuse" "$linkrec"
     succeeds "a comparison without permission to trace" bash -c '"$0" ptrace "$1" a.lines -- ip link 2> report; [ $? -eq 2 ] &&
         grep -q "SYS_PTRACE" report && grep -qx "linkgold: nothing was recorded" report' "$refuse" "$linkgold"
+    # lo changes for longer than linkrec waits
+    succeeds "an effect that doesn't settle" bash -c 'timeout 60 "$0" effect -o made -- sh -c "for i in \$(seq 45); do ip link set lo up; sleep 0.15; ip link set lo down
+            sleep 0.15; done > /dev/null 2>&1 &" 2> report && [ "$(cat report)" = "linkrec: links or addresses still change after 10 s: another dump may differ" ] &&
+        "$LINKSHOW" made | grep -q "^RTM_NEWLINK"' "$linkrec"
     succeeds "an effect without permission to trace" bash -c '"$0" ptrace "$1" effect -o made -- ip link set lo up &&
         "$LINKSHOW" --link lo made | grep -q "flags 0x.*Up"' "$refuse" "$linkrec"
     succeeds "no permission to make a namespace" bash -c '"$0" unshare "$1" run --netns -o made -- ip link 2> report; [ $? -eq 125 ] &&

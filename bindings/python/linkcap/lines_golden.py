@@ -64,6 +64,8 @@ def head_lines(version: int, names: Sequence[str] = (), positions: Iterable[str]
 
 def without_positions(lines: Iterable[str], positions: AbstractSet[str]) -> List[str]:
     """The lines without the attributes and the messages at some positions."""
+    if not positions:
+        return list(lines)
     result: List[str] = []
     for key, message in keyed_messages(list(lines)):
         if key not in positions:

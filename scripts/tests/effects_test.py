@@ -92,6 +92,7 @@ class Heads(unittest.TestCase):
         self.assertEqual(head, lines_golden.Head(4, {"numbers", "IFLA_MTU"}, {'RTM_NEWLINK "v0" > IFLA_ADDRESS'}, 3))
         self.assertEqual(lines_golden.read_head(["RTM_NEWLINK flags 0x0"]), lines_golden.Head(None, set(), set(), 0))
         self.assertEqual(lines_golden.read_head(["# linkcap lines, format 4", "# leaves out:"]), lines_golden.Head(4, set(), set(), 2))
+        self.assertEqual(lines_golden.read_head(["# leaves out: probes, numbers"]).names, {"probes", "numbers"})
 
 
 if __name__ == "__main__":

@@ -52,18 +52,21 @@ done
 # ---- what a golden file leaves out
 
 succeeds "a golden file says what it leaves out" bash -c '"$0" --update --without IFLA_EXT_MASK headed.made a && [ "$(head -n 3 headed.made)" = "# linkcap lines, format 4
-# leaves out: numbers, indexes, counters, IFLA_EXT_MASK
+# leaves out: numbers, counters, IFLA_EXT_MASK, probes
 RTM_GETLINK flags 0x301 (REQUEST | ROOT | MATCH)" ]' "$linkgold"
 expect "a golden file and its own capture" 0 "" "$linkdiff" headed.made a < /dev/null
 expect "a capture and its own golden file" 0 "" "$linkdiff" a headed.made < /dev/null
 expect "a golden file's selection is that of its update" 0 "" "$linkgold" headed.made a < /dev/null
 expect "a golden file with counters and its own capture" 0 "" bash -c '"$0" --update counters.made v && "$1" counters.made v' "$linkgold" "$linkdiff" < /dev/null
+# what iproute2 sends before it changes a link
+{ printf '\x20\0\0\0\x10\0\5\0'; head -c 24 /dev/zero; cat "$work/a"; } > "$work/probed"
+expect "a golden file without a probe, and its own capture" 0 "" "$linkdiff" headed.made probed < /dev/null
 expect "a golden file and another capture" 1 "" "$linkdiff" headed.made b << 'END_OF_DIFF'
 --- headed.made
 +++ b
 @@ -3,3 +1,3 @@ RTM_GETLINK lo
  RTM_GETLINK flags 0x301 (REQUEST | ROOT | MATCH)
-   ifinfomsg family 0 (AF_UNSPEC) type 0 (netrom) flags 0x0 change 0x0
+   ifinfomsg family 0 (AF_UNSPEC) type 0 (netrom) index 0 flags 0x0 change 0x0
 -  IFLA_IFNAME "lo"
 +  IFLA_IFNAME "l1"
 END_OF_DIFF

@@ -27,6 +27,9 @@ var update = flag.Bool("linkcap.update", false, "write the golden files of linkc
 
 var versionLine = regexp.MustCompile(`^# linkcap lines, format ([0-9]+)\r?\n`)
 
+// probes is what heads call the probes of iproute2, which aren't looked for here.
+const probes = "probes"
+
 var leftOutLine = regexp.MustCompile(`^# leaves out( what varies)?: ?([^\r\n]*)\r?\n`)
 
 // Golden compares a capture's lines with those of a file, without sequence and port numbers, and fails with a diff if
@@ -130,17 +133,30 @@ func parse(text string) goldenFile {
 			file.version, file.lines = version, text[len(first[0]):]
 		}
 	}
-	var names []string
+	var lists []string
 	for {
 		line := leftOutLine.FindStringSubmatch(file.lines)
 		if line == nil {
-			file.without = strings.Join(names, ",")
+			file.without = joinNames(lists)
 			return file
 		}
 		file.lines = file.lines[len(line[0]):]
 		file.varies = file.varies || line[1] != ""
-		names = append(names, strings.FieldsFunc(line[2], func(r rune) bool { return r == ',' || r == ' ' })...)
+		if line[1] == "" {
+			lists = append(lists, line[2])
+		}
 	}
+}
+
+// joinNames returns the names of lists, with commas between them, without probes.
+func joinNames(lists []string) string {
+	var names []string
+	for _, name := range strings.FieldsFunc(strings.Join(lists, ","), func(r rune) bool { return r == ',' || r == ' ' }) {
+		if name != probes {
+			names = append(names, name)
+		}
+	}
+	return strings.Join(names, ",")
 }
 
 // describeDifference describes how the lines of a capture differ from the lines of a golden file.

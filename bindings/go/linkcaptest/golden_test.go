@@ -141,7 +141,7 @@ func TestHeads(t *testing.T) {
 		file goldenFile
 	}{
 		{"RTM_GETLINK\n", goldenFile{0, "", false, "RTM_GETLINK\n"}},
-		{"# linkcap lines, format 4\n# leaves out: numbers, IFLA_MTU\r\nRTM_GETLINK\n", goldenFile{4, "numbers,IFLA_MTU", false, "RTM_GETLINK\n"}},
+		{"# linkcap lines, format 4\n# leaves out: numbers, IFLA_MTU, probes\r\nRTM_GETLINK\n", goldenFile{4, "numbers,IFLA_MTU", false, "RTM_GETLINK\n"}},
 		{"# linkcap lines, format 4\n# leaves out:\n", goldenFile{4, "", false, ""}},
 	} {
 		if got := parse(c.text); got != c.file {

@@ -44,7 +44,8 @@ def golden(capture: Capture, path: Union[str, "os.PathLike[str]"], *, update: bo
         _write(name, _text(lines_golden.head_lines(FORMAT) + made))
         return
     head, expected = _read(name)
-    text = _text(lines_filter.without(lines_golden.without_positions(made, head.positions), head.names))
+    made = lines_golden.without_probes(lines_golden.without_positions(made, head.positions), head.names)
+    text = _text(lines_filter.without(made, head.names))
     if text != expected:
         raise AssertionError(_difference(name, head, expected, text))
 

@@ -1,28 +1,30 @@
 """The head of a golden file of lines, and the lines without what the file leaves out.
 
     # linkcap lines, format 4
-    # leaves out: numbers, counters, IFLA_MTU
+    # leaves out: numbers, counters, IFLA_MTU, probes
     # leaves out what varies: RTM_NEWLINK "br0" > IFLA_ADDRESS
 
-The first line has the format version. The others, if there are any, name attributes and groups (`lines_filter.names_of`), and
-positions: a message by its type, its link and, if it isn't about the link itself, its header; then the attributes from the
-outside in. A position without attributes is the message as a whole. The scripts linkjson, linkdiff and linkgold are installed
-with a copy of this file and of lines_filter.
+The first line has the format version. The others, if there are any, name attributes and groups (`lines_filter.names_of`), the
+probes of iproute2 (`lines_record.is_probe`), and positions: a message by its type, its link and, if it isn't about the link
+itself, its header; then the attributes from the outside in. A position without attributes is the message as a whole. The scripts
+linkjson, linkdiff and linkgold are installed with a copy of this file, of lines_filter and of lines_record.
 """
 import re
 from typing import AbstractSet, Dict, Iterable, Iterator, List, NamedTuple, Optional, Sequence, Set, Tuple
 
 try:
-    from . import lines_filter
+    from . import lines_filter, lines_record
 except ImportError:  # a script, outside the package
     import lines_filter  # type: ignore
+    import lines_record  # type: ignore
 
 SEPARATOR = " > "
+PROBES = "probes"
 
 _FORMAT, _NAMES, _POSITION = "# linkcap lines", "# leaves out:", "# leaves out what varies:"
 _FIRST_LINE = re.compile(_FORMAT + ", format ([0-9]+)")
 _LINK_TYPES = ("RTM_NEWLINK ", "RTM_DELLINK ", "RTM_GETLINK ", "RTM_SETLINK ")
-_INDEX = re.compile(r' (?:if)?index (-?\d+|"(?:[^"\\]|\\.)*")(?= |$)')
+_INDEX = re.compile(r' (?:if)?index (-?\d+|#\d+|"(?:[^"\\]|\\.)*")(?= |$)')
 _LINK_ATTRIBUTE = re.compile(r"  (?:RTA_OIF|NHA_OIF) (.*)")
 _NAME_ATTRIBUTE = re.compile(r'  IFLA_IFNAME (".*")')
 
@@ -52,7 +54,10 @@ def read_head(lines: Sequence[str]) -> Head:
     version = _FIRST_LINE.match(lines[0]) if size else None
     words = [word.strip() for line in lines[:size] if line.startswith(_NAMES) for word in line[len(_NAMES):].split(",")]
     positions = {line[len(_POSITION):].strip() for line in lines[:size] if line.startswith(_POSITION)}
-    names = lines_filter.names_of(",".join(filter(None, words))) if any(words) else set()
+    names = {PROBES} & set(words)
+    known = [word for word in words if word and word != PROBES]
+    if known:
+        names |= lines_filter.names_of(",".join(known))
     return Head(int(version[1]) if version else None, names, positions, size)
 
 
@@ -60,6 +65,12 @@ def head_lines(version: int, names: Sequence[str] = (), positions: Iterable[str]
     """The lines of a head."""
     lines = [f"# linkcap lines, format {version}"] + ([f"{_NAMES} {', '.join(names)}"] if names else [])
     return lines + [f"{_POSITION} {position}" for position in sorted(positions)]
+
+
+def without_probes(lines: Iterable[str], names: AbstractSet[str]) -> List[str]:
+    """The lines without the probes of iproute2, if the names have them."""
+    return [line for message in lines_filter.messages(lines)
+            if PROBES not in names or not lines_record.is_probe(message) for line in message]
 
 
 def without_positions(lines: Iterable[str], positions: AbstractSet[str]) -> List[str]:

@@ -20,7 +20,8 @@ NEIGHBOUR_HEADER = "  ndmsg family 7 (AF_BRIDGE) ifindex 2 state {} flags 0x0 ty
 
 
 def link(index, name, address, *more):
-    return ["RTM_NEWLINK flags 0x2 (MULTI)", LINK_HEADER.format(index), f'  IFLA_IFNAME "{name}"', f"  IFLA_ADDRESS {address}", *more]
+    attributes = [f'  IFLA_IFNAME "{name}"', f"  IFLA_ADDRESS {address}", *more]
+    return ["RTM_NEWLINK flags 0x2 (MULTI)", LINK_HEADER.format(index), *attributes]
 
 
 def neighbour(address, state="0x80 (PERMANENT)"):
@@ -75,7 +76,8 @@ class Entries(unittest.TestCase):
 
     def test_allocated_handles(self):
         line = "  tcmsg family 0 (AF_UNSPEC) ifindex 7 handle {}:0 parent {}:{} info 5"
-        for handle, parent, expected in (("8001", "ffff", ("auto", "ffff")), ("10", "fffe", ("10", "auto")), ("ffff", "8000", ("ffff", "auto"))):
+        for handle, parent, expected in (
+                ("8001", "ffff", ("auto", "ffff")), ("10", "fffe", ("10", "auto")), ("ffff", "8000", ("ffff", "auto"))):
             made = effects.comparable(["RTM_NEWQDISC flags 0x2 (MULTI)", line.format(handle, parent, "ffff")])
             self.assertEqual(made[1], line.format(*expected, "ffff"))
 
@@ -91,7 +93,8 @@ class Heads(unittest.TestCase):
         head = lines_golden.read_head([*lines, "RTM_NEWLINK flags 0x0"])
         self.assertEqual(head, lines_golden.Head(4, {"numbers", "IFLA_MTU"}, {'RTM_NEWLINK "v0" > IFLA_ADDRESS'}, 3))
         self.assertEqual(lines_golden.read_head(["RTM_NEWLINK flags 0x0"]), lines_golden.Head(None, set(), set(), 0))
-        self.assertEqual(lines_golden.read_head(["# linkcap lines, format 4", "# leaves out:"]), lines_golden.Head(4, set(), set(), 2))
+        empty = lines_golden.read_head(["# linkcap lines, format 4", "# leaves out:"])
+        self.assertEqual(empty, lines_golden.Head(4, set(), set(), 2))
         self.assertEqual(lines_golden.read_head(["# leaves out: probes, numbers"]).names, {"probes", "numbers"})
 
 

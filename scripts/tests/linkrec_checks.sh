@@ -58,6 +58,12 @@ else
         grep -q "^linkrec: strace may not trace here (.*Operation not permitted): allow ptrace, as by --cap-add SYS_PTRACE .* linkgold --effect$" report' "$refuse" "$linkrec"
     succeeds "a comparison without permission to trace" bash -c '"$0" ptrace "$1" a.lines -- ip link 2> report; [ $? -eq 2 ] &&
         grep -q "SYS_PTRACE" report && grep -qx "linkgold: nothing was recorded" report' "$refuse" "$linkgold"
+    succeeds "SIGINT ends the recording of a running program in the background" timeout 60 sh -c '
+        sh -c "while :; do ip link show dev lo; sleep 0.1; done" > /dev/null & program=$!
+        "$0" run --attach $program -o attached & linkrec=$!
+        while [ ! -s attached ]; do sleep 0.1; done
+        kill -INT $linkrec; wait $linkrec; status=$?
+        kill $program; exit $status' "$linkrec"
     # lo changes for longer than linkrec waits
     succeeds "an effect that doesn't settle" bash -c 'timeout 60 "$0" effect -o made -- sh -c "for i in \$(seq 45); do ip link set lo up; sleep 0.15; ip link set lo down
             sleep 0.15; done > /dev/null 2>&1 &" 2> report && [ "$(cat report)" = "linkrec: links or addresses still change after 10 s: another dump may differ" ] &&

@@ -41,7 +41,8 @@ def golden(capture: Capture, path: Union[str, "os.PathLike[str]"], *, update: bo
         raise AssertionError("the capture is empty, or has no message of these types")
     name = os.fspath(path)
     if update:
-        _write(name, _text(lines_golden.head_lines(FORMAT) + made))
+        left_out = [lines_golden.PROBES] if isinstance(capture, Recording) else []
+        _write(name, _text(lines_golden.head_lines(FORMAT, left_out) + made))
         return
     head, expected = _read(name)
     made = lines_golden.without_probes(lines_golden.without_positions(made, head.positions), head.names)

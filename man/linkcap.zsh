@@ -20,6 +20,7 @@ local -a _linkcap_options_linkdiff=(
     '(-q --quiet)'{-q,--quiet}"[prints nothing]"
     --without-numbers"[sequence and port numbers don't count]"
     --without"[these attributes don't count, or what the groups numbers, counters and indexes name]:without:_linkcap_groups"
+    --replace"[puts NAME in place of names of links and hardware addresses that match]:replace:"
     --link"[messages about this link alone count]:link:"
     --only"[messages of these types alone count]:only:_linkcap_types"
     --ignore-order"[compares the attributes of each list without their order]"
@@ -47,22 +48,27 @@ local -a _linkcap_options_linkrec_run=(
 )
 local -a _linkcap_options_linkrec_effect=(
     '(-h --help)'{-h,--help}"[show this help message and exit]"
-    '(-o --output)'{-o,--output}"[where the links go]:output:_linkcap_files"
+    '(-o --output)'{-o,--output}"[where the capture goes]:output:_linkcap_files"
     --setup"[a shell command to run in that namespace before, which isn't recorded]:setup:"
+    --all"[addresses, routes, neighbours, rules and all other tables too]"
 )
 local -a _linkcap_options_linkrec_dump=(
     '(-h --help)'{-h,--help}"[show this help message and exit]"
+    '(-o --output)'{-o,--output}"[where the capture goes]:output:_linkcap_files"
     --all"[addresses, routes, neighbours, rules and all other tables too]"
+    --settled"[first waits until they don't change by themselves, for at most 10 s]"
     --port"[the socket's port number, which replies carry]:port:"
 )
 local -a _linkcap_options_linkrec_watch=(
     '(-h --help)'{-h,--help}"[show this help message and exit]"
+    '(-o --output)'{-o,--output}"[where the capture goes]:output:_linkcap_files"
     --all"[addresses, routes, neighbours, rules and all other tables too]"
     --time"[when each message came, with its offset and type, on standard error]"
     --port"[the socket's port number, which replies carry]:port:"
 )
 local -a _linkcap_options_linkrec_pcap=(
     '(-h --help)'{-h,--help}"[show this help message and exit]"
+    '(-o --output)'{-o,--output}"[where the capture goes]:output:_linkcap_files"
 )
 local -a _linkcap_options_linkrec_strace=(
     '(-h --help)'{-h,--help}"[show this help message and exit]"
@@ -71,10 +77,10 @@ local -a _linkcap_options_linkrec_strace=(
 )
 local -a _linkcap_options_linkrec_cut=(
     '(-h --help)'{-h,--help}"[show this help message and exit]"
+    '(-o --output)'{-o,--output}"[where the capture goes]:output:_linkcap_files"
     --at"[without those that start at these offsets, in bytes]:at:"
     --type"[without those of these types, by name or number]:type:_linkcap_types"
     --legal"[without those that linkcap finds invalid, which are reported]"
-    '(-o --output)'{-o,--output}"[where the messages go]:output:_linkcap_files"
 )
 local -a _linkcap_options_linkrec_split=(
     '(-h --help)'{-h,--help}"[show this help message and exit]"
@@ -83,6 +89,7 @@ local -a _linkcap_options_linkgold=(
     '(-h --help)'{-h,--help}"[show this help message and exit]"
     --update"[writes the golden file]"
     --effect"[compares the links that exist after the command, and not its requests]"
+    --all"[with --effect]"
     --setup"[a shell command to run in the namespace before, which isn't recorded]:setup:"
     --here"[records in the caller's network namespace]"
     --may-fail"[records a command that fails, too]"
@@ -92,6 +99,7 @@ local -a _linkcap_options_linkgold=(
     --numbers"[keeps numbers]"
     --counters"[keeps counters]"
     --without"[leaves out these attributes too]:without:_linkcap_groups"
+    --replace"[puts NAME in place of names of links and hardware addresses that match]:replace:"
     --only"[messages of these types alone count]:only:_linkcap_types"
     --link"[messages about this link alone count]:link:"
     --ignore-order"[compares the attributes of each list without their order]"
@@ -100,6 +108,7 @@ local -a _linkcap_options_linkjson=(
     '(-h --help)'{-h,--help}"[show this help message and exit]"
     --without"[without these attributes, or what the groups numbers, counters and indexes name]:without:_linkcap_groups"
     --without-numbers"[as --without numbers]"
+    --replace"[puts NAME in place of names of links and hardware addresses that match]:replace:"
     --link"[messages about this link alone]:link:"
     --only"[messages of these types alone, as linkshow has it]:only:_linkcap_types"
     --offsets"[each message's offset in bytes, as linkshow has it]"

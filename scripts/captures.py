@@ -1,7 +1,10 @@
 """Captures with their records, and files of lines, as linkdiff, linkgold and linkjson read them."""
+import io
+import itertools
 import os
 import shutil
 
+import lines_golden
 import lines_record
 
 HEADER_SIZE, DEFAULT_LIMIT = 16, 1 << 20
@@ -61,17 +64,22 @@ def are_lines(start):
     return start.startswith(FIRST_WORDS)
 
 
-def has_version(start):
-    """Whether the first line of a file of lines is that of a golden file, which has their format version."""
-    return start.startswith(FORMAT_WORDS)
-
-
 def decode_lines(lines):
-    """The lines of a file of lines as text, without the one with their format version. The messages' first lines have their
+    """The lines of a file of lines as text, without its head (`lines_golden`). The messages' first lines have their
     namespaces."""
-    texts = (line.decode(errors="replace").rstrip("\r\n") for number, line in enumerate(lines)
-             if number or not has_version(line))
-    return lines_record.from_file(texts)
+    texts = (line.decode(errors="replace").rstrip("\r\n") for line in lines)
+    return lines_record.from_file(itertools.dropwhile(lines_golden.is_in_head, texts))
+
+
+def read_head(content):
+    """The head of a file with this content, which is empty for a capture.
+
+    # Errors
+
+    ValueError if the head names what is no attribute or group.
+    """
+    lines = (line.decode(errors="replace").rstrip("\r\n") for line in io.BytesIO(content))
+    return lines_golden.read_head(list(itertools.takewhile(lines_golden.is_in_head, lines)))
 
 
 def record_of(name, capture):

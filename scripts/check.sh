@@ -326,7 +326,7 @@ succeeds "cut by each type that linkshow names" bash -c 'for word in $(python3 -
     "$0" cut --type "$word" none && "$LINKSHOW" --only "$word" none 2> /dev/null || exit; done' "$linkrec" \
     'import sys; sys.path.append(sys.argv[1]); from tables import TYPES; print(*(name.split("_")[1].lower() for name in TYPES.values()))' \
     "$top/tools/oracle"
-expect "cut at no message" 1 "linkrec: no message starts at 4" "$linkrec" cut --at 4 a < "$work/a"
+expect "cut at no message" 1 "linkrec: no message starts at 4" "$linkrec" cut --at 4 a < /dev/null
 expect "no offset" 2 "linkrec: no offset: x" "$linkrec" cut --at 4,x a < /dev/null
 expect "an unknown type" 2 "linkrec: no type of messages: link" "$linkrec" cut --type link a < /dev/null
 expect "without invalid messages" 0 "linkrec: left out the message at 48: refused body" "$linkrec" cut --legal mixed < <(cat "$work/a" "$work/b")
@@ -338,6 +338,8 @@ succeeds "a size of nothing" bash -c '"$0" split three 0 zero 2> report; [ $? -e
 expect "split" 0 "" "$linkrec" split three 60 pieces < <(printf '0\tpieces/piece-000000.bin\n96\tpieces/piece-000001.bin\n')
 succeeds "the pieces are the capture" bash -c 'cat pieces/* | cmp - three'
 expect "a folder that is there" 1 "linkrec: pieces: File exists" "$linkrec" split three 60 pieces < /dev/null
+
+. scripts/tests/linkrec_checks.sh
 
 # ---- linkrec: traces
 
@@ -389,6 +391,8 @@ trace << END
 7  sendto(3<NETLINK:[ROUTE:7]>, $call
 END
 expect "a trace without bytes" 1 $'linkrec: left out 1 calls without their bytes: trace with -e write=all\nlinkrec: no route message in the trace' "$linkrec" strace trace < /dev/null
+
+. scripts/tests/golden_checks.sh
 
 # ---- linkrec run and effect, linkgold
 

@@ -3,7 +3,8 @@
 
     tools/names.py            writes NAMES, COUNTERS and INDEXES of lines_filter.py, LINK_INDEXES of lines_record.py, and BYTES
                               and NUMBER_LISTS of lines_json.py; and these, but for NAMES and LINK_INDEXES, in the crates
-                              link_lines_parts and link_lines_json, as code and in specs
+                              link_lines_parts and link_lines_json, as code and in specs; and LINK_NAMES,
+                              HARDWARE_ADDRESSES and BRIDGE_IDS of lines_replace.py, also in Go
     tools/names.py --check    ends with status 1 if one of these differs from the tables
 
 The names, their groups and the formats of values are those of the independent implementation, tools/oracle/rows.tsv and
@@ -20,6 +21,7 @@ sys.path.append(str(TOP / "tools/oracle"))
 import linkshow  # noqa: E402
 
 PACKAGE = TOP / "bindings/python/linkcap"
+GO = TOP / "bindings/go/linkcaptest"
 PARTS = TOP / "crates/link_lines_parts"
 JSON = TOP / "crates/link_lines_json"
 
@@ -34,6 +36,9 @@ BYTES = names_with("bytes", "hardware_address", "bridge_id")
 NUMBER_LISTS = names_with("numbers")
 # The group has two kinds of names: those of numbers of namespaces end alike, and all others hold indexes of links.
 LINK_INDEXES = {name for name in linkshow.GROUPS["indexes"] if not name.endswith("NETNSID")}
+LINK_NAMES = LINK_INDEXES | {"FRA_IIFNAME", "FRA_OIFNAME", "IFA_LABEL", "IFLA_ALT_IFNAME", "IFLA_IFNAME"}
+BRIDGE_IDS = names_with("bridge_id")
+HARDWARE_ADDRESSES = names_with("hardware_address") - {"IFLA_PHYS_PORT_ID", "IFLA_PHYS_SWITCH_ID"}
 
 # (file, set, names)
 SETS = (
@@ -43,6 +48,12 @@ SETS = (
     (PACKAGE / "lines_record.py", "LINK_INDEXES", LINK_INDEXES),
     (PACKAGE / "lines_json.py", "BYTES", BYTES),
     (PACKAGE / "lines_json.py", "NUMBER_LISTS", NUMBER_LISTS),
+    (PACKAGE / "lines_replace.py", "LINK_NAMES", LINK_NAMES),
+    (PACKAGE / "lines_replace.py", "HARDWARE_ADDRESSES", HARDWARE_ADDRESSES),
+    (PACKAGE / "lines_replace.py", "BRIDGE_IDS", BRIDGE_IDS),
+    (GO / "names.go", "linkNames", LINK_NAMES),
+    (GO / "names.go", "hardwareAddresses", HARDWARE_ADDRESSES),
+    (GO / "names.go", "bridgeIDs", BRIDGE_IDS),
     (PARTS / "src/names.rt", "COUNTERS", linkshow.GROUPS["counters"]),
     (PARTS / "src/names.rt", "INDEXES", linkshow.GROUPS["indexes"]),
     (PARTS / "specs/Names.antt", "counter_names", linkshow.GROUPS["counters"]),
@@ -61,6 +72,12 @@ def python_set(name, members):
     return definition, r'^%s = frozenset\("""\n.*?"""\.split\(\)\)\n' % name
 
 
+def go_set(name, members):
+    """The definition of a set in Go, and a pattern of any such definition."""
+    lines = textwrap.wrap(" ".join(sorted(members)), 120, initial_indent="\t", subsequent_indent="\t")
+    return "var %s = setOf(`\n%s`)\n" % (name, "\n".join(lines)), r"^var %s = setOf\(`\n.*?`\)\n" % name
+
+
 def rattle_constant(name, members):
     """The definition of a constant in Rattle, and a pattern of any such definition."""
     lines = "".join('    b"%s",\n' % member for member in sorted(members))
@@ -73,7 +90,7 @@ def definition_in_specs(name, members):
     return "%s =\n%s    []\n" % (name, lines), r"^%s =\n.*?    \[\]\n" % name
 
 
-WRITTEN = {".rt": rattle_constant, ".antt": definition_in_specs, ".py": python_set}
+WRITTEN = {".rt": rattle_constant, ".antt": definition_in_specs, ".py": python_set, ".go": go_set}
 
 
 def with_set(path, name, members):

@@ -27,10 +27,16 @@ var update = flag.Bool("linkcap.update", false, "write the golden files of linkc
 
 var versionLine = regexp.MustCompile(`^# linkcap lines, format ([0-9]+)\r?\n`)
 
+// probes is what heads call the probes of iproute2, which aren't looked for here.
+const probes = "probes"
+
+var leftOutLine = regexp.MustCompile(`^# leaves out( what varies)?: ?([^\r\n]*)\r?\n`)
+
 // Golden compares a capture's lines with those of a file, without sequence and port numbers, and fails with a diff if
 // they differ. It stops the test at a fault, at an empty capture, and if the file can't be read or written.
 //
-// The file's first line has the format version of the lines; a file without it, as linkshow writes it, will do.
+// The file's first line has the format version of the lines; a file without it, as linkshow writes it, will do. What the lines
+// after it say that linkgold left out is left out of the capture's lines.
 func Golden(t testing.TB, capture []byte, path string) {
 	t.Helper()
 	GoldenLines(t, capture, path, linkcap.LineOptions{WithoutNumbers: true})
@@ -39,10 +45,22 @@ func Golden(t testing.TB, capture []byte, path string) {
 // GoldenLines is Golden with lines of the caller's choice.
 func GoldenLines(t testing.TB, capture []byte, path string, options linkcap.LineOptions) {
 	t.Helper()
+	GoldenReplacing(t, capture, path, options)
+}
+
+// GoldenReplacing is GoldenLines with fixed names in place of random names of links and hardware addresses: each word is
+// REGEX=NAME, as for linkgold --replace. It stops the test at a malformed word.
+func GoldenReplacing(t testing.TB, capture []byte, path string, options linkcap.LineOptions, words ...string) {
+	t.Helper()
+	names, err := newReplacement(words)
+	if err != nil {
+		t.Fatalf("linkcap: %v", err)
+	}
 	lines, err := linkcap.Lines(capture, options)
 	if err != nil {
 		t.Fatalf("linkcap: %v", err)
 	}
+	lines = names.apply(lines)
 	if lines == "" {
 		t.Fatalf("linkcap: the capture is empty, or has no message of these types")
 	}
@@ -59,8 +77,19 @@ func GoldenLines(t testing.TB, capture []byte, path string, options linkcap.Line
 	if err != nil {
 		t.Fatalf("linkcap: %v", err)
 	}
-	if version, expected := parse(string(text)); expected != lines {
-		t.Errorf("linkcap: %s", describeDifference(path, version, expected, lines))
+	golden := parse(string(text))
+	if golden.varies {
+		t.Fatalf("linkcap: %s is of linkgold --effect, and leaves out what varies between two runs: compare it by linkgold", path)
+	}
+	if golden.without != "" {
+		selection := linkcap.Selection{LineOptions: options, Without: golden.without}
+		if lines, err = linkcap.SelectedLines(capture, selection); err != nil {
+			t.Fatalf("linkcap: %s: %v", path, err)
+		}
+		lines = names.apply(lines)
+	}
+	if golden.lines != lines {
+		t.Errorf("linkcap: %s", describeDifference(path, golden.version, golden.lines, lines))
 	}
 }
 
@@ -87,17 +116,47 @@ func write(path, text string) error {
 	return os.WriteFile(path, []byte(text), 0o666)
 }
 
-// parse returns the format version that a golden file names, or 0, and its lines.
-func parse(text string) (int, string) {
-	first := versionLine.FindStringSubmatch(text)
-	if first == nil {
-		return 0, text
+// A goldenFile is the text of a golden file: the format version that its head names, or 0; the attributes and groups that
+// linkgold left out, with commas between them; whether it left out what varies between two runs; and its lines.
+type goldenFile struct {
+	version int
+	without string
+	varies  bool
+	lines   string
+}
+
+// parse returns the parts of the text of a golden file.
+func parse(text string) goldenFile {
+	file := goldenFile{lines: text}
+	if first := versionLine.FindStringSubmatch(text); first != nil {
+		if version, err := strconv.Atoi(first[1]); err == nil {
+			file.version, file.lines = version, text[len(first[0]):]
+		}
 	}
-	version, err := strconv.Atoi(first[1])
-	if err != nil {
-		return 0, text
+	var lists []string
+	for {
+		line := leftOutLine.FindStringSubmatch(file.lines)
+		if line == nil {
+			file.without = joinNames(lists)
+			return file
+		}
+		file.lines = file.lines[len(line[0]):]
+		file.varies = file.varies || line[1] != ""
+		if line[1] == "" {
+			lists = append(lists, line[2])
+		}
 	}
-	return version, text[len(first[0]):]
+}
+
+// joinNames returns the names of lists, with commas between them, without probes.
+func joinNames(lists []string) string {
+	var names []string
+	for _, name := range strings.FieldsFunc(strings.Join(lists, ","), func(r rune) bool { return r == ',' || r == ' ' }) {
+		if name != probes {
+			names = append(names, name)
+		}
+	}
+	return strings.Join(names, ",")
 }
 
 // describeDifference describes how the lines of a capture differ from the lines of a golden file.

@@ -135,6 +135,48 @@ func TestFiles(t *testing.T) {
 	}
 }
 
+func TestHeads(t *testing.T) {
+	for _, c := range []struct {
+		text string
+		file goldenFile
+	}{
+		{"RTM_GETLINK\n", goldenFile{0, "", false, "RTM_GETLINK\n"}},
+		{"# linkcap lines, format 4\n# leaves out: numbers, IFLA_MTU, probes\r\nRTM_GETLINK\n", goldenFile{4, "numbers,IFLA_MTU", false, "RTM_GETLINK\n"}},
+		{"# linkcap lines, format 4\n# leaves out:\n", goldenFile{4, "", false, ""}},
+	} {
+		if got := parse(c.text); got != c.file {
+			t.Errorf("%q: %v", c.text, got)
+		}
+	}
+	if !parse("# linkcap lines, format 4\n# leaves out what varies: RTM_NEWLINK \"v0\" > IFLA_ADDRESS\n").varies {
+		t.Error("what varies")
+	}
+}
+
+func TestWhatAHeadLeavesOut(t *testing.T) {
+	path := writeGolden(t, makeLink(1))
+	text, err := os.ReadFile(path)
+	if err != nil {
+		t.Fatal(err)
+	}
+	head, lines, _ := strings.Cut(string(text), "\n")
+	lines = strings.ReplaceAll(lines, "  IFLA_MTU 1281\n", "")
+	for _, c := range []struct{ line, message string }{
+		{"# leaves out: numbers, IFLA_MTU", ""},
+		{"# leaves out: numbers", "+  IFLA_MTU 1281"},
+		{"# leaves out: IFLA_NAM", "IFLA_NAM"},
+		{`# leaves out what varies: RTM_NEWLINK > IFLA_MTU`, "compare it by linkgold"},
+	} {
+		if err := os.WriteFile(path, []byte(head+"\n"+c.line+"\n"+lines), 0o666); err != nil {
+			t.Fatal(err)
+		}
+		f := runGolden(makeLink(1), path)
+		if (f.message == "") != (c.message == "") || !strings.Contains(f.message, c.message) {
+			t.Errorf("%s: %q", c.line, f.message)
+		}
+	}
+}
+
 func TestSame(t *testing.T) {
 	padded := append(makeLink(1), 0x14, 0, 0, 0, 1, 0, 0, 0, 1, 0, 0, 0, 0, 0, 0, 0, 1, 2, 3, 4)
 	shorter := append(makeLink(1), 0x10, 0, 0, 0, 1, 0, 0, 0, 1, 0, 0, 0, 0, 0, 0, 0)

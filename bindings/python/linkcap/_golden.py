@@ -1,48 +1,58 @@
 """Golden files of lines, for tests."""
 import difflib
 import os
-import re
-from typing import Iterable, Optional, SupportsIndex, Tuple, Union
+from typing import Iterable, List, Optional, SupportsIndex, Tuple, Union
 
-from . import lines_filter, lines_record
+from . import lines_filter, lines_golden, lines_record
 from ._calls import DEFAULT_LIMIT, lines
 from ._native import FORMAT, Capture
 from ._record import Recording
 from ._types import MessageType
+from .lines_replace import Replacement
 
 # Frames of this module are left out of tracebacks, by unittest and by pytest.
 __unittest = True
 
-_FIRST_LINE = re.compile(r"# linkcap lines, format ([0-9]+)\n")
-
 
 def golden(capture: Capture, path: Union[str, "os.PathLike[str]"], *, update: bool = False, numbers: bool = False,
-           only: Optional[Iterable[MessageType]] = None, limit: SupportsIndex = DEFAULT_LIMIT) -> None:
+           only: Optional[Iterable[MessageType]] = None, replace: Iterable[str] = (),
+           limit: SupportsIndex = DEFAULT_LIMIT) -> None:
     """Compares a capture's lines with those of a file; if they differ, raises AssertionError with a unified diff.
 
     With `update` it writes the file instead, and its folder. Lines have sequence and port numbers with `numbers`, and
-    are those of some message types with `only`, as for `lines`. A capture that isn't legal raises its `Fault`, and one
-    without lines AssertionError: the test has captured nothing.
+    are those of some message types with `only`, as for `lines`. Each `REGEX=NAME` of `replace` puts NAME in place of the
+    names of links and hardware addresses that match, as `linkgold --replace`; ValueError names one that is malformed. A
+    capture that isn't legal raises its `Fault`, and one without lines AssertionError: the test has captured nothing.
 
     Of a `Recording` the lines are those of linkgold: names of links in place of indexes, a line `# namespace 2` where the
     namespace changes, and a line `refused: ENODEV` after a request that the kernel refused.
 
-    The file's first line has the format version of the lines. It may be missing, as in the output of linkshow.
+    The file's first line has the format version of the lines. It may be missing, as in the output of linkshow. What the lines
+    after it say that linkgold left out is left out of the capture's lines.
     """
     __tracebackhide__ = True
+    replacement = Replacement(replace)
     if isinstance(capture, Recording):
         text = _recorded_lines(capture, lines(capture, limit, only=only, offsets=True), numbers)
     else:
         text = lines(capture, limit, numbers=numbers, only=only)
-    if not text:
+    made = replacement.apply(text.splitlines())
+    if not made:
         raise AssertionError("the capture is empty, or has no message of these types")
     name = os.fspath(path)
     if update:
-        _write(name, f"# linkcap lines, format {FORMAT}\n{text}")
+        left_out = [lines_golden.PROBES] if isinstance(capture, Recording) else []
+        _write(name, _text(lines_golden.head_lines(FORMAT, left_out) + made))
         return
-    version, expected = _read(name)
+    head, expected = _read(name)
+    made = lines_golden.without_probes(lines_golden.without_positions(made, head.positions), head.names)
+    text = _text(lines_filter.without(made, head.names))
     if text != expected:
-        raise AssertionError(_difference(name, version, expected, text))
+        raise AssertionError(_difference(name, head, expected, text))
+
+
+def _text(made: List[str]) -> str:
+    return "".join(line + "\n" for line in made)
 
 
 def _recorded_lines(recording: Recording, text: str, numbers: bool) -> str:
@@ -59,28 +69,27 @@ def _write(name: str, text: str) -> None:
         file.write(text)
 
 
-def _read(name: str) -> Tuple[Optional[int], str]:
-    """The format version that a golden file names, and its lines."""
+def _read(name: str) -> Tuple[lines_golden.Head, str]:
+    """The head of a golden file, and the text of its lines."""
     __tracebackhide__ = True
     try:
         with open(name, encoding="utf-8", errors="backslashreplace", newline="") as file:
             text = file.read()
     except FileNotFoundError:
         raise AssertionError(f"no golden file {name}: write it by update=True, or pytest --linkcap-update") from None
-    first = _FIRST_LINE.match(text.replace("\r\n", "\n", 1))
-    if not first:
-        return None, text
-    return int(first.group(1)), text[text.index("\n") + 1:]
+    found = text.splitlines(True)
+    head = lines_golden.read_head([line.rstrip("\r\n") for line in found])
+    return head, "".join(found[head.size:])
 
 
-def _difference(name: str, version: Optional[int], expected: str, text: str) -> str:
+def _difference(name: str, head: lines_golden.Head, expected: str, text: str) -> str:
     """The message about a golden file whose lines aren't those of a capture."""
     if expected.replace("\r\n", "\n") == text:
         return (f"{name} has the capture's lines, but ends them by CRLF: keep it as it was written, in git by a line"
                 f" `*.lines -text` of .gitattributes")
     reason = "the capture isn't that of the golden file\n"
-    if version not in (None, FORMAT):
-        reason = (f"{name} has lines of format {version}, and this linkcap writes format {FORMAT}: update the file with the"
+    if head.version not in (None, FORMAT):
+        reason = (f"{name} has lines of format {head.version}, and this linkcap writes format {FORMAT}: update the file with the"
                   f" capture that it was made of (CHANGELOG.md)\n")
     diff = difflib.unified_diff(expected.splitlines(True), text.splitlines(True), name, "this capture")
     return reason + "".join(line if line.endswith("\n") else line + "\n\\ No newline at end of file\n" for line in diff)

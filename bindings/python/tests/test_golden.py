@@ -1,6 +1,7 @@
 """Tests of golden files and of `python -m linkcap`."""
 import json
 import os
+import re
 import subprocess
 import sys
 import tempfile
@@ -8,6 +9,7 @@ import unittest
 from typing import Any, List, Tuple
 
 import linkcap
+from linkcap import lines_replace
 from support import TOP, read, sample, selected_lines
 
 REFUSED = bytes.fromhex("28000000100000000000000000000000") + bytes(16) + bytes.fromhex("0700040001020300")
@@ -67,6 +69,25 @@ class Golden(unittest.TestCase):
         linkcap.golden(other + self.capture, self.path, update=True, only=["getlink"])
         linkcap.golden(other + self.capture, self.path, only=[18])
 
+    def test_names_are_replaced(self) -> None:
+        linkcap.golden(self.capture, self.path, update=True, replace=["l[a-z]=link"])
+        self.assertEqual(self.read().splitlines()[-1], '  IFLA_IFNAME "link"')
+        linkcap.golden(self.capture.replace(b"lo", b"lx"), self.path, replace=["l[a-z]=link"])
+        with self.assertRaisesRegex(AssertionError, '\\+  IFLA_IFNAME "hi"\n'):
+            linkcap.golden(self.capture.replace(b"lo", b"hi"), self.path, replace=["l[a-z]=link"])
+        for word in ("lo", "l[=link", "lo=1"):
+            with self.assertRaisesRegex(ValueError, "^" + re.escape(word) + ": "):
+                linkcap.golden(self.capture, self.path, replace=[word])
+
+    def test_replaced_names_are_numbered(self) -> None:
+        lines = ['  IFLA_IFNAME "v1"', "  IFLA_ADDRESS 02:00:00:00:00:01", '  IFLA_MASTER "v2"', '  IFLA_INFO_KIND "v1"',
+                 '  ifinfomsg index "v1" flags 0x0', "  IFLA_BR_ROOT_ID 8000.020000000001", '  IFLA_IFALIAS "v2"']
+        replacement = lines_replace.Replacement(["v.=port", "02:.*=mac"])
+        self.assertEqual(replacement.apply(lines), [
+            '  IFLA_IFNAME "port"', "  IFLA_ADDRESS mac", '  IFLA_MASTER "port#2"', '  IFLA_INFO_KIND "v1"',
+            '  ifinfomsg index "port" flags 0x0', "  IFLA_BR_ROOT_ID 8000.mac", '  IFLA_IFALIAS "v2"'])
+        self.assertEqual(replacement.apply(['  FRA_IIFNAME "v2"']), ['  FRA_IIFNAME "port#2"'])
+
     def test_faults_and_empty_captures(self) -> None:
         with self.assertRaisesRegex(linkcap.Fault, "cut frame at 0"):
             linkcap.golden(self.capture[:-1], self.path)
@@ -85,6 +106,19 @@ class Golden(unittest.TestCase):
         linkcap.golden(self.capture, self.path)
         self.write("# linkcap lines, format 3\n" + lines.replace("lo", "hi"))
         with self.assertRaisesRegex(AssertionError, "has lines of format 3, and this linkcap writes format 4"):
+            linkcap.golden(self.capture, self.path)
+
+    def test_what_a_head_leaves_out(self) -> None:
+        linkcap.golden(self.capture, self.path, update=True, numbers=True)
+        first, *rest = [line for line in self.read().splitlines() if "IFLA_EXT_MASK" not in line]
+        rest[0] = rest[0][:rest[0].index(" seq ")]
+        head = [first, "# leaves out: numbers", '# leaves out what varies: RTM_GETLINK "lo" > IFLA_EXT_MASK']
+        self.write("\n".join(head + rest) + "\n")
+        linkcap.golden(self.capture, self.path, numbers=True)
+        with self.assertRaisesRegex(AssertionError, '(?s)-  IFLA_IFNAME "lo".*\\+  IFLA_EXT_MASK'):
+            linkcap.golden(self.capture.replace(b"lo", b"hi"), self.path)
+        self.write("\n".join([first, "# leaves out: numbers, IFLA_NAM", *rest]))
+        with self.assertRaisesRegex(ValueError, "no attribute or group is called IFLA_NAM"):
             linkcap.golden(self.capture, self.path)
 
     def test_format_is_that_of_linkshow(self) -> None:

@@ -50,6 +50,7 @@ class Record(unittest.TestCase):
                 text = file.read()
             self.assertTrue(text.endswith('index "v0" flags 0x0 change 0x0\n  IFLA_MASTER "br0"\n'), text)
             self.assertNotIn("refused", text)
+            self.assertIn("\n# leaves out: probes\n", text)
             linkcap.golden(linkcap.record(["ip", "link", "set", "v0", "master", "br0"], setup=setup), path)
             with self.assertRaisesRegex(AssertionError, '-  IFLA_MASTER "br0"\n\\+  IFLA_MASTER "br1"\n'):
                 linkcap.golden(linkcap.record(["ip", "link", "set", "v0", "master", "br1"], setup=setup), path)

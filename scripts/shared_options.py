@@ -1,0 +1,18 @@
+"""Options that several scripts have."""
+import argparse
+
+import lines_replace
+
+
+def replacement(word):
+    """The argument of --replace, if it is well-formed."""
+    try:
+        lines_replace.Replacement([word])
+    except ValueError as error:
+        raise argparse.ArgumentTypeError(str(error)) from error
+    return word
+
+
+def add_replace(parser):
+    parser.add_argument("--replace", action="append", type=replacement, default=[], metavar="REGEX=NAME",
+                        help="puts NAME in place of names of links and hardware addresses that match; may be repeated")

@@ -2,8 +2,9 @@
 """Checks the pages: their links and marks, and the blocks that quote a file.
 
     tools/pages.py                 checks, in a second
-    tools/pages.py --run PREFIX    also runs the pages' commands, with the programs that ./install PREFIX installed
-        --have root,strace         also those whose mark `wants` names only these
+    tools/pages.py --run           also runs the commands of pages and manuals, with the programs that `rt ci` built
+        --programs FOLDER          with the programs of a folder
+        --prefix PREFIX            with what ./install PREFIX installed, the library too
     tools/pages.py --words         prints the number of words of each page
     tools/pages.py --lines         first rewrites the line of each link to a definition
 
@@ -13,13 +14,16 @@ replaces the number by that of the line on which the file defines the name: in .
 `abbrev` or `unfoldable`; in .rt by `fn`, `struct`, `enum` or `trait`. It leaves a name that the file doesn't define, and the
 check reports it.
 
-A mark is a comment on a line by itself above a block. Blocks of `sh` are commands. `bash -eu -o pipefail` runs each in a
-folder for its page, which has links to all files and folders at the top of the repository; PREFIX/bin comes first on PATH.
-pip installs into that folder. Commands that want root run in a separate network namespace. Marks of commands are
+A mark is a comment on a line by itself above a block. Blocks of `sh` are commands, which page_commands.py runs in the
+environment that it describes. Marks of commands are
 
-    <!-- wants root and strace -->                 it is run only if --have names these
-    <!-- status 2 -->                              it has to end with that status
-    <!-- given made.bin = samples/req-veth.bin -->  it gets a copy of the file under that name first
+    <!-- wants root and strace -->                 they are run only if the machine has these
+    <!-- continues -->                             they are run only if the commands before them were
+    <!-- status 2 -->                              they have to end with that status
+    <!-- given made.bin = samples/req-veth.bin -->  they get a copy of the file under that name first
+
+A reader doesn't see marks. So the text between the previous block or heading and the block has to name each requirement of
+`wants`, which page_commands.py lists, and each file of `given`.
 
 A block without a language is checked if it has one of these marks:
 
@@ -27,29 +31,29 @@ A block without a language is checked if it has one of these marks:
     <!-- file: samples/get-veth.lines -->          text of that file
     <!-- written by tools/layers.py -->            text that this script writes, and checks itself
 
-Blocks of another language have one of these marks: `file: PATH`; `run by PATH`, a script that runs it; or `sketch`. Text of a
+Blocks of another language have one of these marks: `file: PATH`; `run by PATH`, a script that runs it; or `sketch`. One with
+`saved as NAME` too is a file of that name for the commands that follow, and the text above it has to say so. Text of a
 file consists of pieces with empty lines between. Each piece has to be in the file, in order, with any indentation of the whole
-piece; of lines `use` only the names have to be imported there. The status is 1 if something is wrong.
+piece; of lines `use` only the names have to be imported there. manual_examples.py reads the examples of manuals, which have the
+same marks. The status is 1 if something is wrong.
 """
 import argparse
 import os
 import re
-import shutil
-import signal
-import subprocess
 import sys
-import tempfile
 import textwrap
 from glob import glob
 from pathlib import Path
 
+from blocks import MARKS, Block, check_visible
 from definitions import definitions_of
 from layers import TOP
+from manual_examples import ManualExamples
+from page_commands import check_requirements, run_all
 
 PAGES = ["README.md", "CHANGELOG.md", "CONTRIBUTING.md", "docs/*.md", "samples/*.md", "bench/**/*.md", "bindings/**/*.md", "tools/**/*.md"]
-SECONDS = 120
+MANUALS = ["man/*.[1-9]"]
 MARK = re.compile(r"\s*<!--\s*(.*?)\s*-->\s*")
-MARKS = re.compile(r"wants .+|status \d+|given .+|output|file: \S+|run by \S+|written by \S+|sketch")
 FENCE = re.compile(r"(\s*)(```+)\s*([\w+-]*)\s*")
 LINK = re.compile(r"\[[^\]]*\]\(([^)\s]+)\)")
 DEFINITION_LINK = re.compile(r"(\[`([^`]+)`\]\(([^)#\s]+)#L)(\d+)\)")
@@ -57,31 +61,12 @@ PATH = re.compile(r"(?:crates|docs|samples|scripts|bench|bindings|tools|man)/[\w
 NOT_A_PATH = re.compile(r"\.\.|/out/|NAME|CRATE")
 
 
-class Block:
-    """A fenced block: its language, its text, the marks above it, and the line of the fence."""
-
-    def __init__(self, line, language, marks):
-        self.line, self.language, self.marks = line, language, marks
-        self.lines = []
-
-    def mark(self, word):
-        """The text after the first word of a mark, by this word; None if there is no such mark."""
-        for mark in self.marks:
-            first, _, rest = mark.partition(" ")
-            if first.rstrip(":") == word:
-                return rest
-        return None
-
-    def text(self):
-        return "".join(line + "\n" for line in self.lines)
-
-
 class Page:
     """A page: its text, its blocks, the lines outside of them, and faults of its marks and fences."""
 
-    def __init__(self, name):
+    def __init__(self, name, source=None):
         self.name = name
-        self.source = (TOP / name).read_text(encoding="utf-8")
+        self.source = (TOP / name).read_text(encoding="utf-8") if source is None else source
         self.blocks, self.prose, self.faults = [], [], []
         self.read()
 
@@ -233,7 +218,7 @@ def check_marks(page):
     for block in page.blocks:
         where = "%s:%d" % (page.name, block.line)
         kinds = {word for word in ("file", "run", "sketch", "output") if block.mark(word) is not None}
-        for_commands = {word for word in ("wants", "status", "given") if block.mark(word) is not None}
+        for_commands = {word for word in ("wants", "continues", "status", "given") if block.mark(word) is not None}
         if block.language not in ("", "sh") and not kinds & {"file", "run", "sketch"}:
             yield "%s: a block of %s without a mark: file, run by or sketch" % (where, block.language)
         if for_commands and block.language != "sh":
@@ -321,113 +306,50 @@ def check_snippets(page):
             yield "%s: not the text of %s, or not in its order: %s" % (where, name, missing.strip())
 
 
-# --------------------------------------------------------------------------
-# Commands
-
-def environment(prefix, folder):
-    values = dict(os.environ, PREFIX=str(prefix), PYTHONDONTWRITEBYTECODE="1", PIP_TARGET=str(folder / "packages"))
-    values["PATH"] = "%s:%s" % (prefix / "bin", values["PATH"])
-    values["PKG_CONFIG_PATH"] = str(prefix / "lib" / "pkgconfig")
-    return values
-
-
-def run(block, folder, prefix):
-    """(status, standard output, standard error) of a block; the status is None if it took too long. A block that wants root
-    runs in a separate network namespace, so that it changes no link of the machine."""
-    namespace = ["unshare", "-n"] if "root" in (block.mark("wants") or "") else []
-    shell = subprocess.Popen([*namespace, "bash", "-eu", "-o", "pipefail", "-c", block.text()], cwd=folder,
-                             env=environment(prefix, folder), stdin=subprocess.DEVNULL, stdout=subprocess.PIPE,
-                             stderr=subprocess.PIPE, start_new_session=True)
-    try:
-        out, err = shell.communicate(timeout=SECONDS)
-    except subprocess.TimeoutExpired:
-        os.killpg(shell.pid, signal.SIGKILL)
-        out, err = shell.communicate()
-        return None, out, err
-    return shell.returncode, out, err
-
-
-def copy_given_files(block, folder):
-    for pair in (block.mark("given") or "").split(","):
-        if pair.strip():
-            name, source = (part.strip() for part in pair.split("="))
-            (folder / name).parent.mkdir(parents=True, exist_ok=True)
-            shutil.copy(TOP / source, folder / name)
-
-
-def missing_requirements(block, have):
-    """The requirements in a block's mark `wants` that aren't among `have`, as text; None if there are none."""
-    requirements = re.split(r",\s*(?:and\s+)?|\s+and\s+", block.mark("wants") or "")
-    return ", ".join(word for word in requirements if word and word not in have) or None
-
-
-def run_page(page, prefix, have):
-    """The faults of a page's commands. It prints which blocks it ran."""
-    with tempfile.TemporaryDirectory() as work:
-        folder = Path(work)
-        for entry in TOP.iterdir():
-            if entry.name != ".git":
-                (folder / entry.name).symlink_to(entry)
-        for index, block in enumerate(page.blocks):
-            if block.language != "sh":
-                continue
-            where = "%s:%d" % (page.name, block.line)
-            missing = missing_requirements(block, have)
-            if missing:
-                print("pages: not run: %s wants %s" % (where, missing))
-                continue
-            copy_given_files(block, folder)
-            status, out, err = run(block, folder, prefix)
-            expected = int(block.mark("status") or 0)
-            next_block = page.blocks[index + 1] if index + 1 < len(page.blocks) else None
-            if status != expected:
-                result = "took over %d seconds" % SECONDS if status is None else "status %d, expected %d" % (status, expected)
-                yield "%s: %s: %s" % (where, result, (out + err).decode("utf-8", "replace")[-300:])
-            elif next_block is not None and next_block.mark("output") is not None \
-                    and out.decode("utf-8", "replace") != next_block.text():
-                yield "%s:%d: other output: %r" % (page.name, next_block.line, out[:300])
-            else:
-                print("pages: ran: %s" % where)
-
-
-def changes():
-    """The changed files of the repository, as `git status` prints them."""
-    return subprocess.run(["git", "status", "--porcelain"], cwd=TOP, capture_output=True, text=True, check=False).stdout
-
-
-def run_all(pages, prefix, have):
-    before = changes()
-    for page in pages:
-        yield from run_page(page, prefix, have)
-    if changes() != before:
-        yield "commands changed the repository: %s" % changes()
-
-
 def names_of(pattern):
     return {os.path.relpath(path, TOP) for path in glob(str(TOP / pattern), recursive=True)}
 
 
-def main():
+def read_arguments():
     parser = argparse.ArgumentParser(description=__doc__, formatter_class=argparse.RawDescriptionHelpFormatter)
-    parser.add_argument("--run", metavar="PREFIX", type=Path, help="also run the commands")
-    parser.add_argument("--have", metavar="WORD,..", default="", help="also run the commands whose mark `wants` names only these")
+    parser.add_argument("--run", action="store_true", help="also run the commands")
+    parser.add_argument("--programs", metavar="FOLDER", type=Path, help="run them with the programs of this folder")
+    parser.add_argument("--prefix", metavar="PREFIX", type=Path, help="run them with what is installed under PREFIX")
     parser.add_argument("--words", action="store_true", help="print the number of words of each page")
     parser.add_argument("--lines", action="store_true", help="rewrite the lines of links to definitions")
-    parser.add_argument("page", nargs="*", help="check only these pages, by their paths from the top")
-    args = parser.parse_args()
-    pages = [Page(name) for pattern in PAGES for name in sorted(names_of(pattern))]
-    by_name = {page.name: page for page in pages}
+    parser.add_argument("page", nargs="*", help="check only these pages or manuals, by their paths from the top")
+    return parser.parse_args()
+
+
+def check_commands(page):
+    """The faults of the marks of commands."""
+    return [*page.faults, *check_visible(page), *check_requirements(page)]
+
+
+def check_page(page, by_name):
+    """The faults of a page, without running its commands."""
+    return [*check_commands(page), *check_links(page, by_name), *check_definitions(page), *check_paths(page), *check_indented(page),
+            *check_marks(page), *check_snippets(page)]
+
+
+def main():
+    args = read_arguments()
+    by_name = {name: Page(name) for pattern in PAGES for name in sorted(names_of(pattern))}
+    manuals = {name: ManualExamples(name) for pattern in MANUALS for name in sorted(names_of(pattern))}
+    selection = [os.path.normpath(name) for name in args.page] or [*by_name, *manuals]
     faults = []
-    selection = [by_name[os.path.normpath(name)] for name in args.page] or pages
-    if args.lines:
-        selection = [Page(page.name) if renumber(page) else page for page in selection]
-    for page in selection:
+    for name in selection:
+        if name in manuals:
+            faults += check_commands(manuals[name])
+            continue
+        if args.lines and renumber(by_name[name]):
+            by_name[name] = Page(name)
         if args.words:
-            print("%6d %s" % (page.words(), page.name))
-        faults += [*page.faults, *check_links(page, by_name), *check_definitions(page), *check_paths(page),
-                   *check_indented(page), *check_marks(page), *check_snippets(page)]
-    if args.run is not None:
-        faults += run_all(selection, args.run.resolve(), args.have.split(","))
+            print("%6d %s" % (by_name[name].words(), name))
+        faults += check_page(by_name[name], by_name)
+    if args.run:
+        selected = [manuals.get(name) or by_name[name] for name in selection]
+        faults += run_all(selected, args.programs, args.prefix and args.prefix.resolve())
     for fault in faults:
         print("pages: " + fault)
     print("pages: %d pages, %d faults" % (len(selection), len(faults)))

@@ -124,7 +124,8 @@ END
     [ "$(cat samples/lo-request.bin samples/lo-request.bin | "$work/example")" = $'0 18\n48 18' ]
 }
 
-# Runs ./install, and checks the page's program with the installed library, the programs, manuals and completion.
+# Runs ./install, and checks the page's program with the installed library, the programs, manuals and completion, and runs the
+# commands of the page and of linkcap(3).
 check_installation() {
     ./install "$work/prefix" || return
     export PKG_CONFIG_PATH=$work/prefix/lib/pkgconfig
@@ -143,7 +144,8 @@ check_installation() {
     cmp man/linkcap.3 "$work/prefix/share/man/man3/linkcap_normalize_some.3" || return
     cmp man/linkcap.zsh "$work/prefix/share/zsh/site-functions/_linkcap" || return
     cmp man/linkcap.fish "$work/prefix/share/fish/vendor_completions.d/linkgold.fish" || return
-    bash -c '. "$1"; complete -p linkcap linkshow' - "$work/prefix/share/bash-completion/completions/linkcap"
+    bash -c '. "$1"; complete -p linkcap linkshow' - "$work/prefix/share/bash-completion/completions/linkcap" || return
+    tools/pages.py --run --prefix "$work/prefix" docs/other-languages.md man/linkcap.3
 }
 
 test_c() {

@@ -38,7 +38,7 @@ class Block:
         return mark and mark.partition(" ")[2]
 
     def visible_words(self):
-        """What a reader has to be told above the block, since its marks can't be seen."""
+        """What the text above the block has to name, since a reader sees no marks."""
         saved = self.saved_name()
         return [*self.requirements(), *(name for name, _ in self.given_files()), *([saved] if saved else [])]
 

@@ -10,6 +10,8 @@ import shutil
 import signal
 import subprocess
 import tempfile
+import time
+from concurrent.futures import ThreadPoolExecutor
 from pathlib import Path
 
 from layers import TOP
@@ -49,6 +51,11 @@ REQUIREMENTS = {
 }
 
 
+def program(name, folder):
+    """The file of a program: in a folder, or where `rt ci` puts it."""
+    return folder / name if folder else TOP / "crates" / name / "out" / name
+
+
 class Machine:
     """What commands find: a home folder with the installed programs, and which requirements are met."""
 
@@ -63,8 +70,7 @@ class Machine:
             return
         subprocess.run([TOP / "scripts" / "install.sh", local], check=True)
         for name in PROGRAMS:
-            built = programs / name if programs else TOP / "crates" / name / "out" / name
-            (local / "bin" / name).symlink_to(built.resolve(strict=True))
+            (local / "bin" / name).symlink_to(program(name, programs).resolve())
 
     def has(self, requirement):
         """Whether a requirement is met."""
@@ -139,6 +145,16 @@ def outcome(page, index, folder, machine):
     return None
 
 
+def reason_to_skip(block, machine, was_run):
+    """Why a block's commands aren't run; None if they are."""
+    missing = [word for word in block.requirements() if not machine.has(word)]
+    if block.mark("run") is not None:
+        return "is run " + block.mark("run")
+    if missing:
+        return "wants " + ", ".join(missing)
+    return "continues what was skipped" if block.mark("continues") is not None and not was_run else None
+
+
 def run_page(page, work, machine):
     """The faults of a page's commands. It prints which blocks it ran, and which not, and why."""
     folder = Path(tempfile.mkdtemp(dir=work))
@@ -151,31 +167,35 @@ def run_page(page, work, machine):
             (folder / block.saved_name()).write_text(block.text(), encoding="utf-8")
         if block.language != "sh":
             continue
-        missing = [word for word in block.requirements() if not machine.has(word)]
-        if block.mark("continues") is not None and not was_run:
-            missing.append("what the commands before it want")
-        was_run = not missing
-        if missing:
-            print("pages: skipped: %s:%d wants %s" % (page.name, block.line, ", ".join(missing)))
+        reason = reason_to_skip(block, machine, was_run)
+        was_run = reason is None
+        if reason:
+            print("pages: skipped: %s:%d %s" % (page.name, block.line, reason))
             continue
+        begun = time.monotonic()
         fault = outcome(page, index, folder, machine)
         if fault:
             yield fault
         else:
-            print("pages: ran: %s:%d" % (page.name, block.line))
+            print("pages: ran: %s:%d (%d s)" % (page.name, block.line, time.monotonic() - begun))
 
 
 def changes():
-    """The changed, new and ignored files of the repository, as `git status` prints them."""
-    return subprocess.run(["git", "status", "--porcelain", "--ignored"], cwd=TOP, capture_output=True, text=True, check=False).stdout
+    """The changed and new files of the repository, as `git status` prints them."""
+    return subprocess.run(["git", "status", "--porcelain"], cwd=TOP, capture_output=True, text=True, check=False).stdout
 
 
 def run_all(pages, programs, prefix):
     """The faults of all pages' commands, with the programs of a folder, or with what is installed under a prefix."""
+    missing = [] if prefix else [name for name in PROGRAMS if not program(name, programs).is_file()]
+    if missing:
+        yield "no program %s: build it first" % program(missing[0], programs)
+        return
     before = changes()
     with tempfile.TemporaryDirectory(prefix="linkcap-pages-") as work:
         machine = Machine(Path(work), programs, prefix)
-        for page in pages:
-            yield from run_page(page, work, machine)
+        with ThreadPoolExecutor(os.cpu_count()) as pool:
+            for faults in pool.map(lambda page: list(run_page(page, work, machine)), pages):
+                yield from faults
     if changes() != before:
         yield "commands changed the repository: %s" % changes()

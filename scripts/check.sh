@@ -284,6 +284,8 @@ succeeds "JSON: no program" bash -c 'LINKSHOW=/nowhere/linkshow "$0" a 2>&1 | gr
 succeeds "JSON: an unknown attribute" bash -c '"$0" --without IFLA_NAM a 2> usage; [ $? -eq 2 ] && grep -q "no attribute or group is called IFLA_NAM" usage' "$linkjson"
 succeeds "JSON: help" bash -c '"$0" --help | grep -q "linkjson \[OPTION\]"' "$linkjson"
 
+succeeds "the options of showing.md are those of linkshow and linkdiff" "$top/scripts/tests/page_options.py" "$LINKSHOW"
+
 # ---- samples
 
 succeeds "samples: bytes, texts and lines" "$top/tools/oracle/samples.py" "$LINKCAP" "$LINKSHOW"

@@ -78,7 +78,7 @@ class Machine:
             if requirement == "the library":
                 self.found[requirement] = (self.home / ".local" / LIBRARY).exists()
             else:
-                is_met = REQUIREMENTS[requirement]
+                is_met = REQUIREMENTS.get(requirement)
                 self.found[requirement] = is_met is not None and is_met()
         return self.found[requirement]
 

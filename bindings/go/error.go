@@ -81,7 +81,7 @@ var (
 	ErrMemory = errors.New("linkcap: out of memory")
 )
 
-// An UnknownNameError is returned for a selection without a name that no attribute and no group has: this one.
+// An UnknownNameError is the name in Selection.Without that no attribute and no group has.
 type UnknownNameError string
 
 // Error returns the words of the error.

@@ -1,21 +1,21 @@
 """Captures of Linux netlink link messages: checked, measured, normalised, compared and shown.
 
 A capture is a byte string of netlink messages, each at a multiple of 4: any bytes-like object whose bytes are contiguous,
-as bytes, bytearray, memoryview, mmap, array or a numpy array. It isn't copied; nobody may write to it while a call runs.
+for example bytes, bytearray, memoryview, mmap, array or a numpy array. It isn't copied. Nobody may write to it while a call runs.
 `limit` is the greatest length in bytes that a message, read or written, may have, from 16 to 4294967295.
 
 Calls are allowed
 
-- in threads: all calls, at the same time; one Reader runs one call at a time;
-- in finalisers (`__del__`, weakref callbacks), signal handlers of the module signal, and trace functions: all calls, also
-  while another call of linkcap is interrupted, whose result they don't change. A call of the Reader that is interrupted
-  raises RuntimeError;
-- in the child of a process with threads that was forked, as `multiprocessing` makes it by its method "fork": no call. Use
-  its method "spawn".
+- in threads: all calls, at the same time. One Reader runs one call at a time;
+- in finalisers (`__del__`, weakref callbacks), signal handlers of the module signal, and trace functions: all calls, even
+  if they interrupt another call of linkcap. The result of that call doesn't change. While a call of a Reader is interrupted,
+  a second call of the same Reader raises RuntimeError, and the first one continues;
+- in the forked child of a process with threads, which the method "fork" of `multiprocessing` makes: no call. Use the method
+  "spawn".
 
-The package calls the library liblinkcap.so: the one in this package if there is one, else that of the folder that
-LINKCAP_LIB_DIR names, else the one that the loader finds. LIBRARY_PATH has its name. docs/other-languages.md of linkcap
-is the page for callers; `python -m linkcap` normalises, compares and shows files.
+The package calls the library liblinkcap.so: the one in this package if there is one, otherwise the one in the folder that
+LINKCAP_LIB_DIR names, otherwise the one that the loader finds. LIBRARY_PATH is its name. docs/other-languages.md of linkcap
+is the page for callers. `python -m linkcap` normalises, compares and shows files.
 """
 from ._calls import DEFAULT_LIMIT, Measure, Message, Quirk, QuirkKind, check, lines, measure, messages, normalize, quirks, same
 from ._calls import to_json, why

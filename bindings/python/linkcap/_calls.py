@@ -53,7 +53,7 @@ def checked_limit(limit: SupportsIndex) -> int:
 
 
 def check(capture: Capture, limit: SupportsIndex = DEFAULT_LIMIT) -> None:
-    """Returns if a capture is legal; else raises its first `Fault`."""
+    """Returns None for a legal capture. Raises the first `Fault` of any other."""
     most, fault = checked_limit(limit), _native.FaultStruct()
     with BorrowedBytes(capture) as borrowed:
         status = _native.call("linkcap_check")(borrowed.at, borrowed.length, most, address_of(fault))

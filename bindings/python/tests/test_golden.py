@@ -122,7 +122,7 @@ class Golden(unittest.TestCase):
             linkcap.golden(self.capture, self.path)
 
     def test_format_is_that_of_linkshow(self) -> None:
-        self.assertIn(f"\n## 0.1.0 (form {linkcap.FORMAT})\n", read("CHANGELOG.md").decode())
+        self.assertIn(f"\n## 0.1.0 (format {linkcap.FORMAT})\n", read("CHANGELOG.md").decode())
         self.assertIn(f"\n#define LINKCAP_FORMAT {linkcap.FORMAT}\n", read("bindings", "c", "linkcap.h").decode())
 
     def test_line_ends(self) -> None:

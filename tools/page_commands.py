@@ -19,6 +19,7 @@ from layers import TOP
 SECONDS = 60
 PROGRAMS = ["linkcap", "linkshow"]
 LIBRARY = Path("lib", "pkgconfig", "linkcap.pc")
+EXAMPLE_LINKS = "ip link add b0 type bridge && ip link add v0 type veth && ip link add x0 type vxlan id 1 dstport 4789"
 
 
 def succeeds(*command):
@@ -30,23 +31,27 @@ def is_root():
     return os.geteuid() == 0 and succeeds("unshare", "-n", "true")
 
 
+def has_namespaces():
+    """Whether linkrec may make a network namespace, and the kernel has the kinds of links that examples make in it."""
+    return succeeds("unshare", "-n" if os.geteuid() == 0 else "-rn", "sh", "-c", EXAMPLE_LINKS)
+
+
 # How to find out whether this machine has what a mark `wants` may name. A requirement without a function is never met here,
 # since it takes long, or another machine.
 REQUIREMENTS = {
     "root": is_root,
-    "namespaces": lambda: succeeds("unshare", "-n", "true") or succeeds("unshare", "-rn", "true"),
+    "namespaces": has_namespaces,
     "strace": lambda: succeeds("strace", "-o", "/dev/null", "true"),
     "nlmon": lambda: is_root() and succeeds("unshare", "-n", "ip", "link", "add", "nlmon0", "type", "nlmon"),
     "iproute2": lambda: succeeds("ip", "-V"),
     "rtmon": lambda: shutil.which("rtmon") is not None,
     "tcpdump": lambda: succeeds("tcpdump", "--version"),
     "jq": lambda: succeeds("jq", "--version"),
-    "man": lambda: shutil.which("man") is not None,
     "venv": lambda: succeeds("python3", "-c", "import ensurepip, venv"),
     "a C compiler": lambda: succeeds("cc", "--version"),
     "pkg-config": lambda: succeeds("pkg-config", "--version"),
     "Go": lambda: succeeds("go", "version"),
-    "GNU parallel": None, "ssh": None, "rsync": None, "Dask": None, "another program": None,
+    "GNU parallel": None, "ssh": None, "rsync": None, "Dask": None,
     "the kit": None, "a release": None, "mmdebstrap": None, "a network": None, "an hour": None, "hours": None,
 }
 

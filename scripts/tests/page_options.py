@@ -13,7 +13,7 @@ from pathlib import Path
 
 TOP = Path(__file__).resolve().parent.parent.parent
 PAGE = TOP / "docs" / "showing.md"
-EXCEPTIONS = re.compile(r"options of `linkshow` except ([^.]*)\.")
+EXCEPTIONS = re.compile(r"`linkdiff` has the options of `linkshow` except ([^.]*)\.")
 OPTION = re.compile(r"(?<![\w-])--[a-z][a-z-]*")
 
 
@@ -35,7 +35,8 @@ def rows_of(text):
 
 def items_of(text):
     """The options at the head of a list's items; `-q` is `--quiet`."""
-    return {option for item in re.findall(r"^- ([^:]*):", text, flags=re.M) for option in OPTION.findall(item.replace("`-q`", "--quiet"))}
+    heads = re.findall(r"^- ([^:\n]*):", text, flags=re.M)
+    return {option for head in heads for option in OPTION.findall(head.replace("`-q`", "--quiet"))}
 
 
 def main():

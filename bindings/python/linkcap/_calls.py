@@ -11,7 +11,7 @@ from ._fault import Refusal, failure
 from ._native import BorrowedBytes, Capture, address_of
 from ._types import MessageType, type_numbers
 
-DEFAULT_LIMIT = 1048576
+DEFAULT_LIMIT = _native.DEFAULT_LIMIT
 
 
 class Measure(NamedTuple):
@@ -47,8 +47,8 @@ def type_array(only: Optional[Iterable[MessageType]]) -> "array.array[int]":
 def checked_limit(limit: SupportsIndex) -> int:
     """A limit as an int. Raises TypeError if it is no integer, and ValueError if it is out of range."""
     number = operator.index(limit)
-    if not 16 <= number < 1 << 32:
-        raise ValueError("a limit is a number from 16 to 4294967295")
+    if not _native.MIN_LIMIT <= number < 1 << 32:
+        raise ValueError(_fault.LIMIT_RANGE)
     return number
 
 
@@ -226,7 +226,7 @@ class Quirk(NamedTuple):
 
 
 def _quirk(struct_: _native.QuirkStruct) -> Quirk:
-    out, size = _native.Output(128), ctypes.c_uint64()
+    out, size = _native.Output(_native.FAULT_TEXT), ctypes.c_uint64()
     if _native.call("linkcap_quirk_text")(address_of(struct_), out.at, out.capacity, address_of(size)) != _native.OK:
         raise ValueError("no quirk of a capture")
     return Quirk(QuirkKind(struct_.kind), struct_.offset, out.take(size.value).decode("ascii"))

@@ -43,7 +43,7 @@ pub use selection::{lines_selected, Selection};
 pub use writing::{lines, lines_with, normalize, why, LineOptions, Refusal};
 
 /// The limit that the program takes if none is given: 1 MiB.
-pub const DEFAULT_LIMIT: u32 = 1_048_576;
+pub const DEFAULT_LIMIT: u32 = ffi::DEFAULT_LIMIT;
 
 /// The sizes of a legal capture.
 #[derive(Clone, Copy, Debug, PartialEq, Eq)]

@@ -294,8 +294,10 @@ test_rust() {
     step "Rust: the page" cargo run -q --offline --manifest-path "$work/page/Cargo.toml"
     local packages=/usr/share/cargo/registry
     if [ -d $packages/netlink-packet-route-0.12.0 ]; then
-        step "Rust: netlink-packet-route" cargo run -q --offline --manifest-path bindings/rust/route_example/Cargo.toml \
-            --config 'source.crates-io.replace-with="debian"' --config "source.debian.directory=\"$packages\""
+        local debian=(--manifest-path bindings/rust/route_example/Cargo.toml
+            --config 'source.crates-io.replace-with="debian"' --config "source.debian.directory=\"$packages\"")
+        step "Rust: netlink-packet-route" cargo run -q --offline "${debian[@]}"
+        step "Rust: netlink-packet-route, golden" cargo test -q --offline "${debian[@]}"
     else
         skip "Rust: netlink-packet-route" "no package librust-netlink-packet-route-dev of 0.12"
     fi

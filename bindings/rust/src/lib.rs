@@ -25,8 +25,10 @@
 //! # Ok::<(), linkcap::Error>(())
 //! ```
 
+mod diff;
 mod error;
 mod ffi;
+mod golden;
 mod messages;
 mod normal_reader;
 mod quirks;
@@ -35,6 +37,7 @@ mod selection;
 mod writing;
 
 pub use error::{Error, Fault, Kind, Side};
+pub use golden::{golden, golden_with, GoldenOptions};
 pub use messages::{messages, Message, Messages};
 pub use normal_reader::NormalReader;
 pub use quirks::{quirks, Quirk, QuirkKind};

@@ -508,6 +508,9 @@ class Readers(unittest.TestCase):
                 self.assertEqual(b"".join(linkcap.Reader().read_file(file, size)), text)
         with open(os.devnull, "rb") as file:
             self.assertEqual(list(linkcap.Reader().read_file(file)), [])
+        for size in (0, -1):
+            with self.assertRaisesRegex(ValueError, "at least 1"):
+                list(linkcap.Reader().read_file(io.BytesIO(DONE), size))
         with open(path, "rb") as file:
             file.seek(48)
             with self.assertRaises(linkcap.Fault):

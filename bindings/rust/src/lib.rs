@@ -50,6 +50,7 @@ pub const DEFAULT_LIMIT: u32 = ffi::DEFAULT_LIMIT;
 
 /// The sizes of a legal capture.
 #[derive(Clone, Copy, Debug, PartialEq, Eq)]
+#[non_exhaustive]
 pub struct Measure {
     /// Its messages.
     pub frames: u64,

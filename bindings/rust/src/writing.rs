@@ -117,6 +117,7 @@ pub fn lines_with(capture: &[u8], limit: u32, options: LineOptions<'_>) -> Resul
 
 /// Why a body is refused. It is displayed as its words.
 #[derive(Clone, Debug, PartialEq, Eq)]
+#[non_exhaustive]
 pub struct Refusal {
     /// The attribute's names from outside in, the reason, and the offset.
     pub words: String,

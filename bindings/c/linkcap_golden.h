@@ -139,7 +139,7 @@ static inline void linkcap_golden_report_options(const char *only, const char *w
                                           word, room, &written) == LINKCAP_OK)
         fprintf(stderr, "linkcap: no type, attribute or group is called \"%.*s\"\n", (int)written, (const char *)word);
     else
-        fputs("linkcap: more than 32 types or names\n", stderr);
+        fputs("linkcap: more than 32 types or names, or a list that isn't UTF-8\n", stderr);
     free(word);
 }
 

@@ -207,11 +207,3 @@ class LineReader(_Pieces[str]):
 
     def _result(self, output: bytes) -> str:
         return output.decode("ascii")
-
-    def _write(self, at: int, length: int, is_last: bool) -> Tuple[int, bytes]:
-        try:
-            used, output = super()._write(at, length, is_last)
-        except Fault as fault:
-            fault.written = b"" if self._selection.is_empty else fault.written
-            raise
-        return used, b"" if self._selection.is_empty else output

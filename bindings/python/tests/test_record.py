@@ -52,6 +52,11 @@ class Record(unittest.TestCase):
             self.assertNotIn("refused", text)
             self.assertIn("\n# leaves out: probes\n", text)
             linkcap.golden(linkcap.record(["ip", "link", "set", "v0", "master", "br0"], setup=setup), path)
+            linkcap.golden(recording, path, update=True, without=["IFLA_MASTER"])
+            with open(path, encoding="ascii") as file:
+                self.assertRegex(file.read(), '\n# leaves out: IFLA_MASTER, probes\n(?s:.*)index "v0" flags 0x0 change 0x0\n\\Z')
+            linkcap.golden(recording, path)
+            linkcap.golden(recording, path, update=True)
             with self.assertRaisesRegex(AssertionError, '-  IFLA_MASTER "br0"\n\\+  IFLA_MASTER "br1"\n'):
                 linkcap.golden(linkcap.record(["ip", "link", "set", "v0", "master", "br1"], setup=setup), path)
 

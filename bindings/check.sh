@@ -102,6 +102,25 @@ page_in_c() {
     [ $? -eq 2 ] && [ "$(cat "$work/fault")" = "cut frame at 0" ] && [ ! -s "$work/text" ]
 }
 
+# golden_in_c COMPILER OPTION..: runs the tests of linkcap_golden.h, which is in C99.
+golden_in_c() {
+    local folder
+    folder=$(mktemp -d -p "$work")
+    "$1" -std=c99 -Wall -Wextra -pedantic -Werror -I "$lib" "${@:2}" -o "$folder.run" bindings/c/tests/golden.c "$lib/liblinkcap.a" \
+        && LC_ALL=C "$folder.run" "$folder"
+}
+
+# The golden test of the page, which fails if the file has another MTU, and writes it.
+golden_of_the_page() {
+    local lines=bindings/c/tests/request.lines
+    "$cc" -std=c99 -Wall -Wextra -pedantic -Werror -I "$lib" -o "$work/request" bindings/c/tests/request.c "$lib/liblinkcap.a" || return
+    "$work/request" || return
+    mkdir -p "$work/page/${lines%/*}" && sed 's/1450/1400/' "$lines" > "$work/page/$lines" || return
+    env -C "$work/page" "$work/request" 2> "$work/report"
+    [ $? -eq 1 ] && [ "$(grep '^[-+] ' "$work/report")" = $'-  IFLA_MTU 1400\n+  IFLA_MTU 1450' ] || return
+    env -C "$work/page" LINKCAP_UPDATE=1 "$work/request" && cmp "$lines" "$work/page/$lines"
+}
+
 # The example of linkcap(3), in a program.
 manual_in_c() {
     awk '/^\.Sh EXAMPLES/ { inside = 1 } inside && /^\.Ed/ { exit } code { print } inside && /^\.Bd/ { code = 1 }' man/linkcap.3 \
@@ -135,6 +154,7 @@ check_installation() {
     ! readelf -d "$work/static" | grep -q liblinkcap || return
     "$work/static" < samples/req-veth.bin | cmp - samples/req-veth.bin || return
     cmp "$(pkg-config --variable=archive linkcap)" "$lib/liblinkcap.a" || return
+    cmp "$work/prefix/include/linkcap_golden.h" bindings/c/linkcap_golden.h || return
     "$work/prefix/bin/linkcap" norm < samples/req-veth.bin | cmp - samples/req-veth.bin || return
     "$work/prefix/bin/linkshow" < samples/req-veth.bin | cmp - samples/req-veth.lines || return
     "$work/prefix/bin/linkshow" --version | grep -qw "lines $(sed -n 's/^#define LINKCAP_FORMAT //p' "$lib/linkcap.h")" || return
@@ -162,6 +182,7 @@ test_c() {
     compare_all_results "static" "$work/results"
     compare_all_results "shared" "$work/shared"
     step "C: edges" "$work/edges" "${samples[@]}"
+    step "C: golden" golden_in_c "$cc" -O2
     local san=(-g -O1 -fsanitize=address,undefined -fno-sanitize-recover=all)
     if echo 'int main(void) { return 0; }' | "$cc" "${san[@]}" -x c -o "$work/none" - 2> /dev/null && "$work/none"; then
         step "C, sanitizers: build" "$cc" "${flags[@]}" "${san[@]}" -o "$work/sane" bindings/c/tests/results.c "$lib/liblinkcap.a"
@@ -169,8 +190,14 @@ test_c() {
             bindings/c/tests/edges.c "$lib/liblinkcap.a" "${wrap[@]}"
         compare_all_results "sanitizers" "$work/sane"
         step "C, sanitizers: edges" "$work/sane_edges" "${samples[@]}"
+        step "C, sanitizers: golden" golden_in_c "$cc" "${san[@]}"
     else
         skip "C, sanitizers" "$cc has none here"
+    fi
+    if has clang; then
+        step "C, sanitizers of clang: golden" golden_in_c clang "${san[@]}"
+    else
+        skip "C, sanitizers of clang: golden" "no clang"
     fi
     if has valgrind; then
         local grind=(valgrind -q --error-exitcode=9 --leak-check=full --show-leak-kinds=all --errors-for-leak-kinds=all)
@@ -181,11 +208,13 @@ test_c() {
     fi
     if has "$cxx"; then
         printf '#include <linkcap.h>\nlinkcap_sizes sizes;\nlinkcap_progress progress;\nlinkcap_message message;\n' > "$work/header.cc"
-        step "C++: the header" "$cxx" -std=c++11 -Wall -Wextra -Werror -fsyntax-only -I "$lib" "$work/header.cc"
+        printf '#include <linkcap_golden.h>\nint main() { return linkcap_golden(0, 0, "a.lines"); }\n' >> "$work/header.cc"
+        step "C++: the headers" "$cxx" -std=c++11 -Wall -Wextra -pedantic -Werror -fsyntax-only -I "$lib" "$work/header.cc"
     else
-        skip "C++: the header" "no $cxx"
+        skip "C++: the headers" "no $cxx"
     fi
     step "C: the page" page_in_c
+    step "C: the golden test of the page" golden_of_the_page
     step "C: the manual" manual_in_c
     if ! has pkg-config; then
         skip "C: installed" "no pkg-config"
@@ -296,8 +325,10 @@ test_rust() {
     step "Rust: the page" cargo run -q --offline --manifest-path "$work/page/Cargo.toml"
     local packages=/usr/share/cargo/registry
     if [ -d $packages/netlink-packet-route-0.12.0 ]; then
-        step "Rust: netlink-packet-route" cargo run -q --offline --manifest-path bindings/rust/route_example/Cargo.toml \
-            --config 'source.crates-io.replace-with="debian"' --config "source.debian.directory=\"$packages\""
+        local debian=(--manifest-path bindings/rust/route_example/Cargo.toml
+            --config 'source.crates-io.replace-with="debian"' --config "source.debian.directory=\"$packages\"")
+        step "Rust: netlink-packet-route" cargo run -q --offline "${debian[@]}"
+        step "Rust: netlink-packet-route, golden" cargo test -q --offline "${debian[@]}"
     else
         skip "Rust: netlink-packet-route" "no package librust-netlink-packet-route-dev of 0.12"
     fi
@@ -308,7 +339,7 @@ install_library() {
     local name
     mkdir -p "$1/lib/pkgconfig" "$1/include"
     cp -P "$lib"/liblinkcap.* "$1/lib"
-    cp "$lib/linkcap.h" "$1/include"
+    cp "$lib"/linkcap*.h "$1/include"
     for name in linkcap linkcap-static; do
         sed -e "s|@PREFIX@|$1|" -e "s|@VERSION@|1|" "bindings/c/$name.pc.in" > "$1/lib/pkgconfig/$name.pc"
     done

@@ -44,7 +44,7 @@ OF_A_PROGRAM = ["bin/%s", "share/man/man1/%s.1", "share/bash-completion/completi
 # Files of an installation, by the package that has them
 TOOLS = [pattern % program for program in PROGRAMS for pattern in OF_A_PROGRAM]
 TOOLS += ["share/zsh/site-functions/_linkcap", "share/linkcap/*.py"]
-DEVELOPMENT = ["include/linkcap.h", "lib/liblinkcap.a", "lib/liblinkcap.so", "lib/pkgconfig/linkcap*.pc",
+DEVELOPMENT = ["include/linkcap*.h", "lib/liblinkcap.a", "lib/liblinkcap.so", "lib/pkgconfig/linkcap*.pc",
                "share/man/man3/linkcap*.3"]
 PASSED = re.compile(r"\d+ passed, 0 failed, \d+ skipped")
 UNCHECKED = "unchecked"

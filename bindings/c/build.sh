@@ -1,5 +1,5 @@
 #!/usr/bin/env bash
-# Builds liblinkcap.a and liblinkcap.so in a folder, with linkcap.h.
+# Builds liblinkcap.a and liblinkcap.so in a folder, with linkcap.h and linkcap_golden.h.
 #
 #     bindings/c/build.sh FOLDER
 #
@@ -26,4 +26,4 @@ ar rcsD "$folder/liblinkcap.a" "$work/linkcap.o"
 "${CC:-cc}" -shared -o "$folder/liblinkcap.so.$version" "$work/linkcap.o" -Wl,--version-script="$here/linkcap.map" \
     -Wl,-soname,"liblinkcap.so.$version" -Wl,--no-undefined -Wl,-z,relro,-z,now -Wl,-z,noexecstack -Wl,-z,x86-64-v2
 ln -sf "liblinkcap.so.$version" "$folder/liblinkcap.so"
-cp "$here/linkcap.h" "$folder/linkcap.h"
+cp "$here/linkcap.h" "$here/linkcap_golden.h" "$folder"

@@ -1,5 +1,6 @@
 #!/usr/bin/env bash
-# Installs liblinkcap.a, liblinkcap.so, linkcap.h, linkcap.pc, linkcap-static.pc, and linkcap(3) under the name of each call.
+# Installs liblinkcap.a, liblinkcap.so, linkcap.h, linkcap_golden.h, linkcap.pc, linkcap-static.pc, and linkcap(3) under the name
+# of each call.
 #
 #     bindings/c/install.sh PREFIX
 #
@@ -18,7 +19,7 @@ install -d "$to/lib/pkgconfig" "$to/include" "$to/share/man/man3"
 install -m 644 "$work/liblinkcap.a" "$to/lib"
 install -m 755 "$work"/liblinkcap.so.* "$to/lib"
 cp -P "$work/liblinkcap.so" "$to/lib"
-install -m 644 "$work/linkcap.h" "$to/include"
+install -m 644 "$work/linkcap.h" "$work/linkcap_golden.h" "$to/include"
 install -m 644 "$here/../../man/linkcap.3" "$to/share/man/man3"
 for call in $(grep -oE '\blinkcap_[a-z_]+\(' "$here/linkcap.h" | tr -d '(' | sort -u); do
     ln -sf linkcap.3 "$to/share/man/man3/$call.3"

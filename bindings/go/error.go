@@ -6,8 +6,10 @@ package linkcap
 import "C"
 
 import (
+	"bytes"
 	"errors"
 	"fmt"
+	"unicode/utf8"
 	"unsafe"
 )
 
@@ -77,7 +79,8 @@ var (
 	ErrLimit = errors.New("linkcap: limit under 16")
 	// ErrTooMany is returned for a selection of more than 32 types, or without more than 32 attributes.
 	ErrTooMany = errors.New("linkcap: more than 32 types or attributes")
-	// ErrMemory is returned if the library ran out of memory, or the result doesn't fit in memory.
+	// ErrMemory is returned if the library ran out of memory, or a result is longer than a slice can be. If Go has no memory for
+	// a result, it ends the process, as everywhere.
 	ErrMemory = errors.New("linkcap: out of memory")
 )
 
@@ -91,6 +94,11 @@ func (e UnknownNameError) Error() string {
 
 // listError returns the error for lists that the library doesn't read.
 func listError(without []byte) error {
+	for _, name := range bytes.Split(without, []byte(",")) {
+		if !utf8.Valid(name) {
+			return UnknownNameError(name)
+		}
+	}
 	name := make([]byte, len(without))
 	var written C.uint64_t
 	status := C.linkcap_unknown_word(nil, 0, address(without), C.size_t(len(without)), address(name), C.size_t(len(name)), &written)

@@ -150,12 +150,15 @@ RTM_GETLINK flags 0x1 (REQUEST) offset 40
 	if lines, err := linkcap.SelectedLines(request, linkcap.Selection{Link: "1"}); lines != "" || err != nil {
 		t.Error(lines, err)
 	}
-	unknown := linkcap.Selection{Without: "counters,mtu"}
-	_, err := linkcap.SelectedLines(request, unknown)
-	_, readErr := io.ReadAll(linkcap.NewSelectedLineReader(bytes.NewReader(request), unknown))
-	for _, err := range []error{err, readErr} {
-		if name := linkcap.UnknownNameError(""); !errors.As(err, &name) || name != "mtu" {
-			t.Error(err)
+	// The last one isn't UTF-8.
+	for _, unknown := range []string{"mtu", "\xff"} {
+		selection := linkcap.Selection{Without: "counters," + unknown}
+		_, err := linkcap.SelectedLines(request, selection)
+		_, readErr := io.ReadAll(linkcap.NewSelectedLineReader(bytes.NewReader(request), selection))
+		for _, err := range []error{err, readErr} {
+			if name := linkcap.UnknownNameError(""); !errors.As(err, &name) || string(name) != unknown {
+				t.Error(err)
+			}
 		}
 	}
 	many := linkcap.LineOptions{Only: make([]uint16, 33)}

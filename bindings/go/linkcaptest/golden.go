@@ -52,24 +52,38 @@ func GoldenLines(t testing.TB, capture []byte, path string, options linkcap.Line
 // REGEX=NAME, as for linkgold --replace. It stops the test at a malformed word.
 func GoldenReplacing(t testing.TB, capture []byte, path string, options linkcap.LineOptions, words ...string) {
 	t.Helper()
+	GoldenSelected(t, capture, path, linkcap.Selection{LineOptions: options}, words...)
+}
+
+// GoldenSelected is GoldenReplacing with the lines that a selection has. The file's head has the names of Without. Offsets,
+// KeepGoing and JSON of the selection don't count.
+func GoldenSelected(t testing.TB, capture []byte, path string, selection linkcap.Selection, words ...string) {
+	t.Helper()
+	selection.Offsets, selection.KeepGoing, selection.JSON = false, false, false
 	names, err := newReplacement(words)
 	if err != nil {
 		t.Fatalf("linkcap: %v", err)
 	}
-	lines, err := linkcap.Lines(capture, options)
+	lines, err := linkcap.SelectedLines(capture, selection)
 	if err != nil {
 		t.Fatalf("linkcap: %v", err)
 	}
 	lines = names.apply(lines)
 	if lines == "" {
-		t.Fatalf("linkcap: the capture is empty, or has no message of these types")
+		t.Fatalf("linkcap: the capture is empty, or has no message that is selected")
 	}
 	if *update {
-		if err := write(path, fmt.Sprintf("# linkcap lines, format %d\n%s", linkcap.Format, lines)); err != nil {
+		if err := write(path, head(selection.Without)+lines); err != nil {
 			t.Fatalf("linkcap: %v", err)
 		}
 		return
 	}
+	compare(t, capture, path, selection, names, lines)
+}
+
+// compare compares lines with those of a golden file: those of a selection or, if the file's head leaves out more, without that.
+func compare(t testing.TB, capture []byte, path string, selection linkcap.Selection, names *replacement, lines string) {
+	t.Helper()
 	text, err := os.ReadFile(path)
 	if errors.Is(err, fs.ErrNotExist) {
 		t.Fatalf("linkcap: no golden file %s: write it by -linkcap.update", path)
@@ -82,7 +96,7 @@ func GoldenReplacing(t testing.TB, capture []byte, path string, options linkcap.
 		t.Fatalf("linkcap: %s is of linkgold --effect, and leaves out what varies between two runs: compare it by linkgold", path)
 	}
 	if golden.without != "" {
-		selection := linkcap.Selection{LineOptions: options, Without: golden.without}
+		selection.Without = joinNames([]string{golden.without, selection.Without})
 		if lines, err = linkcap.SelectedLines(capture, selection); err != nil {
 			t.Fatalf("linkcap: %s: %v", path, err)
 		}
@@ -107,6 +121,15 @@ func Same(t testing.TB, got, want []byte) {
 	wantLines, _ := linkcap.Lines(want, linkcap.LineOptions{})
 	gotLines, _ := linkcap.Lines(got, linkcap.LineOptions{})
 	t.Errorf("linkcap: the captures don't mean the same\n%s", Diff("want", "got", wantLines, gotLines))
+}
+
+// head returns the head of a golden file that leaves out these names.
+func head(without string) string {
+	text := fmt.Sprintf("# linkcap lines, format %d\n", linkcap.Format)
+	if without == "" {
+		return text
+	}
+	return text + "# leaves out: " + strings.ReplaceAll(joinNames([]string{without}), ",", ", ") + "\n"
 }
 
 func write(path, text string) error {
@@ -148,13 +171,15 @@ func parse(text string) goldenFile {
 	}
 }
 
-// joinNames returns the names of lists, with commas between them, without probes.
+// joinNames returns the names of lists, each once, with commas between them, without probes.
 func joinNames(lists []string) string {
 	var names []string
+	known := map[string]bool{probes: true}
 	for _, name := range strings.FieldsFunc(strings.Join(lists, ","), func(r rune) bool { return r == ',' || r == ' ' }) {
-		if name != probes {
+		if !known[name] {
 			names = append(names, name)
 		}
+		known[name] = true
 	}
 	return strings.Join(names, ",")
 }

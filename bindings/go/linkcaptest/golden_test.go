@@ -177,6 +177,34 @@ func TestWhatAHeadLeavesOut(t *testing.T) {
 	}
 }
 
+func TestGoldenSelected(t *testing.T) {
+	path := filepath.Join(t.TempDir(), "a.lines")
+	selection := linkcap.Selection{LineOptions: linkcap.LineOptions{WithoutNumbers: true}, Without: "IFLA_MTU,counters", Offsets: true}
+	*update = true
+	GoldenSelected(t, makeLink(1), path, selection)
+	*update = false
+	text, err := os.ReadFile(path)
+	if err != nil || !strings.HasPrefix(string(text), "# linkcap lines, format 4\n# leaves out: IFLA_MTU, counters\nRTM_NEWLINK flags 0x5 (REQUEST | ACK)\n") ||
+		strings.Contains(string(text), "\n  IFLA_MTU") {
+		t.Errorf("%v %q", err, text)
+	}
+	Golden(t, makeLink(2), path)
+	GoldenSelected(t, makeLink(2), path, selection)
+	for _, c := range []struct {
+		selection linkcap.Selection
+		message   string
+	}{
+		{linkcap.Selection{Link: "v0"}, "has no message that is selected"},
+		{linkcap.Selection{Without: "IFLA_NAM"}, `no attribute or group is called "IFLA_NAM"`},
+		{linkcap.Selection{Without: "IFLA_MTU"}, "+RTM_NEWLINK flags 0x5 (REQUEST | ACK) seq 2305 port 0"},
+	} {
+		f := runFake(func(t testing.TB) { GoldenSelected(t, makeLink(1), path, c.selection) })
+		if !strings.Contains(f.message, c.message) {
+			t.Errorf("%+v: %q", c.selection, f.message)
+		}
+	}
+}
+
 func TestSame(t *testing.T) {
 	padded := append(makeLink(1), 0x14, 0, 0, 0, 1, 0, 0, 0, 1, 0, 0, 0, 0, 0, 0, 0, 1, 2, 3, 4)
 	shorter := append(makeLink(1), 0x10, 0, 0, 0, 1, 0, 0, 0, 1, 0, 0, 0, 0, 0, 0, 0)

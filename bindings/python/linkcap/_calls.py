@@ -11,7 +11,7 @@ from ._fault import Refusal, failure
 from ._native import BorrowedBytes, Capture, address_of
 from ._types import MessageType, type_numbers
 
-DEFAULT_LIMIT = 1048576
+DEFAULT_LIMIT = _native.DEFAULT_LIMIT
 
 
 class Measure(NamedTuple):
@@ -47,8 +47,8 @@ def type_array(only: Optional[Iterable[MessageType]]) -> "array.array[int]":
 def checked_limit(limit: SupportsIndex) -> int:
     """A limit as an int. Raises TypeError if it is no integer, and ValueError if it is out of range."""
     number = operator.index(limit)
-    if not 16 <= number < 1 << 32:
-        raise ValueError("a limit is a number from 16 to 4294967295")
+    if not _native.MIN_LIMIT <= number < 1 << 32:
+        raise ValueError(_fault.LIMIT_RANGE)
     return number
 
 
@@ -124,10 +124,15 @@ def _joined(words: Iterable[object]) -> bytes:
 
 
 def _excluded(without: Iterable[str]) -> bytes:
-    """The list of names that are left out. Raises ValueError for the first one that isn't known."""
+    """The list of names that are left out. Raises ValueError for the first one that isn't known, and TypeError for what isn't
+    a list of texts."""
     if isinstance(without, str):
         raise TypeError(f"without is a list of names, as [{without!r}]")
-    names, size = _joined(without), ctypes.c_uint64()
+    words = list(without)
+    for word in words:
+        if not isinstance(word, str):
+            raise TypeError(f"a name of an attribute or a group is a text, and not {word!r}")
+    names, size = _joined(words), ctypes.c_uint64()
     with BorrowedBytes(names) as borrowed:
         out = _native.Output(borrowed.length)
         call = _native.call("linkcap_unknown_word")
@@ -139,9 +144,15 @@ def _excluded(without: Iterable[str]) -> bytes:
 
 def _word(link: Union[str, int, None]) -> bytes:
     """The name or the index of a link; an empty word for None, which means any link."""
+    if link is None:
+        return b""
     if link == "":
         raise ValueError("a link has a name or an index")
-    return b"" if link is None else str(link).encode()
+    if isinstance(link, str):
+        return link.encode()
+    if isinstance(link, bool) or not hasattr(link, "__index__"):
+        raise TypeError(f"a link has a name, which is a text, or an index, and not {link!r}")
+    return str(operator.index(link)).encode()
 
 
 class Selection:
@@ -153,8 +164,6 @@ class Selection:
         flags = 0 if numbers else _native.WITHOUT_NUMBERS
         flags |= _native.OFFSETS if offsets else 0
         flags |= _native.KEEP_GOING if keep_going else 0
-        #: whether no message is selected
-        self.is_empty = only is not None and not types
         #: whether the calls that take types as numbers suffice; the others take at most 32
         self.is_plain = flags <= _native.WITHOUT_NUMBERS and not names and not word
         #: the arguments, some of them addresses, which are valid as long as this exists
@@ -190,9 +199,6 @@ def lines(capture: Capture, limit: SupportsIndex = DEFAULT_LIMIT, *, numbers: bo
     ['NLMSG_DONE flags 0x2 (MULTI) offset 0', '  code 0']
     """
     most, selection = checked_limit(limit), Selection(numbers, only, link, without, offsets, keep_going)
-    if selection.is_empty:
-        check(capture, most)
-        return ""
     name = "linkcap_show_with" if selection.is_plain else "linkcap_show_selected"
     text = _write(_native.call(name), capture, most, lambda size: 4 * size + 256, *selection.arguments)
     return text.decode("ascii")
@@ -226,7 +232,7 @@ class Quirk(NamedTuple):
 
 
 def _quirk(struct_: _native.QuirkStruct) -> Quirk:
-    out, size = _native.Output(128), ctypes.c_uint64()
+    out, size = _native.Output(_native.FAULT_TEXT), ctypes.c_uint64()
     if _native.call("linkcap_quirk_text")(address_of(struct_), out.at, out.capacity, address_of(size)) != _native.OK:
         raise ValueError("no quirk of a capture")
     return Quirk(QuirkKind(struct_.kind), struct_.offset, out.take(size.value).decode("ascii"))

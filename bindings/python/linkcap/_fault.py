@@ -6,6 +6,9 @@ from typing import Any, NamedTuple, Optional, Tuple
 
 from . import _native
 
+#: the words for a limit that is none
+LIMIT_RANGE = f"a limit is a number from {_native.MIN_LIMIT} to 4294967295"
+
 
 class Kind(enum.IntEnum):
     """The kinds of faults. Captures in memory have the first seven."""
@@ -59,7 +62,7 @@ class Fault(Exception):
 
 
 def _words(kind: int, offset: int, side: int) -> str:
-    out, size = _native.Output(128), ctypes.c_uint64()
+    out, size = _native.Output(_native.FAULT_TEXT), ctypes.c_uint64()
     fault = _native.FaultStruct(kind, side, offset)
     call = _native.call("linkcap_fault_text")
     if call(_native.address_of(fault), out.at, out.capacity, _native.address_of(size)) != _native.OK:
@@ -103,5 +106,5 @@ def failure(status: int, fault: _native.FaultStruct, at: int, length: int, limit
     if status == _native.NO_MEMORY:
         return MemoryError("no memory for the capture's text")
     if status != _native.FAULT:
-        return ValueError("a limit is a number from 16 to 4294967295")
+        return ValueError(LIMIT_RANGE)
     return first_fault(fault, at, length, limit, start, written)

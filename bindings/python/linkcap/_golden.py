@@ -15,14 +15,15 @@ __unittest = True
 
 
 def golden(capture: Capture, path: Union[str, "os.PathLike[str]"], *, update: bool = False, numbers: bool = False,
-           only: Optional[Iterable[MessageType]] = None, replace: Iterable[str] = (),
-           limit: SupportsIndex = DEFAULT_LIMIT) -> None:
+           only: Optional[Iterable[MessageType]] = None, link: Union[str, int, None] = None, without: Iterable[str] = (),
+           replace: Iterable[str] = (), limit: SupportsIndex = DEFAULT_LIMIT) -> None:
     """Compares a capture's lines with those of a file; if they differ, raises AssertionError with a unified diff.
 
-    With `update` it writes the file instead, and its folder. Lines have sequence and port numbers with `numbers`, and
-    are those of some message types with `only`, as for `lines`. Each `REGEX=NAME` of `replace` puts NAME in place of the
-    names of links and hardware addresses that match, as `linkgold --replace`; ValueError names one that is malformed. A
-    capture that isn't legal raises its `Fault`, and one without lines AssertionError: the test has captured nothing.
+    With `update` it writes the file instead, and its folder. Lines have sequence and port numbers with `numbers`; with `only`,
+    `link` and `without` they are those that `lines` selects, and the file's head has the names of `without`. Each `REGEX=NAME`
+    of `replace` puts NAME in place of the names of links and hardware addresses that match, as `linkgold --replace`;
+    ValueError names one that is malformed. A capture that isn't legal raises its `Fault`, and one without lines AssertionError:
+    the test has captured nothing.
 
     Of a `Recording` the lines are those of linkgold: names of links in place of indexes, a line `# namespace 2` where the
     namespace changes, and a line `refused: ENODEV` after a request that the kernel refused.
@@ -31,24 +32,38 @@ def golden(capture: Capture, path: Union[str, "os.PathLike[str]"], *, update: bo
     after it say that linkgold left out is left out of the capture's lines.
     """
     __tracebackhide__ = True
-    replacement = Replacement(replace)
+    replacement, excluded = Replacement(replace), _Excluded(without)
     if isinstance(capture, Recording):
-        text = _recorded_lines(capture, lines(capture, limit, only=only, offsets=True), numbers)
+        text = _recorded_lines(capture, lines(capture, limit, only=only, link=link, offsets=True), numbers)
     else:
-        text = lines(capture, limit, numbers=numbers, only=only)
+        text = lines(capture, limit, numbers=numbers, only=only, link=link)
     made = replacement.apply(text.splitlines())
     if not made:
-        raise AssertionError("the capture is empty, or has no message of these types")
+        raise AssertionError("the capture is empty, or has no message that is selected")
     name = os.fspath(path)
     if update:
-        left_out = [lines_golden.PROBES] if isinstance(capture, Recording) else []
-        _write(name, _text(lines_golden.head_lines(FORMAT, left_out) + made))
+        left_out = excluded.words + ([lines_golden.PROBES] if isinstance(capture, Recording) else [])
+        _write(name, _text(lines_golden.head_lines(FORMAT, left_out) + lines_filter.without(made, excluded.names)))
         return
     head, expected = _read(name)
     made = lines_golden.without_probes(lines_golden.without_positions(made, head.positions), head.names)
-    text = _text(lines_filter.without(made, head.names))
+    text = _text(lines_filter.without(made, head.names | excluded.names))
     if text != expected:
         raise AssertionError(_difference(name, head, expected, text))
+
+
+class _Excluded:
+    """The attributes and groups that a test leaves out."""
+
+    def __init__(self, without: Iterable[str]) -> None:
+        """# Errors
+
+        TypeError for a single name, which would be read as the list of its letters, and ValueError for one that isn't known.
+        """
+        if isinstance(without, (str, bytes)):
+            raise TypeError(f"without is a list of names, as ['IFLA_MTU'], and not {without!r}")
+        self.words = list(without)
+        self.names = lines_filter.names_of(",".join(self.words)) if self.words else set()
 
 
 def _text(made: List[str]) -> str:

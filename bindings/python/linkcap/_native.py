@@ -25,7 +25,11 @@ elif sys.version_info >= (3, 12):
 else:
     Capture = Union[bytes, bytearray, memoryview]
 
+# tools/declarations.py compares these constants, the structs and the types of the functions with linkcap.h.
 VERSION = 2
+MIN_LIMIT, DEFAULT_LIMIT = 16, 1048576
+#: the size of a buffer for the words of any fault, or of any quirk
+FAULT_TEXT = 127
 OK, DIFFERENT, FAULT, WRONG, NO_ROOM, NO_MEMORY, NONE = range(7)
 #: the flags of linkcap_show_selected and linkcap_show_selected_some
 WITHOUT_NUMBERS, OFFSETS, KEEP_GOING = 1, 2, 4

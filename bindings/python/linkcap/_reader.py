@@ -1,7 +1,6 @@
 """Captures that come in pieces."""
 import ctypes
-import threading
-from typing import Any, Generic, Iterable, Iterator, List, Optional, Protocol, SupportsIndex, Tuple, TypeVar, Union
+from typing import Any, Dict, Generic, Iterable, Iterator, List, Optional, Protocol, SupportsIndex, Tuple, TypeVar, Union
 
 from . import _native
 from ._calls import DEFAULT_LIMIT, Selection, checked_limit
@@ -14,6 +13,13 @@ _HEADER = 16
 
 class _Readable(Protocol):
     def read(self, size: int) -> Optional[bytes]: ...
+
+
+class _Call:
+    """A call of a reader."""
+
+    def __init__(self) -> None:
+        self.is_done = False
 
 
 ResultT = TypeVar("ResultT", bytes, str)
@@ -37,7 +43,7 @@ class _Pieces(Generic[ResultT]):
         self._least_length = _HEADER  # with a shorter rest no call writes anything
         self._has_ended = False
         self._kept: Optional[Fault] = None  # the first fault, if messages after it are written too
-        self._lock = threading.Lock()
+        self._running: Dict[str, _Call] = {}  # the call that runs, if one does
 
     def _arguments(self, offset: int) -> Tuple[Any, ...]:
         """The arguments of the call between the limit and the buffer, for bytes at an offset of the capture."""
@@ -52,22 +58,24 @@ class _Pieces(Generic[ResultT]):
 
         Raises the capture's first `Fault`, whose `written` is the output for the messages that this piece completes before it.
         """
-        with BorrowedBytes(piece) as borrowed:
-            self._begin()
-            try:
-                # A reader in which a signal handler raises an exception has ended: which bytes were used isn't known.
-                self._has_ended = True
-                text = self._feed(borrowed)
-                self._has_ended = False
-                return self._result(text)
-            finally:
-                self._lock.release()
+        call = _Call()
+        try:
+            with BorrowedBytes(piece) as borrowed:
+                self._begin(call)
+                result = self._result(self._feed(borrowed))
+            call.is_done = True
+            del self._running["call"]
+            return result
+        except BaseException:
+            # A reader in which a signal handler raises an exception has ended: which bytes were used isn't known.
+            self._end(call)
+            raise
 
     def finish(self) -> ResultT:
         """Ends the capture. Returns the output for a last message that lacks padding, or raises a `Fault`."""
-        self._begin()
+        call = _Call()
         try:
-            self._has_ended = True
+            self._begin(call)
             with BorrowedBytes(self._rest) as rest:
                 text = self._write(rest.at, rest.length, True)[1]
             if self._kept:
@@ -75,7 +83,7 @@ class _Pieces(Generic[ResultT]):
                 raise self._kept
             return self._result(text)
         finally:
-            self._lock.release()
+            self._end(call)
 
     def read_file(self, file: _Readable, size: int = 1 << 16) -> Iterator[ResultT]:
         """Feeds a binary file from its position to its end, in pieces of `size` bytes, and finishes. Yields each output that
@@ -86,6 +94,8 @@ class _Pieces(Generic[ResultT]):
         >>> [text.hex() for text in Reader().read_file(io.BytesIO(done))]
         ['1400000003000200000000000000000000000000']
         """
+        if size < 1:
+            raise ValueError("pieces have a size of at least 1")
         while True:
             piece = file.read(size)
             if piece is None:
@@ -96,12 +106,20 @@ class _Pieces(Generic[ResultT]):
             if not piece:
                 return
 
-    def _begin(self) -> None:
-        if not self._lock.acquire(blocking=False):
+    def _begin(self, call: _Call) -> None:
+        # `setdefault` isn't interrupted, so that `_end` knows whether the call has begun.
+        if self._running.setdefault("call", call) is not call:
             raise RuntimeError("another call of this reader is running")
         if self._has_ended:
-            self._lock.release()
             raise ValueError("the reader has ended, or has raised a fault")
+
+    def _end(self, call: _Call) -> None:
+        """Ends the reader, if the call has begun."""
+        is_running = self._running.get("call") is call
+        if is_running or call.is_done:
+            self._has_ended = True
+        if is_running:
+            del self._running["call"]
 
     def _feed(self, piece: BorrowedBytes) -> bytes:
         if not self._rest:
@@ -189,11 +207,3 @@ class LineReader(_Pieces[str]):
 
     def _result(self, output: bytes) -> str:
         return output.decode("ascii")
-
-    def _write(self, at: int, length: int, is_last: bool) -> Tuple[int, bytes]:
-        try:
-            used, output = super()._write(at, length, is_last)
-        except Fault as fault:
-            fault.written = b"" if self._selection.is_empty else fault.written
-            raise
-        return used, b"" if self._selection.is_empty else output

@@ -7,6 +7,9 @@ from typing import Any, Dict, List, Sequence, Type, TypeVar, Union
 
 from . import lines_record
 
+#: the status of linkrec if it can't record here
+_CANNOT_RECORD = 125
+
 _Word = Union[str, "os.PathLike[str]"]
 
 
@@ -40,7 +43,8 @@ class Recording(bytes):
         return recording
 
 
-def record(command: Sequence[_Word], *, setup: Sequence[str] = (), here: bool = False) -> Recording:
+def record(command: Sequence[_Word], *, setup: Sequence[str] = (), here: bool = False,
+           may_fail: bool = False) -> Recording:
     """The capture of the route messages that a command sends, its threads and child processes included, with its record.
 
     The command runs in a new network namespace, in which the shell commands of `setup` have run, or, with `here`, in the
@@ -49,10 +53,15 @@ def record(command: Sequence[_Word], *, setup: Sequence[str] = (), here: bool = 
 
     # Errors
 
-    RecordError if there is no linkrec, if it can't record here, or if the command ends with another status than 0.
+    RecordError if there is no linkrec, if it can't record here, or if the command ends with another status than 0, unless it
+    `may_fail`. ValueError for a command without words.
     """
     if isinstance(command, (str, bytes)):
         raise TypeError(f"a command is a list of words, as {command.split()!r}")
+    if isinstance(setup, (str, bytes)):
+        raise TypeError(f"setup is a list of shell commands, as [{setup!r}]")
+    if not command:
+        raise ValueError("a command has a word at least")
     program = shutil.which(os.environ.get("LINKREC", "linkrec"))
     if program is None:
         raise RecordError("no program linkrec: put it on the PATH, or name it by LINKREC (linkcap's ./install installs it)")
@@ -60,7 +69,8 @@ def record(command: Sequence[_Word], *, setup: Sequence[str] = (), here: bool = 
         capture = os.path.join(folder, "capture")
         process = subprocess.run([program, *_options(setup, here), "-o", capture, "--", *command], stdout=subprocess.DEVNULL,
                                  stderr=subprocess.PIPE, check=False)
-        if process.returncode:
+        has_recorded = process.returncode != _CANNOT_RECORD and os.path.exists(capture + lines_record.SUFFIX)
+        if process.returncode and not (may_fail and has_recorded):
             report = process.stderr.decode(errors="replace").strip()
             raise RecordError(f"{os.fspath(command[0])} ended with status {process.returncode}: {report}")
         try:

@@ -55,7 +55,14 @@ def type_number(message_type: MessageType) -> int:
 
 
 def type_numbers(message_types: Iterable[MessageType]) -> List[int]:
-    """The numbers of types. Raises TypeError for a single name, which would be read as the list of its letters."""
-    if isinstance(message_types, str):
-        raise TypeError(f"only is a list of message types, as [{message_types!r}]")
-    return [type_number(message_type) for message_type in message_types]
+    """The numbers of types, at least one.
+
+    Raises TypeError for a single name, which would be read as the list of its letters or bytes, and ValueError for no type: the
+    other languages take an empty list for all types.
+    """
+    if isinstance(message_types, (str, bytes, bytearray)):
+        raise TypeError(f"only is a list of message types, as ['newlink'], and not {message_types!r}")
+    numbers = [type_number(message_type) for message_type in message_types]
+    if not numbers:
+        raise ValueError("only names no message type: leave it out for all types")
+    return numbers

@@ -69,6 +69,25 @@ class Golden(unittest.TestCase):
         linkcap.golden(other + self.capture, self.path, update=True, only=["getlink"])
         linkcap.golden(other + self.capture, self.path, only=[18])
 
+    def test_selected_lines(self) -> None:
+        """The file has what the options leave out in its head, so a test without them leaves it out too."""
+        other = self.capture.replace(b"lo", b"hi")
+        linkcap.golden(self.capture + other, self.path, update=True, link="hi", without=["IFLA_EXT_MASK", "counters"])
+        head, left_out, *rest = self.read().splitlines()
+        self.assertEqual(left_out, "# leaves out: IFLA_EXT_MASK, counters")
+        self.assertEqual([line.split()[0] for line in rest], ["RTM_GETLINK", "ifinfomsg", "IFLA_IFNAME"])
+        linkcap.golden(other, self.path)
+        linkcap.golden(self.capture + other, self.path, link="hi", without=["ifla_ext_mask"])
+        with self.assertRaisesRegex(AssertionError, '-  IFLA_IFNAME "hi"\n'):
+            linkcap.golden(other, self.path, without=["IFLA_IFNAME"])
+        with self.assertRaisesRegex(AssertionError, "no message that is selected"):
+            linkcap.golden(other, self.path, link="lo")
+        with self.assertRaisesRegex(ValueError, "IFLA_NAM"):
+            linkcap.golden(other, self.path, without=["IFLA_NAM"])
+        for without in ("IFLA_MTU", b"IFLA_MTU"):
+            with self.assertRaisesRegex(TypeError, "a list of names"):
+                linkcap.golden(other, self.path, without=without)  # type: ignore[arg-type]
+
     def test_names_are_replaced(self) -> None:
         linkcap.golden(self.capture, self.path, update=True, replace=["l[a-z]=link"])
         self.assertEqual(self.read().splitlines()[-1], '  IFLA_IFNAME "link"')
@@ -96,7 +115,7 @@ class Golden(unittest.TestCase):
         for update in (True, False):
             with self.assertRaisesRegex(AssertionError, "empty"):
                 linkcap.golden(b"", self.path, update=update)
-            with self.assertRaisesRegex(AssertionError, "no message of these types"):
+            with self.assertRaisesRegex(AssertionError, "no message that is selected"):
                 linkcap.golden(self.capture, self.path, update=update, only=["newlink"])
         self.assertFalse(os.path.exists(self.path))
 

@@ -405,12 +405,20 @@ class Edges(unittest.TestCase):
                                ({"without": [""]}, "is no name"),
                                ({"without": ["IFLA_MTU"] * 33}, "at most 32"),
                                ({"only": range(33), "offsets": True}, "at most 32"),
+                               ({"only": []}, "no message type: leave it out"),
+                               ({"only": [], "offsets": True}, "no message type: leave it out"),
                                ({"link": ""}, "a name or an index")):
             with self.assertRaisesRegex(ValueError, words):
                 linkcap.lines(capture, **options)  # type: ignore[arg-type]
         with self.assertRaisesRegex(TypeError, "without is a list"):
             linkcap.lines(capture, without="numbers")
-        self.assertEqual(linkcap.lines(capture, only=[], offsets=True), "")
+        for wrong in ({"link": b"lo"}, {"link": ["lo"]}, {"link": 1.0}, {"link": True}, {"link": object()}, {"only": b"getlink"},
+                      {"only": bytearray(b"\x12")}, {"only": ["getlink", b"getlink"]}, {"only": [18.0]}, {"without": b"numbers"},
+                      {"without": [b"numbers"]}, {"without": ["numbers", 3]}):
+            with self.assertRaises(TypeError, msg=str(wrong)):
+                linkcap.lines(capture, **wrong)  # type: ignore[arg-type]
+            with self.assertRaises(TypeError, msg=str(wrong)):
+                linkcap.LineReader(**wrong)  # type: ignore[arg-type]
 
     def test_line_reader(self) -> None:
         capture = sample("lo-request.bin")
@@ -420,7 +428,7 @@ class Edges(unittest.TestCase):
             linkcap.LineReader().feed(capture + REFUSED)
         self.assertEqual(raised.exception.written, sample("lo-request.lines"))
         with self.assertRaises(linkcap.Fault) as raised:
-            linkcap.LineReader(only=[]).feed(capture + REFUSED)
+            linkcap.LineReader(only=["newlink"]).feed(capture + REFUSED)
         self.assertEqual(raised.exception.written, b"")
         self.assertEqual("".join(linkcap.LineReader().read_file(io.BytesIO(capture), 5)), sample("lo-request.lines").decode())
 
@@ -476,7 +484,8 @@ class Messages(unittest.TestCase):
         for name in ("getlink", "GETLINK", "RTM_GETLINK", "rtm_getlink"):
             self.assertEqual(linkcap.lines(capture, only=[name]), getlink)
         self.assertEqual(linkcap.lines(capture, only=["nlmsg_done", "getlink"]), linkcap.lines(capture))
-        self.assertEqual(linkcap.lines(capture, only=[]), "")
+        with self.assertRaisesRegex(ValueError, "no message type"):
+            linkcap.lines(capture, only=[])
         with self.assertRaisesRegex(ValueError, "no message type 'setlnk'"):
             linkcap.lines(capture, only=["setlnk"])
         with self.assertRaisesRegex(ValueError, "65536"):
@@ -508,6 +517,9 @@ class Readers(unittest.TestCase):
                 self.assertEqual(b"".join(linkcap.Reader().read_file(file, size)), text)
         with open(os.devnull, "rb") as file:
             self.assertEqual(list(linkcap.Reader().read_file(file)), [])
+        for size in (0, -1):
+            with self.assertRaisesRegex(ValueError, "at least 1"):
+                list(linkcap.Reader().read_file(io.BytesIO(DONE), size))
         with open(path, "rb") as file:
             file.seek(48)
             with self.assertRaises(linkcap.Fault):

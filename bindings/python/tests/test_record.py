@@ -52,6 +52,11 @@ class Record(unittest.TestCase):
             self.assertNotIn("refused", text)
             self.assertIn("\n# leaves out: probes\n", text)
             linkcap.golden(linkcap.record(["ip", "link", "set", "v0", "master", "br0"], setup=setup), path)
+            linkcap.golden(recording, path, update=True, without=["IFLA_MASTER"])
+            with open(path, encoding="ascii") as file:
+                self.assertRegex(file.read(), '\n# leaves out: IFLA_MASTER, probes\n(?s:.*)index "v0" flags 0x0 change 0x0\n\\Z')
+            linkcap.golden(recording, path)
+            linkcap.golden(recording, path, update=True)
             with self.assertRaisesRegex(AssertionError, '-  IFLA_MASTER "br0"\n\\+  IFLA_MASTER "br1"\n'):
                 linkcap.golden(linkcap.record(["ip", "link", "set", "v0", "master", "br1"], setup=setup), path)
 
@@ -74,9 +79,25 @@ class Record(unittest.TestCase):
         with self.assertRaisesRegex(linkcap.RecordError, "no-such-command"):
             linkcap.record(["no-such-command"])
 
-    def test_a_command_in_one_word(self) -> None:
-        with self.assertRaisesRegex(TypeError, "a list of words"):
-            linkcap.record("ip link")
+    def test_a_command_that_may_fail(self) -> None:
+        command = ["sh", "-c", " ".join(ADD) + "; ip link set v2 up; exit 3"]
+        with self.assertRaisesRegex(linkcap.RecordError, "sh ended with status 3"):
+            linkcap.record(command)
+        capture = linkcap.record(command, may_fail=True)
+        self.assertIn('  IFLA_IFNAME "v0"\n', linkcap.lines(capture))
+        with self.assertRaisesRegex(linkcap.RecordError, "no-such-command"):
+            linkcap.record(["no-such-command"], may_fail=True)
+        with self.assertRaisesRegex(linkcap.RecordError, "ended with status 125"):
+            linkcap.record(ADD, setup=["false"], may_fail=True)
+
+    def test_wrong_arguments(self) -> None:
+        for command in ("ip link", b"ip link"):
+            with self.assertRaisesRegex(TypeError, "a list of words"):
+                linkcap.record(command)  # type: ignore[arg-type]
+        with self.assertRaisesRegex(ValueError, "a word at least"):
+            linkcap.record([])
+        with self.assertRaisesRegex(TypeError, "a list of shell commands"):
+            linkcap.record(ADD, setup="ip link add d0 type dummy")
 
     def test_an_older_linkrec(self) -> None:
         with tempfile.TemporaryDirectory() as folder:

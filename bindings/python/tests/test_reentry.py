@@ -174,15 +174,17 @@ class Reentry(unittest.TestCase):
         self.assertGreater(errors[0], 100)
 
     def test_reader_that_was_interrupted(self) -> None:
-        """After a handler raised an exception in a reader, the reader has ended, and returns no text without a part of it."""
+        """After a handler raised an exception in a reader, the reader has ended, unless the call hadn't begun."""
         outcomes = set()
-        for number in range(1, 600):
+        for number in range(1, 900):
             reader, at = linkcap.Reader(), [number]
 
             def trace(frame: types.FrameType, event: str, argument: Any) -> Optional[Callable[..., Any]]:
-                if frame.f_code.co_name in ("_feed", "_write", "_advance", "take"):
-                    frame.f_trace_opcodes = True
-                    at[0] -= event == "opcode"
+                # Whoever is interrupted after the last line of `feed` has its result.
+                step = "line" if frame.f_code.co_name == "feed" else "opcode"
+                if frame.f_code.co_name in ("feed", "_begin", "_feed", "_write", "_advance", "take", "_result", "__exit__"):
+                    frame.f_trace_opcodes = step == "opcode"
+                    at[0] -= event == step
                     if at[0] == 0:
                         raise KeyboardInterrupt
                 return trace if os.path.dirname(frame.f_code.co_filename) == FOLDER else None
@@ -193,15 +195,24 @@ class Reentry(unittest.TestCase):
                 text += reader.feed(REQUEST[60:])
                 outcomes.add("whole")
             except KeyboardInterrupt:
-                outcomes.add("interrupted")
-                with self.assertRaises(ValueError):
-                    reader.finish()
+                sys.settrace(None)
+                outcomes.add(self.after_an_interruption(reader, text))
                 continue
             finally:
                 sys.settrace(None)
             self.assertEqual(text + reader.finish(), REQUEST)
             break
-        self.assertEqual(outcomes, {"interrupted", "whole"})
+        self.assertEqual(outcomes, {"not begun", "ended", "whole"})
+
+    def after_an_interruption(self, reader: linkcap.Reader, text: bytes) -> str:
+        """What became of a reader whose call for the rest of a capture was interrupted, after it had returned a text."""
+        try:
+            text += reader.feed(REQUEST[60:])
+        except ValueError:
+            self.assertRaises(ValueError, reader.finish)
+            return "ended"
+        self.assertEqual(text + reader.finish(), REQUEST)
+        return "not begun"
 
     def test_interrupted_by_an_exception(self) -> None:
         """A call in which a handler raises an exception releases its capture."""

@@ -34,6 +34,7 @@ pub enum Side {
 /// A capture's first fault. It is displayed as its words, as `cut frame at 48` or `second: cut frame at 48`, followed by the
 /// reason if a body is refused: `refused body at 48: IFLA_MTU: a payload of 3 bytes at 80`.
 #[derive(Clone, Debug, PartialEq, Eq)]
+#[non_exhaustive]
 pub struct Fault {
     pub kind: Kind,
     /// The capture that has it, of two.
@@ -86,6 +87,41 @@ impl Error {
             Error::Fault(fault) => Some(fault),
             _ => None,
         }
+    }
+
+    /// Returns the kind of the fault, if it is one.
+    #[must_use]
+    pub fn kind(&self) -> Option<Kind> {
+        self.fault().map(|fault| fault.kind)
+    }
+
+    /// Returns the start of the message with the fault, in bytes from the capture's start, if it is one.
+    #[must_use]
+    pub fn offset(&self) -> Option<u64> {
+        self.fault().map(|fault| fault.offset)
+    }
+
+    /// Returns which of two captures has the fault, if it is one of two.
+    #[must_use]
+    pub fn side(&self) -> Option<Side> {
+        self.fault().and_then(|fault| fault.side)
+    }
+
+    /// Returns the attribute that isn't accepted, and why, if the fault is one of the kind [`Kind::Refused`].
+    ///
+    /// ```
+    /// use linkcap::{check, Error, Kind, DEFAULT_LIMIT};
+    ///
+    /// // An IFLA_MTU of 3 bytes.
+    /// let request = b"\x28\0\0\0\x10\0\0\0\0\0\0\0\0\0\0\0\0\0\0\0\0\0\0\0\0\0\0\0\0\0\0\0\x07\0\x04\0\x01\x02\x03\0";
+    /// let error = check(request, DEFAULT_LIMIT).unwrap_err();
+    /// assert_eq!((error.kind(), error.offset(), error.side()), (Some(Kind::Refused), Some(0), None));
+    /// assert_eq!(error.reason().map(|reason| reason.words.as_str()), Some("IFLA_MTU: a payload of 3 bytes at 32"));
+    /// assert_eq!(Error::Limit.kind(), None);
+    /// ```
+    #[must_use]
+    pub fn reason(&self) -> Option<&Refusal> {
+        self.fault().and_then(|fault| fault.why.as_ref())
     }
 }
 

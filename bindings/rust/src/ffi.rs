@@ -1,6 +1,10 @@
-//! The functions of linkcap.h.
+//! The functions of linkcap.h. tools/declarations.py compares them with it.
 
 pub const VERSION: u32 = 2;
+
+pub const MIN_LIMIT: u32 = 16;
+pub const DEFAULT_LIMIT: u32 = 1_048_576;
+pub const FAULT_TEXT: usize = 127;
 
 pub const OK: u32 = 0;
 pub const DIFFERENT: u32 = 1;
@@ -56,7 +60,7 @@ extern "C" {
         length: usize,
         limit: u32,
         out: *mut u8,
-        capacity: usize,
+        room: usize,
         written: &mut u64,
         fault: &mut Fault,
     ) -> u32;
@@ -66,7 +70,7 @@ extern "C" {
         last: bool,
         limit: u32,
         out: *mut u8,
-        capacity: usize,
+        room: usize,
         progress: &mut Progress,
         fault: &mut Fault,
     ) -> u32;
@@ -95,7 +99,7 @@ extern "C" {
         types: *const u16,
         types_length: usize,
         out: *mut u8,
-        capacity: usize,
+        room: usize,
         progress: &mut Progress,
         fault: &mut Fault,
     ) -> u32;
@@ -104,11 +108,11 @@ extern "C" {
         length: usize,
         limit: u32,
         quirks: *mut Quirk,
-        capacity: usize,
+        room: usize,
         count: &mut u64,
         fault: &mut Fault,
     ) -> u32;
-    pub fn linkcap_quirk_text(quirk: &Quirk, out: *mut u8, capacity: usize, written: &mut u64) -> u32;
+    pub fn linkcap_quirk_text(quirk: &Quirk, out: *mut u8, room: usize, written: &mut u64) -> u32;
     pub fn linkcap_show_with(
         capture: *const u8,
         length: usize,
@@ -117,7 +121,7 @@ extern "C" {
         types: *const u16,
         types_length: usize,
         out: *mut u8,
-        capacity: usize,
+        room: usize,
         written: &mut u64,
         fault: &mut Fault,
     ) -> u32;
@@ -133,7 +137,7 @@ extern "C" {
         without: *const u8,
         without_length: usize,
         out: *mut u8,
-        capacity: usize,
+        room: usize,
         written: &mut u64,
         fault: &mut Fault,
     ) -> u32;
@@ -151,7 +155,7 @@ extern "C" {
         without: *const u8,
         without_length: usize,
         out: *mut u8,
-        capacity: usize,
+        room: usize,
         progress: &mut Progress,
         fault: &mut Fault,
     ) -> u32;
@@ -161,7 +165,7 @@ extern "C" {
         without: *const u8,
         without_length: usize,
         out: *mut u8,
-        capacity: usize,
+        room: usize,
         written: &mut u64,
     ) -> u32;
     pub fn linkcap_why(
@@ -169,9 +173,9 @@ extern "C" {
         length: usize,
         limit: u32,
         out: *mut u8,
-        capacity: usize,
+        room: usize,
         written: &mut u64,
         offset: &mut u64,
     ) -> u32;
-    pub fn linkcap_fault_text(fault: &Fault, out: *mut u8, capacity: usize, written: &mut u64) -> u32;
+    pub fn linkcap_fault_text(fault: &Fault, out: *mut u8, room: usize, written: &mut u64) -> u32;
 }

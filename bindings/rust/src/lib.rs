@@ -25,8 +25,10 @@
 //! # Ok::<(), linkcap::Error>(())
 //! ```
 
+mod diff;
 mod error;
 mod ffi;
+mod golden;
 mod messages;
 mod normal_reader;
 mod quirks;
@@ -35,6 +37,7 @@ mod selection;
 mod writing;
 
 pub use error::{Error, Fault, Kind, Side};
+pub use golden::{golden, golden_with, GoldenOptions};
 pub use messages::{messages, Message, Messages};
 pub use normal_reader::NormalReader;
 pub use quirks::{quirks, Quirk, QuirkKind};
@@ -43,10 +46,11 @@ pub use selection::{lines_selected, Selection};
 pub use writing::{lines, lines_with, normalize, why, LineOptions, Refusal};
 
 /// The limit that the program takes if none is given: 1 MiB.
-pub const DEFAULT_LIMIT: u32 = 1_048_576;
+pub const DEFAULT_LIMIT: u32 = ffi::DEFAULT_LIMIT;
 
 /// The sizes of a legal capture.
 #[derive(Clone, Copy, Debug, PartialEq, Eq)]
+#[non_exhaustive]
 pub struct Measure {
     /// Its messages.
     pub frames: u64,

@@ -6,6 +6,7 @@ const HEADER: usize = 16;
 
 /// A message of a legal capture, and its header.
 #[derive(Clone, Copy, Debug, PartialEq, Eq)]
+#[non_exhaustive]
 pub struct Message<'a> {
     /// Its start, in bytes from the capture's start.
     pub offset: usize,

@@ -37,6 +37,7 @@ pub enum QuirkKind {
 /// An encoding that some kernels treat differently from its normal text. It is displayed as its words and its offset, as
 /// `flag with a payload at 76`.
 #[derive(Clone, Copy, Debug, PartialEq, Eq, Hash)]
+#[non_exhaustive]
 pub struct Quirk {
     pub kind: QuirkKind,
     /// The start of the attribute that has it, or the header's byte, in bytes from the capture's start.

@@ -20,7 +20,7 @@ struct Pieces {
 
 impl Pieces {
     fn new(limit: u32) -> Result<Pieces, Error> {
-        if limit < 16 {
+        if limit < ffi::MIN_LIMIT {
             return Err(Error::Limit);
         }
         Ok(Pieces { limit, rest: Vec::new(), start: 0, has_failed: false, kept: None })

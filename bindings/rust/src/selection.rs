@@ -102,7 +102,7 @@ pub fn lines_selected(capture: &[u8], limit: u32, selection: Selection<'_>) -> R
         )
     };
     match write(capture, limit, call, length.saturating_mul(4)) {
-        Err(Error::Limit) if limit >= 16 => Err(list_error(without)),
+        Err(Error::Limit) if limit >= ffi::MIN_LIMIT => Err(list_error(without)),
         result => result.map(into_string),
     }
 }

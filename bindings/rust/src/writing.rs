@@ -2,9 +2,6 @@
 
 use crate::{ffi, Error};
 
-/// The greatest length of the words of a fault or a quirk.
-const MAX_WORDS: usize = 127;
-
 /// Reserves capacity for `additional` bytes after those of a vector.
 pub(crate) fn reserve(out: &mut Vec<u8>, additional: usize) -> Result<(), Error> {
     out.try_reserve(additional).map_err(|_| Error::Memory)
@@ -17,7 +14,7 @@ pub(crate) fn to_length(number: u64) -> Result<usize, Error> {
 
 /// Returns the words that a call writes.
 pub(crate) fn collect_words(call: impl FnOnce(*mut u8, usize, &mut u64) -> u32) -> String {
-    let (mut words, mut length) = ([0u8; MAX_WORDS], 0u64);
+    let (mut words, mut length) = ([0u8; ffi::FAULT_TEXT], 0u64);
     if call(words.as_mut_ptr(), words.len(), &mut length) != ffi::OK {
         return String::new();
     }
@@ -120,6 +117,7 @@ pub fn lines_with(capture: &[u8], limit: u32, options: LineOptions<'_>) -> Resul
 
 /// Why a body is refused. It is displayed as its words.
 #[derive(Clone, Debug, PartialEq, Eq)]
+#[non_exhaustive]
 pub struct Refusal {
     /// The attribute's names from outside in, the reason, and the offset.
     pub words: String,

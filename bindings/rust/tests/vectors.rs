@@ -302,7 +302,8 @@ fn edges() {
     assert_eq!(linkcap::normalize(&[], 16), Ok(Vec::new()));
     assert_eq!(linkcap::lines(&[], 16), Ok(String::new()));
     assert_eq!(linkcap::same(&[], &[], 16), Ok(true));
-    assert_eq!(linkcap::measure(&[], 16), Ok(linkcap::Measure { frames: 0, attributes: 0, text_len: 0 }));
+    let sizes = linkcap::measure(&[], 16).expect("nothing");
+    assert_eq!((sizes.frames, sizes.attributes, sizes.text_len), (0, 0, 0));
     for limit in [0, 15] {
         assert_eq!(linkcap::check(&[], limit), Err(Error::Limit));
         assert_eq!(linkcap::measure(&[], limit), Err(Error::Limit));
@@ -319,18 +320,25 @@ fn edges() {
     let error = linkcap::same(&capture, &capture[..47], DEFAULT_LIMIT).expect_err("a cut frame");
     let fault = error.fault().expect("a fault");
     assert_eq!((fault.kind, fault.side, fault.offset), (Kind::Cut, Some(Side::Second), 0));
+    assert_eq!((error.kind(), error.side(), error.offset(), error.reason()), (Some(Kind::Cut), Some(Side::Second), Some(0), None));
+    assert_eq!((Error::Limit.kind(), Error::Memory.offset(), Error::Failed.side()), (None, None, None));
     let boxed: Box<dyn std::error::Error + Send + Sync> = Box::new(error);
     assert_eq!(boxed.to_string(), "second: cut frame at 0");
+}
+
+/// Returns the fields of a message.
+fn fields(message: Message<'_>) -> (usize, &[u8], u16, u16, u32, u32) {
+    let Message { offset, bytes, message_type, flags, sequence_number, port_number, .. } = message;
+    (offset, bytes, message_type, flags, sequence_number, port_number)
 }
 
 #[test]
 fn messages() {
     let capture = read_file("samples/lo-request.bin");
     let twice = [&capture[..], &capture[..]].concat();
-    let messages: Vec<Message> = linkcap::messages(&twice, DEFAULT_LIMIT).expect("a legal capture").collect();
+    let messages: Vec<_> = linkcap::messages(&twice, DEFAULT_LIMIT).expect("a legal capture").map(fields).collect();
     // the numbers that samples/lo-request.lines has
-    let (message_type, flags, sequence_number, port_number) = (18, 0x301, 1_526_271_540, 0);
-    let message = |offset| Message { offset, bytes: &capture, message_type, flags, sequence_number, port_number };
+    let message = |offset| (offset, &capture[..], 18, 0x301, 1_526_271_540, 0);
     assert_eq!(messages, [message(0), message(48)]);
     assert_eq!(linkcap::messages(&[], 16).expect("nothing").next(), None);
 }

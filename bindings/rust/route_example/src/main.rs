@@ -27,3 +27,13 @@ fn main() -> Result<(), Box<dyn std::error::Error>> {
     print!("{}", linkcap::lines(&capture, DEFAULT_LIMIT)?);
     Ok(())
 }
+
+#[cfg(test)]
+mod tests {
+    use super::make_request;
+
+    #[test]
+    fn request_of_a_dummy() {
+        linkcap::golden(make_request("d0"), "tests/dummy.lines");
+    }
+}

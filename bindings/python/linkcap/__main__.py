@@ -1,6 +1,5 @@
 """`python -m linkcap`: captures of files or of standard input, with the statuses of the programs linkcap and linkshow."""
 import argparse
-import json
 import sys
 from typing import Any, BinaryIO, Dict, Iterator, List, NoReturn, Optional
 
@@ -80,7 +79,7 @@ def _lines(args: Any, file: BinaryIO) -> Iterator[bytes]:
 
 def _json(messages: List[Dict[str, Any]]) -> Iterator[bytes]:
     """Each message as JSON, in a line."""
-    return (json.dumps(message).encode() + b"\n" for message in messages)
+    return (lines_json.dumps(message).encode() + b"\n" for message in messages)
 
 
 def _written(args: Any, fault: linkcap.Fault) -> Iterator[bytes]:

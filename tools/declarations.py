@@ -30,7 +30,7 @@ RUST, PYTHON = "rust/src", "python"
 UNUSED = {
     RUST: {"linkcap_show", "linkcap_next_message", "linkcap_message", "LINKCAP_FORMAT", "LINKCAP_NO_MEMORY", "LINKCAP_MEMORY",
            "LINKCAP_READ", "LINKCAP_WRITE", "LINKCAP_TOO_LONG", "LINKCAP_FAILED"},
-    PYTHON: {"linkcap_next_message", "linkcap_message", "LINKCAP_FORMAT", "LINKCAP_JSON"},
+    PYTHON: {"linkcap_next_message", "linkcap_message", "LINKCAP_FORMAT"},
 }
 PREFIX = "LINKCAP_"
 COMMENT = re.compile(r"/\*.*?\*/|//[^\n]*", re.DOTALL)

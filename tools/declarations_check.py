@@ -56,7 +56,7 @@ CASES = (
     (NATIVE, "call.argtypes, call.restype = arguments, number", "call.argtypes, call.restype = arguments, address",
      ("python: linkcap_check is (c_void_p,",)),
     (NATIVE, '("frames", "attributes",', '("attributes", "frames",', ("python: linkcap_sizes is (",)),
-    (NATIVE, "WITHOUT_NUMBERS, OFFSETS, KEEP_GOING = 1, 2, 4", "WITHOUT_NUMBERS, OFFSETS, KEEP_GOING = 1, 4, 2",
+    (NATIVE, "OFFSETS, KEEP_GOING, JSON = 1, 2, 4", "OFFSETS, KEEP_GOING, JSON = 1, 4, 2",
      ("python: LINKCAP_OFFSETS is (4), and in linkcap.h (2)", "python: LINKCAP_KEEP_GOING is (2)")),
     ("python/linkcap/_fault.py", "    UNFIT = 6\n", "", ("python: LINKCAP_UNFIT isn't declared",)),
 )

@@ -211,7 +211,8 @@ def differences(package, header, found):
 
 def all_differences(bindings):
     header = read_header((bindings / "c/linkcap.h").read_text(encoding="utf-8"))
-    for package, expected, read in ((RUST, header, read_rust), (PYTHON, for_python(header), lambda folder: read_python(folder, header))):
+    packages = ((RUST, header, read_rust), (PYTHON, for_python(header), lambda folder: read_python(folder, header)))
+    for package, expected, read in packages:
         try:
             yield from differences(package, expected, read(bindings / package))
         except (ImportError, ValueError) as error:

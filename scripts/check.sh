@@ -237,6 +237,16 @@ succeeds "stored lines as JSON" "$top/scripts/tests/lines.py"
 succeeds "lines with what a record knows" "$top/scripts/tests/record.py"
 expect "a capture as JSON" 0 "" "$linkjson" a <<< "$json"
 expect "JSON of linkshow" 0 "" "$LINKSHOW" --json a <<< "$json"
+# an RTM_NEWLINK whose IFLA_IFNAME has control characters, a quotation mark and a backslash
+{
+    printf '\x30\0\0\0\x10\0\5\0\1\0\0\0\0\0\0\0'
+    head -c 16 /dev/zero
+    printf '\x0d\0\3\0\b\t\n\f\r\1"\\n\0\0\0'
+} > "$work/control"
+control=$'s/"seq.*port": 0/"seq": 1, "port": 0/; s/GETLINK/NEWLINK/; s/769, "flags": [^]]*/5, "flags": ["REQUEST", "ACK"/'
+control+='; s/{"name": "IFLA_EXT_MASK[^}]*}, //; s/"lo"/"\\u0008\\u0009\\u000a\\u000c\\u000d\\u0001\\"\\\\n"/'
+expect "JSON of control characters" 0 "" "$linkjson" control < <(sed "$control" <<< "$json")
+expect "JSON of control characters, of linkshow" 0 "" "$LINKSHOW" --json control < <(sed "$control" <<< "$json")
 expect "lines as JSON" 0 "" "$linkjson" a.lines <<< "$json"
 expect "a golden file as JSON" 0 "" "$linkjson" headed.lines <<< "${json/\"seq\": 1526271540, \"port\": 0, /}"
 expect "JSON without numbers and an attribute" 0 "" "$linkjson" --without-numbers --without IFLA_IFNAME a \

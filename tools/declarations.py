@@ -30,7 +30,7 @@ RUST, PYTHON = "rust/src", "python"
 UNUSED = {
     RUST: {"linkcap_show", "linkcap_next_message", "linkcap_message", "LINKCAP_FORMAT", "LINKCAP_NO_MEMORY", "LINKCAP_MEMORY",
            "LINKCAP_READ", "LINKCAP_WRITE", "LINKCAP_TOO_LONG", "LINKCAP_FAILED"},
-    PYTHON: {"linkcap_next_message", "linkcap_message", "LINKCAP_FORMAT", "LINKCAP_JSON"},
+    PYTHON: {"linkcap_next_message", "linkcap_message", "LINKCAP_FORMAT"},
 }
 PREFIX = "LINKCAP_"
 COMMENT = re.compile(r"/\*.*?\*/|//[^\n]*", re.DOTALL)
@@ -211,7 +211,8 @@ def differences(package, header, found):
 
 def all_differences(bindings):
     header = read_header((bindings / "c/linkcap.h").read_text(encoding="utf-8"))
-    for package, expected, read in ((RUST, header, read_rust), (PYTHON, for_python(header), lambda folder: read_python(folder, header))):
+    packages = ((RUST, header, read_rust), (PYTHON, for_python(header), lambda folder: read_python(folder, header)))
+    for package, expected, read in packages:
         try:
             yield from differences(package, expected, read(bindings / package))
         except (ImportError, ValueError) as error:

@@ -21,7 +21,8 @@ HEADER, FFI, NATIVE = "c/linkcap.h", "rust/src/ffi.rs", "python/linkcap/_native.
 CASES = (
     # C: a parameter's type, its name, its order; a function's name, and one more
     (HEADER, "linkcap_check(const uint8_t *capture, size_t length, uint32_t limit",
-     "linkcap_check(const uint8_t *capture, size_t length, uint64_t limit", ("rust/src: linkcap_check is (", "python: linkcap_check is (")),
+     "linkcap_check(const uint8_t *capture, size_t length, uint64_t limit",
+     ("rust/src: linkcap_check is (", "python: linkcap_check is (")),
     (HEADER, "linkcap_check(const uint8_t *capture, size_t length", "linkcap_check(const uint8_t *capture, size_t size",
      ("rust/src: linkcap_check is (",)),
     (HEADER, "linkcap_quirk_text(const struct linkcap_quirk *quirk, uint8_t *out, size_t room",
@@ -41,7 +42,8 @@ CASES = (
      ("rust/src: LINKCAP_VERSION is (2)", "python: liblinkcap.so has version 3 of the interface, and 2 is needed")),
     # Rust
     (FFI, "limit: u32, fault: &mut Fault) -> u32;", "limit: u64, fault: &mut Fault) -> u32;", ("rust/src: linkcap_check is (",)),
-    (FFI, "pub fn linkcap_why(\n        capture: *const u8", "pub fn linkcap_why(\n        capture: *mut u8", ("rust/src: linkcap_why is (",)),
+    (FFI, "pub fn linkcap_why(\n        capture: *const u8", "pub fn linkcap_why(\n        capture: *mut u8",
+     ("rust/src: linkcap_why is (",)),
     (FFI, "    pub fn linkcap_version() -> u32;\n", "", ("rust/src: linkcap_version isn't declared",)),
     (FFI, "pub fn linkcap_version()", "pub fn linkcap_versions()", ("rust/src: linkcap_versions isn't in linkcap.h",)),
     (FFI, "    pub kind: u32,\n    pub side: u32,", "    pub side: u32,\n    pub kind: u32,", ("rust/src: linkcap_fault is (",)),
@@ -50,13 +52,14 @@ CASES = (
     ("rust/src/error.rs", "3 => Kind::OverLimit", "3 => Kind::Cut", ("rust/src: Kind::Cut is 1, and 3 is decoded to it",)),
     ("rust/src/quirks.rs", "ShortMap,\n}", "ShortMap = 13,\n}", ("rust/src: LINKCAP_SHORT_MAP is (13), and in linkcap.h (12)",)),
     # Python
-    (NATIVE, '"linkcap_check": [*capture, number, address]', '"linkcap_check": [*capture, address]', ("python: linkcap_check is (",)),
+    (NATIVE, '"linkcap_check": [*capture, number, address]', '"linkcap_check": [*capture, address]',
+     ("python: linkcap_check is (",)),
     (NATIVE, '"linkcap_same": [*capture, *capture, number', '"linkcap_same": [*capture, number, *capture',
      ("python: linkcap_same is (",)),
     (NATIVE, "call.argtypes, call.restype = arguments, number", "call.argtypes, call.restype = arguments, address",
      ("python: linkcap_check is (c_void_p,",)),
     (NATIVE, '("frames", "attributes",', '("attributes", "frames",', ("python: linkcap_sizes is (",)),
-    (NATIVE, "WITHOUT_NUMBERS, OFFSETS, KEEP_GOING = 1, 2, 4", "WITHOUT_NUMBERS, OFFSETS, KEEP_GOING = 1, 4, 2",
+    (NATIVE, "OFFSETS, KEEP_GOING, JSON = 1, 2, 4", "OFFSETS, KEEP_GOING, JSON = 1, 4, 2",
      ("python: LINKCAP_OFFSETS is (4), and in linkcap.h (2)", "python: LINKCAP_KEEP_GOING is (2)")),
     ("python/linkcap/_fault.py", "    UNFIT = 6\n", "", ("python: LINKCAP_UNFIT isn't declared",)),
 )

@@ -108,12 +108,13 @@ static void test_hunks(void)
            "+  IFLA_PROMISCUITY 0\n",
            both, sizeof both, "a.lines", NULL);
     write_file("a.lines", LINES LINES LINES);
-    expect(LINKCAP_DIFFERENT, "@@ -6,7 +6,3 @@ RTM_NEWLINK flags 0x5 (REQUEST | ACK)\n " HEADER_OF_A_LINK " ", both, sizeof both, "a.lines",
-           NULL);
+    expect(LINKCAP_DIFFERENT, "@@ -6,7 +6,3 @@ RTM_NEWLINK flags 0x5 (REQUEST | ACK)\n " HEADER_OF_A_LINK " ", both, sizeof both,
+           "a.lines", NULL);
     write_file("a.lines", FIRST "  IFLA_MTU 1280\n" PROMISCUITY LINES);
     expect(LINKCAP_DIFFERENT, "@@ -1,6 +1,6 @@\n RTM_NEWLINK", both, sizeof both, "a.lines", NULL);
-    expect(LINKCAP_DIFFERENT, "-  IFLA_MTU 1280\n+  IFLA_MTU 1281\n   IFLA_PROMISCUITY 0\n RTM_NEWLINK flags 0x5 (REQUEST | ACK)\n ", both,
-           sizeof both, "a.lines", NULL);
+    expect(LINKCAP_DIFFERENT,
+           "-  IFLA_MTU 1280\n+  IFLA_MTU 1281\n   IFLA_PROMISCUITY 0\n RTM_NEWLINK flags 0x5 (REQUEST | ACK)\n ", both, sizeof both,
+           "a.lines", NULL);
 }
 
 static void test_files(void)
@@ -123,9 +124,11 @@ static void test_files(void)
     write_file("a.lines", LINES);
     expect(LINKCAP_OK, "", capture, SIZE, "a.lines", NULL);
     write_file("a.lines", HEAD "RTM_NEWLINK flags 0x5 (REQUEST | ACK)\r\n");
-    expect(LINKCAP_DIFFERENT, "@@ -1,1 +1,4 @@\n-RTM_NEWLINK flags 0x5 (REQUEST | ACK)\r\n+RTM_NEWLINK", capture, SIZE, "a.lines", NULL);
+    expect(LINKCAP_DIFFERENT, "@@ -1,1 +1,4 @@\n-RTM_NEWLINK flags 0x5 (REQUEST | ACK)\r\n+RTM_NEWLINK", capture, SIZE, "a.lines",
+           NULL);
     write_file("a.lines", HEAD FIRST MTU_1281 "  IFLA_PROMISCUITY 0");
-    expect(LINKCAP_DIFFERENT, "-  IFLA_PROMISCUITY 0\n\\ No newline at end of file\n+  IFLA_PROMISCUITY 0\n", capture, SIZE, "a.lines", NULL);
+    expect(LINKCAP_DIFFERENT, "-  IFLA_PROMISCUITY 0\n\\ No newline at end of file\n+  IFLA_PROMISCUITY 0\n", capture, SIZE,
+           "a.lines", NULL);
     write_file("a.lines", "# linkcap lines, format 3\n" FIRST PROMISCUITY);
     expect(LINKCAP_DIFFERENT, "has lines of format 3, and this linkcap writes format 4", capture, SIZE, "a.lines", NULL);
     write_file("a.lines", HEAD);
@@ -171,7 +174,8 @@ static void test_options(void)
 {
     uint8_t capture[SIZE];
     struct linkcap_golden_options numbers = {true, NULL, NULL, NULL, 0}, links = {false, "dellink", NULL, NULL, 0};
-    struct linkcap_golden_options about_v0 = {false, NULL, "v0", NULL, 0}, without = {false, "newlink", NULL, "counters,IFLA_MTU", 0};
+    struct linkcap_golden_options without = {false, "newlink", NULL, "counters,IFLA_MTU", 0};
+    struct linkcap_golden_options about_v0 = {false, NULL, "v0", NULL, 0};
     struct linkcap_golden_options unknown = {false, "newlnk", NULL, NULL, 0}, limit = {false, NULL, NULL, NULL, 47};
     struct linkcap_golden_options no_limit = {false, NULL, NULL, NULL, 15};
     make(1, capture);
@@ -224,8 +228,9 @@ static void test_updates(void)
     expect(LINKCAP_OK, "", capture, SIZE, "new.lines", NULL);
     assert(strcmp(read_file("new.lines"), HEAD LINES) == 0);
     expect(LINKCAP_OK, "", capture, SIZE, "other.lines", &without);
-    assert(strcmp(read_file("other.lines"), HEAD "# leaves out: counters,IFLA_MTU\nRTM_NEWLINK flags 0x5 (REQUEST | ACK) seq 1 port 0\n"
-                                                 HEADER_OF_A_LINK PROMISCUITY) == 0);
+    assert(strcmp(read_file("other.lines"),
+                  HEAD "# leaves out: counters,IFLA_MTU\n"
+                       "RTM_NEWLINK flags 0x5 (REQUEST | ACK) seq 1 port 0\n" HEADER_OF_A_LINK PROMISCUITY) == 0);
     expect(LINKCAP_WRONG, "/none/new.lines: No such file or directory\n", capture, SIZE, "none/new.lines", NULL);
     expect(LINKCAP_NONE, "the capture is empty", NULL, 0, "new.lines", NULL);
     assert(strcmp(read_file("new.lines"), HEAD LINES) == 0);

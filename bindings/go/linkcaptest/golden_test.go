@@ -184,8 +184,8 @@ func TestGoldenSelected(t *testing.T) {
 	GoldenSelected(t, makeLink(1), path, selection)
 	*update = false
 	text, err := os.ReadFile(path)
-	if err != nil || !strings.HasPrefix(string(text), "# linkcap lines, format 4\n# leaves out: IFLA_MTU, counters\nRTM_NEWLINK flags 0x5 (REQUEST | ACK)\n") ||
-		strings.Contains(string(text), "\n  IFLA_MTU") {
+	const start = "# linkcap lines, format 4\n# leaves out: IFLA_MTU, counters\nRTM_NEWLINK flags 0x5 (REQUEST | ACK)\n"
+	if err != nil || !strings.HasPrefix(string(text), start) || strings.Contains(string(text), "\n  IFLA_MTU") {
 		t.Errorf("%v %q", err, text)
 	}
 	Golden(t, makeLink(2), path)

@@ -1,12 +1,11 @@
 """`python -m linkcap`: captures of files or of standard input, with the statuses of the programs linkcap and linkshow."""
 import argparse
-import json
 import sys
 from typing import Any, BinaryIO, Dict, Iterator, List, NoReturn, Optional
 
 import linkcap
 
-from . import _native, lines_json
+from . import _native
 from ._types import type_numbers
 
 LEGAL, DIFFERENT, FAULT, USAGE = 0, 1, 2, 3
@@ -69,36 +68,27 @@ def _open(name: str) -> BinaryIO:
 def _options(args: Any) -> Dict[str, Any]:
     """The options of `lines`."""
     return {"numbers": not args.without_numbers, "only": args.only, "link": args.link, "without": args.without,
-            "offsets": args.offsets, "keep_going": args.keep_going}
+            "offsets": args.offsets, "keep_going": args.keep_going, "json": args.command == "json"}
 
 
 def _lines(args: Any, file: BinaryIO) -> Iterator[bytes]:
-    """The lines of one file, piece by piece."""
+    """The lines of one file, or those of JSON, piece by piece."""
     reader = linkcap.LineReader(args.limit, **_options(args))
     yield from (lines.encode() for lines in reader.read_file(file))
 
 
-def _json(messages: List[Dict[str, Any]]) -> Iterator[bytes]:
-    """Each message as JSON, in a line."""
-    return (json.dumps(message).encode() + b"\n" for message in messages)
-
-
 def _written(args: Any, fault: linkcap.Fault) -> Iterator[bytes]:
     """The output of a command before a fault, if it wasn't written yet."""
-    if args.command in ("norm", "lines"):
+    if args.command in ("norm", "lines", "json"):
         yield fault.written
-    elif args.command == "json":
-        yield from _json(list(lines_json.to_json(fault.written.decode("ascii").splitlines())))
 
 
 def _output(args: Any, file: BinaryIO) -> Iterator[bytes]:
     """The output of a command over one file, piece by piece."""
     if args.command == "norm":
         yield from linkcap.Reader(args.limit).read_file(file)
-    elif args.command == "lines":
+    elif args.command in ("lines", "json"):
         yield from _lines(args, file)
-    elif args.command == "json":
-        yield from _json(linkcap.to_json(file.read(), args.limit, **_options(args)))
     elif args.command == "messages":
         for message in linkcap.messages(file.read(), args.limit):
             yield f"{message.offset} {message.length} {message.type}\n".encode()

@@ -2,11 +2,12 @@
 import array
 import ctypes
 import enum
+import json as json_module
 import operator
 import struct
 from typing import Any, Callable, Dict, Iterable, List, NamedTuple, Optional, SupportsIndex, Tuple, Union
 
-from . import _fault, _native, lines_json
+from . import _fault, _native
 from ._fault import Refusal, failure
 from ._native import BorrowedBytes, Capture, address_of
 from ._types import MessageType, type_numbers
@@ -159,11 +160,12 @@ class Selection:
     """What the keywords of `lines` select, as arguments of the calls that write lines."""
 
     def __init__(self, numbers: bool, only: Optional[Iterable[MessageType]], link: Union[str, int, None], without: Iterable[str],
-                 offsets: bool, keep_going: bool) -> None:
+                 offsets: bool, keep_going: bool, json: bool) -> None:
         types, names, word = type_array(only), _excluded(without), _word(link)
         flags = 0 if numbers else _native.WITHOUT_NUMBERS
         flags |= _native.OFFSETS if offsets else 0
         flags |= _native.KEEP_GOING if keep_going else 0
+        flags |= _native.JSON if json else 0
         #: whether the calls that take types as numbers suffice; the others take at most 32
         self.is_plain = flags <= _native.WITHOUT_NUMBERS and not names and not word
         #: the arguments, some of them addresses, which are valid as long as this exists
@@ -180,7 +182,7 @@ class Selection:
 
 def lines(capture: Capture, limit: SupportsIndex = DEFAULT_LIMIT, *, numbers: bool = True,
           only: Optional[Iterable[MessageType]] = None, link: Union[str, int, None] = None, without: Iterable[str] = (),
-          offsets: bool = False, keep_going: bool = False) -> str:
+          offsets: bool = False, keep_going: bool = False, json: bool = False) -> str:
     """The lines of a legal capture, as `linkshow` writes them; else raises its first `Fault`.
 
     Without `numbers` they lack sequence and port numbers, which change from run to run. With `only` they are only those of
@@ -190,7 +192,8 @@ def lines(capture: Capture, limit: SupportsIndex = DEFAULT_LIMIT, *, numbers: bo
     - `without`: no attributes of these names, and none of the groups "numbers", "counters" and "indexes";
     - `offsets`: each message's first line ends with its offset in the capture, in bytes;
     - `keep_going`: messages with a fault in their body are shown too, and those after them: the first `Fault` is raised
-      nevertheless, and its `written` has all these lines.
+      nevertheless, and its `written` has all these lines;
+    - `json`: each message is an object of JSON, in a line of its own.
 
     With one of these options `only` has at most 32 types; `without` has at most 32 names. Raises ValueError for a name that
     isn't known.
@@ -198,7 +201,7 @@ def lines(capture: Capture, limit: SupportsIndex = DEFAULT_LIMIT, *, numbers: bo
     >>> lines(bytes.fromhex("10000000030002000100000000000000"), without=["numbers"], offsets=True).splitlines()
     ['NLMSG_DONE flags 0x2 (MULTI) offset 0', '  code 0']
     """
-    most, selection = checked_limit(limit), Selection(numbers, only, link, without, offsets, keep_going)
+    most, selection = checked_limit(limit), Selection(numbers, only, link, without, offsets, keep_going, json)
     name = "linkcap_show_with" if selection.is_plain else "linkcap_show_selected"
     text = _write(_native.call(name), capture, most, lambda size: 4 * size + 256, *selection.arguments)
     return text.decode("ascii")
@@ -261,12 +264,13 @@ def quirks(capture: Capture, limit: SupportsIndex = DEFAULT_LIMIT) -> List[Quirk
 def to_json(capture: Capture, limit: SupportsIndex = DEFAULT_LIMIT, **options: Any) -> List[Dict[str, Any]]:
     """The messages of a legal capture as data, a dictionary each that `json.dumps` writes; else raises its first `Fault`.
 
-    The keys are those of the program linkjson; the options are those of `lines`.
+    The keys are those of the program linkjson; the options are those of `lines`. The fault's `written` has a line of JSON for
+    each message before it. For a long capture, `LineReader` with `json` returns these lines in pieces.
 
     >>> to_json(bytes.fromhex("10000000030002000000000000000000"), numbers=False)[0]["type"]
     'NLMSG_DONE'
     """
-    return list(lines_json.to_json(lines(capture, limit, **options).splitlines()))
+    return [json_module.loads(line) for line in lines(capture, limit, json=True, **options).splitlines()]
 
 
 def why(capture: Capture, limit: SupportsIndex = DEFAULT_LIMIT) -> Optional[Refusal]:

@@ -32,7 +32,7 @@ MIN_LIMIT, DEFAULT_LIMIT = 16, 1048576
 FAULT_TEXT = 127
 OK, DIFFERENT, FAULT, WRONG, NO_ROOM, NO_MEMORY, NONE = range(7)
 #: the flags of linkcap_show_selected and linkcap_show_selected_some
-WITHOUT_NUMBERS, OFFSETS, KEEP_GOING = 1, 2, 4
+WITHOUT_NUMBERS, OFFSETS, KEEP_GOING, JSON = 1, 2, 4, 8
 
 
 class FaultStruct(ctypes.Structure):

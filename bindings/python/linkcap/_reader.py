@@ -196,9 +196,9 @@ class LineReader(_Pieces[str]):
 
     def __init__(self, limit: SupportsIndex = DEFAULT_LIMIT, *, numbers: bool = True,
                  only: Optional[Iterable[MessageType]] = None, link: Union[str, int, None] = None, without: Iterable[str] = (),
-                 offsets: bool = False, keep_going: bool = False) -> None:
+                 offsets: bool = False, keep_going: bool = False, json: bool = False) -> None:
         super().__init__(limit)
-        self._selection = Selection(numbers, only, link, without, offsets, keep_going)
+        self._selection = Selection(numbers, only, link, without, offsets, keep_going, json)
         self._call = "linkcap_show_some" if self._selection.is_plain else "linkcap_show_selected_some"
 
     def _arguments(self, offset: int) -> Tuple[Any, ...]:

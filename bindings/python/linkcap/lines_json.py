@@ -1,4 +1,4 @@
-"""Lines of linkshow as data: `to_json` makes one dictionary of each message, which `json.dumps` writes.
+"""Lines of linkshow as data: `to_json` makes one dictionary of each message, which `dumps` writes as linkshow does.
 
     {"type": "RTM_NEWADDR", "flags": {"value": 2, "flags": ["MULTI"]}, "seq": 7, "port": 1,
      "header": {"struct": "ifaddrmsg", "family": {"value": 2, "text": "AF_INET"}, "prefixlen": 24, ..},
@@ -7,6 +7,7 @@
 Nothing of the lines is lost, and numbers are numbers. linkjson(1) describes the keys. This file imports no other file of the
 package, since the scripts linkjson, linkdiff and linkgold are installed with a copy of it.
 """
+import json
 import re
 from typing import Any, Dict, Iterable, Iterator, List, Optional
 
@@ -38,6 +39,9 @@ _ESCAPE = re.compile(r"\\(?:x([0-9a-f]{2})|(.))")
 _ASSIGNMENT = re.compile(r'[^\s="(]+=')
 _ERROR = re.compile(r"(E[A-Z0-9]+|error [0-9]+)(?: \((.*)\))?")
 _INDENT = 2
+# In texts of JSON a backslash and the character after it, and the escapes that linkshow writes in place of short ones.
+_JSON_ESCAPE = re.compile(r"\\(.)")
+_LONG_ESCAPES = {"b": "\\u0008", "t": "\\u0009", "n": "\\u000a", "f": "\\u000c", "r": "\\u000d"}
 
 
 class LineError(ValueError):
@@ -65,6 +69,15 @@ class _Tokens:
     def rest(self) -> List[str]:
         rest, self._at = self._words[self._at:], len(self._words)
         return rest
+
+
+def dumps(message: Json) -> str:
+    """A message as JSON, byte for byte as `linkshow --json` writes it.
+
+    >>> dumps({"value": "a\\b\\x01"})
+    '{"value": "a\\\\u0008\\\\u0001"}'
+    """
+    return _JSON_ESCAPE.sub(lambda match: _LONG_ESCAPES.get(match[1], match[0]), json.dumps(message))
 
 
 def _unescape(escape: "re.Match[str]") -> str:

@@ -13,6 +13,7 @@ import unittest
 from typing import Any, Callable, Dict, List, Optional, Tuple
 
 import linkcap
+from linkcap import lines_json
 from support import captures, cases, clear_numbers, deep_captures, header_constants, is_legal, means_the_same, results, sample, selected_lines
 
 Result = Tuple[bytes, Optional[linkcap.Fault]]
@@ -146,6 +147,22 @@ class Vectors(unittest.TestCase):
             except linkcap.Fault as fault:
                 texts.append(f"{fault.written.decode()}{fault.words}\n")
             self.assertTrue("".join(texts) == result, case[:200])
+
+    def test_json(self) -> None:
+        """The library's JSON is what `lines_json` makes of lines: whole, in pieces, with offsets, and before a fault."""
+        choices: List[Dict[str, Any]] = [{}, {"numbers": False}, {"offsets": True}, {"without": ["IFLA_IFNAME"]}]
+        for name in ("get-veth", "lo-request", "notify-vrf", "req-veth"):
+            capture = sample(name + ".bin")
+            for options in choices:
+                expected = list(lines_json.to_json(linkcap.lines(capture, **options).splitlines()))
+                self.assertTrue(linkcap.to_json(capture, **options) == expected)
+                reader = linkcap.LineReader(json=True, **options)
+                text = "".join(reader.read_file(io.BytesIO(capture), 100))
+                self.assertTrue(text == "".join(lines_json.dumps(message) + "\n" for message in expected))
+        with self.assertRaises(linkcap.Fault) as raised:
+            linkcap.to_json(DONE + REFUSED)
+        written = raised.exception.written.decode("ascii")
+        self.assertEqual([json.loads(line)["type"] for line in written.splitlines()], ["NLMSG_DONE"])
 
     def test_deep_captures(self) -> None:
         """Peers in peers and next hops in next hops, as deep as 65 kB allow, in a thread with a stack of 256 KiB."""

@@ -74,8 +74,8 @@ fn equal_and_different() {
     golden(&renumbered, &path);
     let name = path.display();
     let expected = format!(
-        "linkcap: the capture isn't that of the golden file\n--- {name}\n+++ this capture\n@@ -1,4 +1,4 @@\n RTM_NEWLINK flags 0x5 (REQUEST \
-         | ACK)\n   ifinfomsg family 0 (AF_UNSPEC) type 0 (netrom) index 0 flags 0x0 change 0x0\n-  IFLA_MTU 1281\n+  IFLA_MTU \
+        "linkcap: the capture isn't that of the golden file\n--- {name}\n+++ this capture\n@@ -1,4 +1,4 @@\n RTM_NEWLINK flags 0x5 \
+         (REQUEST | ACK)\n   ifinfomsg family 0 (AF_UNSPEC) type 0 (netrom) index 0 flags 0x0 change 0x0\n-  IFLA_MTU 1281\n+  IFLA_MTU \
          1282\n   IFLA_PROMISCUITY 0\n"
     );
     assert_eq!(default_failure(&new_link(2), &path), expected);

@@ -1,8 +1,9 @@
 //! The lines of normal texts.
 
-ghost use Rattle.std.specs.Prelude.{◌≡◌, ◌<◌, ◌≤◌, ◌^◌, ◌++◌, length, drop, OnOk};
+ghost use Rattle.std.specs.Prelude.{◌≡◌, ◌<◌, ◌≤◌, ◌^◌, length, drop};
 ghost use Rattle.netlink_packet_core_grammar.specs.Attributes.{nla_align};
 ghost use Rattle.link_lines.specs.Options.{choice_of};
+ghost use Rattle.link_lines_texts.specs.AppendsWith.{AppendsWith};
 ghost use Rattle.link_lines_texts.specs.Captures.{shown_lines, text_lines};
 
 use crate::options::LineOptions;
@@ -27,8 +28,8 @@ fn after_padding(bytes: &[u8], size: usize) -> &[u8]
 /// Appends the lines of a frame, given by its bytes without the padding, if its type is shown.
 fn push_shown(frame: &[u8], options: LineOptions<'_>, out: &mut Vec<u8>) -> Result<(), AllocError>
     requires { 16 ≤ length frame.now }
-    ensures ok { OnOk result (out.new.items
-        ≡ out.old.items ++ shown_lines (choice_of options.entry) frame.now) }
+    ensures { AppendsWith (length frame.now) out.old out.new result
+        (shown_lines (choice_of options.entry) frame.now) }
 {
     if !options.shows(NetlinkBuffer::new(frame).message_type()) {
         return Ok(());
@@ -41,14 +42,15 @@ fn push_shown(frame: &[u8], options: LineOptions<'_>, out: &mut Vec<u8>) -> Resu
 ///
 /// # Errors
 ///
-/// `AllocError` if `out` can't grow; it may then have a part of the lines.
+/// `AllocError` if `out` lacked capacity for the lines and as many bytes as `texts` has, and can't
+/// grow; what it held stays, and a part of the lines may follow.
 pub fn push_lines(
     texts: &[u8],
     options: LineOptions<'_>,
     out: &mut Vec<u8>,
 ) -> Result<(), AllocError>
-    ensures ok { OnOk result (out.new.items
-        ≡ out.old.items ++ text_lines (choice_of options.entry) texts.now) }
+    ensures { AppendsWith (length texts.now) out.old out.new result
+        (text_lines (choice_of options.entry) texts.now) }
 {
     lines_unfold_by_frames();
     let mut rest = texts;

@@ -1,6 +1,7 @@
 //! Lines of bytes.
 
 ghost use Rattle.std.specs.Prelude.{◌≡◌, ◌≤◌, ◌++◌, codes, drop, length, OnOk};
+ghost use Rattle.link_lines_values.specs.Appends.{Appends};
 ghost use Rattle.link_lines_parts.specs.BytesLines.{bytes_line};
 
 use link_lines_values::push_bytes;
@@ -11,10 +12,11 @@ use std::alloc::AllocError;
 ///
 /// # Errors
 ///
-/// `AllocError` if `out` can't grow; it may then have a part of the line.
+/// `AllocError` if `out` lacked capacity for the line and can't grow; what it held stays, and a
+/// part of the line may follow.
 #[tactic(auto, unfolding(crate::specs::BytesLines::bytes_line))]
 pub fn push_bytes_line(name: &[u8], bytes: &[u8], out: &mut Vec<u8>) -> Result<(), AllocError>
-    ensures ok { OnOk result (out.new.items ≡ out.old.items ++ bytes_line name.now bytes.now) }
+    ensures { Appends out.old out.new result (bytes_line name.now bytes.now) }
 {
     if bytes.is_empty() {
         return Ok(());
@@ -30,10 +32,11 @@ pub fn push_bytes_line(name: &[u8], bytes: &[u8], out: &mut Vec<u8>) -> Result<(
 ///
 /// # Errors
 ///
-/// `AllocError` if `out` can't grow; it may then have a part of the line.
+/// `AllocError` if `out` lacked capacity for the line and can't grow; what it held stays, and a
+/// part of the line may follow.
 pub fn push_refused_body(frame: &[u8], out: &mut Vec<u8>) -> Result<(), AllocError>
     requires { 16 ≤ length frame.now }
-    ensures ok { OnOk result (out.new.items ≡ out.old.items ++ bytes_line (codes "body") (drop 16 frame.now)) }
+    ensures { Appends out.old out.new result (bytes_line (codes "body") (drop 16 frame.now)) }
 {
     push_bytes_line(b"body", &frame[NETLINK_HEADER_LEN..], out)
 }

@@ -1,6 +1,7 @@
 //! The kinds of attributes in lists as words.
 
 ghost use Rattle.std.specs.Prelude.{◌≡◌, ◌%◌, ◌++◌, OnOk};
+ghost use Rattle.link_lines_values.specs.Appends.{Appends};
 ghost use Rattle.link_lines_parts.specs.KindNames.{has_byte_order_bit, has_nested_bit, index_name};
 ghost use Rattle.link_lines_parts.specs.KindNames.{name_or_index, nested_word};
 
@@ -33,10 +34,11 @@ pub fn has_byte_order_bit(kind: u16) -> bool
 ///
 /// # Errors
 ///
-/// `AllocError` if `out` can't grow; it may then have a part of the text.
+/// `AllocError` if `out` lacked capacity for the text and can't grow; what it held stays, and a
+/// part of the text may follow.
 pub fn push_kind_name(name: Option<&[u8]>, kind: u16, out: &mut Vec<u8>) -> Result<(), AllocError>
-    ensures ok { OnOk result (out.new.items ≡ out.old.items
-        ++ (name_or_index (λ b. b.now) (kind % 0x4000) name.entry ++ nested_word kind)) }
+    ensures { Appends out.old out.new result
+        (name_or_index (λ b. b.now) (kind % 0x4000) name.entry ++ nested_word kind) }
 {
     match name {
         Some(name) => out.extend_from_slice(name)?,
@@ -50,7 +52,7 @@ pub fn push_kind_name(name: Option<&[u8]>, kind: u16, out: &mut Vec<u8>) -> Resu
 
 /// Appends an index in brackets.
 fn push_index_name(index: u16, out: &mut Vec<u8>) -> Result<(), AllocError>
-    ensures ok { OnOk result (out.new.items ≡ out.old.items ++ index_name index) }
+    ensures { Appends out.old out.new result (index_name index) }
 {
     out.extend_from_slice(b"[")?;
     push_decimal(u64::from(index), out)?;

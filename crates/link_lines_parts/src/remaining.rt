@@ -1,6 +1,7 @@
 //! The lines of a message without some attributes and indexes.
 
 ghost use Rattle.std.specs.Prelude.{◌≡◌, ◌++◌, ◌↔◌, false, IsTrue, OnOk};
+ghost use Rattle.link_lines_values.specs.Appends.{Appends};
 ghost use Rattle.link_lines_parts.specs.Lines.{words_of};
 ghost use Rattle.link_lines_parts.specs.Remaining.{is_header, is_index_field, is_omitted, is_omitted_name, line_text};
 ghost use Rattle.link_lines_parts.specs.Remaining.{nothing_omitted, omitted_level, omitted_of, remaining_line};
@@ -78,7 +79,7 @@ pub fn is_index_field(word: &[u8]) -> bool
 
 /// Appends a line without the fields with an index.
 fn push_without_index_fields(line: &[u8], out: &mut Vec<u8>) -> Result<(), AllocError>
-    ensures ok { OnOk result (out.new.items ≡ out.old.items ++ without_index_fields false (words_of line.now)) }
+    ensures { Appends out.old out.new result (without_index_fields false (words_of line.now)) }
 {
     let mut rest = line;
     let mut after_name = false;
@@ -99,7 +100,7 @@ fn push_remaining_line(
     line: &[u8],
     out: &mut Vec<u8>,
 ) -> Result<(), AllocError>
-    ensures ok { OnOk result (out.new.items ≡ out.old.items ++ remaining_line (omitted_of omission.entry) line.now) }
+    ensures { Appends out.old out.new result (remaining_line (omitted_of omission.entry) line.now) }
 {
     if omission.indexes && is_header(line) {
         return push_without_index_fields(line, out);
@@ -115,7 +116,7 @@ fn push_line(
     line: &[u8],
     out: &mut Vec<u8>,
 ) -> Result<(), AllocError>
-    ensures ok { OnOk result (out.new.items ≡ out.old.items ++ line_text (omitted_of omission.entry) omitted line.now) }
+    ensures { Appends out.old out.new result (line_text (omitted_of omission.entry) omitted line.now) }
 {
     match omitted {
         Some(_) => Ok(()),
@@ -127,13 +128,14 @@ fn push_line(
 ///
 /// # Errors
 ///
-/// `AllocError` if `out` can't grow; it may then have a part of the lines.
+/// `AllocError` if `out` lacked capacity for the lines and can't grow; what it held stays, and a
+/// part of the lines may follow.
 pub fn push_remaining(
     lines: &[u8],
     omission: Omission<'_>,
     out: &mut Vec<u8>,
 ) -> Result<(), AllocError>
-    ensures ok { OnOk result (out.new.items ≡ out.old.items ++ remaining_lines (omitted_of omission.entry) lines.now) }
+    ensures { Appends out.old out.new result (remaining_lines (omitted_of omission.entry) lines.now) }
 {
     let mut rest = lines;
     let mut before = None;

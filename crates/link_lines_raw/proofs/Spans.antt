@@ -169,13 +169,12 @@ unfolding lines_text
 first_line_text l a = refl
 
 -- What follows a name, the line of a head, and the lines of a list.
-pub held_text : (out text : List ℕ) (level : ℕ) (o : Option (List ℕ)) (l : Option (Listed × List ℕ)) (a b : List ℕ) → a ≡ out ++ (text ++ 10 ∷ head_text level o) → b ≡ a ++ lines_text (inside_lines level l) →
-    b ≡ out ++ (text ++ 10 ∷ lines_text (head_line level o ++ inside_lines level l))
-held_text out text level o l a b h k =
+pub held_text : (text : List ℕ) (level : ℕ) (o : Option (List ℕ)) (l : Option (Listed × List ℕ)) (a b : List ℕ) → a ≡ text ++ 10 ∷ head_text level o → b ≡ a ++ lines_text (inside_lines level l) →
+    b ≡ text ++ 10 ∷ lines_text (head_line level o ++ inside_lines level l)
+held_text text level o l a b h k =
     let head = head_text level o in
     let list = lines_text (inside_lines level l) in
-    k ∙ ap (λ z. z ++ list) h ∙ append_assoc out (text ++ 10 ∷ head) list ∙ ap (λ z. out ++ z) (append_assoc text (10 ∷ head) list)
-    ∙ ap (λ z. out ++ (text ++ 10 ∷ z)) (sym (below_is_text level o l))
+    k ∙ ap (λ z. z ++ list) h ∙ append_assoc text (10 ∷ head) list ∙ ap (λ z. text ++ 10 ∷ z) (sym (below_is_text level o l))
 
 -- Nothing is listed.
 pub nothing_text : (a : List ℕ) (level : ℕ) (l : Option (Listed × List ℕ)) → l ≡ None → a ≡ a ++ lines_text (inside_lines level l)

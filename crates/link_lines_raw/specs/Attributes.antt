@@ -1,11 +1,10 @@
 -- Raw attributes: the row of a kind, whole lists, and what of a payload is shown.
-use Rattle.std.specs.Prelude.{ℕ, zero, suc, ◌+◌, ◌-◌, ◌/◌, ◌%◌, ◌==◌, ◌&&◌, not, nat_le, Bool, true, false, cond, List}
+use Rattle.std.specs.Prelude.{ℕ, zero, suc, ◌+◌, ◌-◌, ◌%◌, ◌==◌, ◌&&◌, not, nat_le, Bool, true, false, cond, List}
 use Rattle.std.specs.Prelude.{[], ◌∷◌, ◌++◌, length, take, drop, Option, Some, None, codes, option_map}
-use Rattle.std.specs.Fmt.{decimal}
-use Rattle.netlink_packet_core_grammar.specs.Attributes.{Attribute, attribute_length, first_attribute, nla_align}
+use Rattle.netlink_packet_core_grammar.specs.Attributes.{Attribute, first_attribute}
 use Rattle.netlink_packet_core_grammar.specs.Numbers.{u16_at}
 use Rattle.link_lines_values.specs.declared.exact.ExactBy.TheVariants as X
-use Rattle.link_lines_values.specs.Bytes.{bytes_text, is_zero}
+use Rattle.link_lines_values.specs.Bytes.{bytes_text}
 use Rattle.link_lines_values.specs.Digits.{four_digits}
 use Rattle.link_lines_values.specs.DenseRows.{find}
 use Rattle.link_lines_values.specs.Exact.{raw_value}

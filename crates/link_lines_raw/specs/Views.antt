@@ -1,5 +1,5 @@
 -- The definitions that values in code represent.
-use Rattle.std.specs.Prelude.{ℕ, List, Option, Some, None}
+use Rattle.std.specs.Prelude.{ℕ, List, Option}
 use Rattle.std.specs.Borrow.{Bor}
 use Rattle.link_lines_values.specs.declared.fields.Layout.{Layout}
 use Rattle.link_lines_parts.specs.KindNames.{name_or_index}

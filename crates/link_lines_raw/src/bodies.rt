@@ -1,6 +1,7 @@
 //! Bodies of messages other than links: the record at their start, and attributes.
 
 ghost use Rattle.std.specs.Prelude.{◌≡◌, ◌<◌, ◌+◌, ◌^◌, ◌++◌, true, length, option_map, IfOk, OnOk};
+ghost use Rattle.link_lines_values.specs.Appends.{Appends};
 ghost use Rattle.link_lines_raw.specs.Bodies.{body_lines, first_fitting, fits_body, fits_family};
 ghost use Rattle.link_lines_raw.specs.Bodies.{fits_request, has_lines, header_line, is_general, is_list_of};
 ghost use Rattle.link_lines_raw.specs.Bodies.{is_record_and_list, list_lines_of, record_and_list, row_lines};
@@ -206,7 +207,7 @@ fn is_record_and_list(line: RecordLine, table: Option<RawTable>, bytes: &[u8]) -
 
 /// Appends the lines of attributes after a record, if there is a table of them.
 fn push_list_of(table: Option<RawTable>, list: &[u8], out: &mut Vec<u8>) -> Result<(), AllocError>
-    ensures ok { OnOk result (out.new.items ≡ out.old.items ++ lines_text (list_lines_of table list.now)) }
+    ensures { Appends out.old out.new result (lines_text (list_lines_of table list.now)) }
 {
     match table {
         Some(table) => push_listed(1, ListedBy::Attributes(table, list), list, out),
@@ -222,8 +223,8 @@ fn push_record_and_list(
     bytes: &[u8],
     out: &mut Vec<u8>,
 ) -> Result<bool, AllocError>
-    ensures ok { OnOk result (out.new.items ≡ out.old.items ++ text_or_none (record_and_list
-        (record_line_of (λ b. b.now) line.entry) table bytes.now)) }
+    ensures appends { Appends out.old out.new result
+        (text_or_none (record_and_list (record_line_of (λ b. b.now) line.entry) table bytes.now)) }
     ensures shown { IfOk result (λ is_shown. is_shown ≡ has_lines (record_and_list
         (record_line_of (λ b. b.now) line.entry) table bytes.now)) }
 {
@@ -249,7 +250,8 @@ fn is_general(message_type: u16, line: RecordLine, body: &[u8]) -> bool
 ///
 /// # Errors
 ///
-/// `AllocError` if `out` can't grow; it may then have a part of the lines.
+/// `AllocError` if `out` lacked capacity for the lines and can't grow; what it held stays, and a
+/// part of the lines may follow.
 #[tactic(auto, unfolding(crate::specs::Bodies::body_lines))]
 pub fn push_body(
     message_type: u16,
@@ -257,8 +259,8 @@ pub fn push_body(
     body: &[u8],
     out: &mut Vec<u8>,
 ) -> Result<bool, AllocError>
-    ensures ok { OnOk result (out.new.items ≡ out.old.items
-        ++ text_or_none (body_lines message_type is_request body.now)) }
+    ensures appends { Appends out.old out.new result
+        (text_or_none (body_lines message_type is_request body.now)) }
     ensures shown { IfOk result (λ is_shown. is_shown ≡ has_lines (body_lines message_type is_request body.now)) }
 {
     let Some(row) = first_fitting(BODIES, message_type, is_request, body) else {

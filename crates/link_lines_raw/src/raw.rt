@@ -1,6 +1,7 @@
 //! The rows of raw attributes by table and kind, and their lines.
 
 ghost use Rattle.std.specs.Prelude.{◌≡◌, ◌≤◌, ◌<◌, ◌+◌, ◌%◌, ◌^◌, ◌++◌, ◌∷◌, [], true, length, nat_le, option_map, IfOk, OnOk};
+ghost use Rattle.link_lines_values.specs.Appends.{Appends};
 ghost use Rattle.link_lines_parts.specs.Levels.{deepest_level};
 ghost use Rattle.link_interpreter.specs.Sameness.{attribute_of};
 ghost use Rattle.link_lines_values.specs.DenseRows.{are_dense, find};
@@ -173,8 +174,8 @@ fn is_shown(level: usize, raw: &Raw, list: &[u8], payload: &[u8]) -> bool
 /// Appends the word of a record and its fields.
 fn push_record_words(line: RecordLine, bytes: &[u8], out: &mut Vec<u8>) -> Result<(), AllocError>
     requires { length bytes.now ≡ total_size (layout_fields line.1) }
-    ensures ok { OnOk result (out.new.items ≡ out.old.items
-        ++ record_words (record_line_of (λ b. b.now) line.entry) bytes.now) }
+    ensures { Appends out.old out.new result
+        (record_words (record_line_of (λ b. b.now) line.entry) bytes.now) }
 {
     out.extend_from_slice(line.0)?;
     push_header_fields(line.1.fields(), bytes, out)
@@ -188,10 +189,8 @@ pub(crate) fn push_record_line(
     out: &mut Vec<u8>,
 ) -> Result<(), AllocError>
     requires { length bytes.now ≡ total_size (layout_fields line.1) }
-    ensures ok { OnOk result (out.new.items ≡ out.old.items ++ line_text (
-      level,
-      record_words (record_line_of (λ b. b.now) line.entry) bytes.now,
-    )) }
+    ensures { Appends out.old out.new result
+        (line_text (level, record_words (record_line_of (λ b. b.now) line.entry) bytes.now)) }
 {
     push_indent(level, out)?;
     push_record_words(line, bytes, out)?;
@@ -208,8 +207,8 @@ fn open_lines<'a>(
     out: &mut Vec<u8>,
 ) -> Result<Option<(Listed<'a>, &'a [u8])>, AllocError>
     requires { holds_lines (raw_of (λ b. b.now) raw.now) list.now payload.now ≡ true }
-    ensures ok { OnOk result (out.new.items ≡ out.old.items
-        ++ head_text level (head_of (raw_of (λ b. b.now) raw.now) payload.now)) }
+    ensures appends { Appends out.old out.new result
+        (head_text level (head_of (raw_of (λ b. b.now) raw.now) payload.now)) }
     ensures list { IfOk result (λ found. option_map (listing (λ b. b.now)) found
         ≡ listed_in (raw_of (λ b. b.now) raw.now) list.now payload.now) }
 {
@@ -232,7 +231,7 @@ fn open_lines<'a>(
 
 /// Appends the word `bytes` and the bytes in hex, and ends the line.
 fn push_plain_bytes(bytes: &[u8], out: &mut Vec<u8>) -> Result<(), AllocError>
-    ensures ok { OnOk result (out.new.items ≡ out.old.items ++ (plain_bytes bytes.now ++ 10 ∷ [])) }
+    ensures { Appends out.old out.new result (plain_bytes bytes.now ++ 10 ∷ []) }
 {
     out.extend_from_slice(b" bytes")?;
     push_bytes(bytes, out)?;
@@ -249,9 +248,9 @@ pub(crate) fn push_after_name<'a>(
     payload: &'a [u8],
     out: &mut Vec<u8>,
 ) -> Result<Option<(Listed<'a>, &'a [u8])>, AllocError>
-    ensures ok { OnOk result (out.new.items ≡ out.old.items
-        ++ (after_name level (raw_of (λ b. b.now) raw.now) list.now payload.now
-        ++ 10 ∷ head_text level (shown_head level (raw_of (λ b. b.now) raw.now) list.now payload.now))) }
+    ensures appends { Appends out.old out.new result
+        (after_name level (raw_of (λ b. b.now) raw.now) list.now payload.now
+        ++ 10 ∷ head_text level (shown_head level (raw_of (λ b. b.now) raw.now) list.now payload.now)) }
     ensures list { IfOk result (λ found. option_map (listing (λ b. b.now)) found
         ≡ shown_list level (raw_of (λ b. b.now) raw.now) list.now payload.now) }
 {
@@ -270,8 +269,7 @@ pub(crate) fn push_after_name<'a>(
 
 /// Appends a raw attribute without a name, and ends the line: its kind as a number, and its bytes.
 fn push_unnamed(kind: u16, payload: &[u8], out: &mut Vec<u8>) -> Result<(), AllocError>
-    ensures ok { OnOk result (out.new.items ≡ out.old.items
-        ++ (unnamed_text kind payload.now ++ 10 ∷ [])) }
+    ensures { Appends out.old out.new result (unnamed_text kind payload.now ++ 10 ∷ []) }
 {
     out.extend_from_slice(b"kind ")?;
     push_four_digits(kind, out)?;
@@ -289,8 +287,10 @@ pub(crate) fn push_attribute<'a>(
     attribute: Attribute<'a>,
     out: &mut Vec<u8>,
 ) -> Result<Option<(Listed<'a>, &'a [u8])>, AllocError>
-    ensures ok { OnOk result (out.new.items ≡ out.old.items ++ (raw_text level table list.now (attribute_of attribute.entry)
-        ++ 10 ∷ head_text level (named_head level (raw_row table attribute.entry.kind) list.now (attribute_of attribute.entry)))) }
+    ensures appends { Appends out.old out.new result
+        (raw_text level table list.now (attribute_of attribute.entry)
+        ++ 10 ∷ head_text level (named_head level (raw_row table attribute.entry.kind) list.now
+        (attribute_of attribute.entry))) }
     ensures list { IfOk result (λ found. option_map (listing (λ b. b.now)) found
         ≡ named_list level (raw_row table attribute.entry.kind) list.now (attribute_of attribute.entry)) }
 {
@@ -317,8 +317,8 @@ fn push_part<'a>(
 ) -> Result<Option<(Listed<'a>, &'a [u8])>, AllocError>
     requires part { is_part (listed_of (λ b. b.now) listed) part.payload.now ≡ true }
     requires level { level < 2 ^ 63 }
-    ensures ok { OnOk result (out.new.items ≡ out.old.items ++ part_with_head level
-        (listed_of (λ b. b.now) listed.entry) (attribute_of part.entry)) }
+    ensures appends { Appends out.old out.new result
+        (part_with_head level (listed_of (λ b. b.now) listed.entry) (attribute_of part.entry)) }
     ensures list { IfOk result (λ found. option_map (listing (λ b. b.now)) found
         ≡ part_list level (listed_of (λ b. b.now) listed.entry) (attribute_of part.entry)) }
 {
@@ -348,8 +348,8 @@ pub(crate) fn push_listed(
     out: &mut Vec<u8>,
 ) -> Result<(), AllocError>
     requires { level + levels_of (listed_of (λ b. b.now) listed) ≤ deepest_level }
-    ensures ok { OnOk result (out.new.items ≡ out.old.items ++ lines_text (listed_lines level
-        (listed_of (λ b. b.now) listed.entry) bytes.now)) }
+    ensures { Appends out.old out.new result
+        (lines_text (listed_lines level (listed_of (λ b. b.now) listed.entry) bytes.now)) }
 {
     let mut rest = bytes;
     while let Some((part, after)) = first_part(listed, rest) {
@@ -367,7 +367,8 @@ pub(crate) fn push_listed(
 ///
 /// # Errors
 ///
-/// `AllocError` if `out` can't grow; it may then have a part of the lines.
+/// `AllocError` if `out` lacked capacity for the lines and can't grow; what it held stays, and a
+/// part of the lines may follow.
 #[tactic(auto, unfolding(crate::specs::Lists::part_text, crate::specs::Lists::part_head, crate::specs::Lists::part_list))]
 pub fn push_raw(
     level: usize,
@@ -375,8 +376,9 @@ pub fn push_raw(
     attribute: Attribute<'_>,
     out: &mut Vec<u8>,
 ) -> Result<(), AllocError>
-    ensures ok { OnOk result (out.new.items ≡ out.old.items ++ (raw_text level table [] (attribute_of attribute.entry)
-        ++ 10 ∷ lines_text (raw_below level table (attribute_of attribute.entry)))) }
+    ensures { Appends out.old out.new result
+        (raw_text level table [] (attribute_of attribute.entry)
+        ++ 10 ∷ lines_text (raw_below level table (attribute_of attribute.entry))) }
 {
     match push_attribute(level, table, &[], attribute, out)? {
         Some((listed, list)) => push_listed(level, listed, list, out),
@@ -389,16 +391,17 @@ pub fn push_raw(
 ///
 /// # Errors
 ///
-/// `AllocError` if `out` can't grow; it may then have a part of the lines.
+/// `AllocError` if `out` lacked capacity for the lines and can't grow; what it held stays, and a
+/// part of the lines may follow.
 pub fn push_held(
     level: usize,
     raw: &Raw,
     payload: &[u8],
     out: &mut Vec<u8>,
 ) -> Result<(), AllocError>
-    ensures ok { OnOk result (out.new.items ≡ out.old.items
-        ++ (after_name level (raw_of (λ b. b.now) raw.now) [] payload.now
-        ++ 10 ∷ lines_text (held_lines level (raw_of (λ b. b.now) raw.now) payload.now))) }
+    ensures { Appends out.old out.new result
+        (after_name level (raw_of (λ b. b.now) raw.now) [] payload.now
+        ++ 10 ∷ lines_text (held_lines level (raw_of (λ b. b.now) raw.now) payload.now)) }
 {
     match push_after_name(level, raw, &[], payload, out)? {
         Some((listed, list)) => push_listed(level, listed, list, out),

@@ -1,3 +1,4 @@
+pub mod AppendingWith
 pub mod CanonicalLists
 pub mod CapturesDetermined
 pub mod FrameUnfolding

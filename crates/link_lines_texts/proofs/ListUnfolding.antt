@@ -1,5 +1,5 @@
 -- The lines of a list are determined attribute by attribute, however many steps are allowed.
-use Rattle.std.proofs.Common.{◌≡◌, ℕ, zero, suc, ◌+◌, ◌≤◌, Bool, true, false, cond, List, [], ◌∷◌, ◌++◌, length, drop, Option, Some, None, refl, sym, ap, subst, ◌∙◌, append_assoc, arith}
+use Rattle.std.proofs.Common.{◌≡◌, ℕ, zero, suc, ◌+◌, ◌≤◌, Bool, true, false, cond, List, [], ◌∷◌, ◌++◌, length, drop, Option, Some, None, refl, ap, subst, ◌∙◌, arith}
 use Rattle.std.specs.Prelude.{⊤, nat_le}
 use Rattle.std.proofs.lemmas.Bool.{cond_both, leb-true}
 use Rattle.std.proofs.lemmas.List.{length-drop}
@@ -105,14 +105,11 @@ steps = record {
   none = none;
 }
 
--- The loop's step: what was written before an attribute, its lines, and those of the rest make up the whole.
-pub loop_step : (level : ℕ) (list_table : ListTable) (c : Context) (rest : List ℕ) (e : Attribute) (after before now whole : List ℕ) → first_attribute rest ≡ Some (e, after) → before ++ rest_lines level list_table c rest ≡ whole → now ≡ (before ++ attribute_lines level list_table c e) ++ nested_lines (level + 1) (list_inside level list_table c e) → now ++ rest_lines level list_table (next_in list_table.table c e) after ≡ whole
-loop_step level list_table c rest e after before now whole h w n =
-    let own = attribute_lines level list_table c e in
-    let inside = nested_lines (level + 1) (list_inside level list_table c e) in
-    let more = rest_lines level list_table (next_in list_table.table c e) after in
-    ap (λ z. z ++ more) n ∙ append_assoc (before ++ own) inside more ∙ append_assoc before own (inside ++ more)
-    ∙ sym (ap (λ z. before ++ z) (next level list_table c rest e after h)) ∙ w
+-- The lines of an attribute without a list, and those of the rest.
+pub next_bare : (level : ℕ) (list_table : ListTable) (c : Context) (bytes : List ℕ) (e : Attribute) (after : List ℕ) → first_attribute bytes ≡ Some (e, after) → list_inside level list_table c e ≡ None →
+    rest_lines level list_table c bytes ≡ attribute_lines level list_table c e ++ rest_lines level list_table (next_in list_table.table c e) after
+next_bare level list_table c bytes e after h n =
+    next level list_table c bytes e after h ∙ ap (λ o. attribute_lines level list_table c e ++ (nested_lines (level + 1) o ++ rest_lines level list_table (next_in list_table.table c e) after)) n
 
 -- ---- lists in attributes aren't too deep
 

@@ -1,3 +1,4 @@
+pub mod AppendsWith
 pub mod Format
 pub mod RawTables
 pub mod Captures

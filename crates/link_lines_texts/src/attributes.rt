@@ -4,6 +4,8 @@
 //! need neither list kinds nor measures.
 
 ghost use Rattle.std.specs.Prelude.{◌≡◌, ◌<◌, ◌≤◌, ◌+◌, ◌^◌, ◌++◌, ◌∷◌, [], true, length, replicate, option_map, IfOk, OnOk};
+ghost use Rattle.link_lines_values.specs.Appends.{Appends};
+ghost use Rattle.link_lines_texts.specs.AppendsWith.{AppendsWith};
 ghost use Rattle.link_interpreter.specs.Sameness.{attribute_of};
 ghost use Rattle.link_lines_raw.specs.Attributes.{plain_bytes};
 ghost use Rattle.link_lines_values.specs.Indents.{indent};
@@ -47,7 +49,7 @@ fn force_after<'a>(table: Table, force: InForce<'a>, attribute: Attribute<'a>) -
 
 /// Appends the word `bytes` and the bytes in hex.
 fn push_plain_bytes(bytes: &[u8], out: &mut Vec<u8>) -> Result<(), AllocError>
-    ensures ok { OnOk result (out.new.items ≡ out.old.items ++ plain_bytes bytes.now) }
+    ensures { Appends out.old out.new result (plain_bytes bytes.now) }
 {
     out.extend_from_slice(b" bytes")?;
     push_bytes(bytes, out)
@@ -56,8 +58,8 @@ fn push_plain_bytes(bytes: &[u8], out: &mut Vec<u8>) -> Result<(), AllocError>
 /// Appends the end of the line with a peer's name, and the line of the peer's header. A peer
 /// without a header, which no normal text has, is shown as bytes on the line of its name.
 fn push_peer(level: usize, payload: &[u8], out: &mut Vec<u8>) -> Result<(), AllocError>
-    ensures ok { OnOk result (out.new.items ≡ out.old.items ++ (inside_text level Inside.Peer payload.now
-        ++ 10 ∷ header_inside level Inside.Peer payload.now)) }
+    ensures { Appends out.old out.new result
+        (inside_text level Inside.Peer payload.now ++ 10 ∷ header_inside level Inside.Peer payload.now) }
 {
     if payload.len() < LINK_HEADER_LEN {
         push_bytes(payload, out)?;
@@ -76,9 +78,9 @@ fn push_payload(
     payload: &[u8],
     out: &mut Vec<u8>,
 ) -> Result<(), AllocError>
-    ensures ok { OnOk result (out.new.items ≡ out.old.items
-        ++ (inside_text level (inside_of format.now) payload.now
-        ++ 10 ∷ header_inside level (inside_of format.now) payload.now)) }
+    ensures { Appends out.old out.new result
+        (inside_text level (inside_of format.now) payload.now
+        ++ 10 ∷ header_inside level (inside_of format.now) payload.now) }
 {
     match format {
         FormatBy::Raw(table) => return push_held(level, &RawBy::List(*table), payload, out),
@@ -135,11 +137,11 @@ fn push_known<'a>(
     payload: &'a [u8],
     out: &mut Vec<u8>,
 ) -> Result<Option<(ListTable, &'a [u8])>, AllocError>
-    ensures ok { OnOk result (out.new.items ≡ out.old.items
-        ++ (inside_text level (within_reach level (known_inside scope (in_force force.entry)
+    ensures appends { AppendsWith (length payload.now) out.old out.new result
+        (inside_text level (within_reach level (known_inside scope (in_force force.entry)
         (inside_of format.now) payload.now)) payload.now
         ++ 10 ∷ header_inside level (within_reach level (known_inside scope (in_force force.entry)
-        (inside_of format.now) payload.now)) payload.now)) }
+        (inside_of format.now) payload.now)) payload.now) }
     ensures list { IfOk result (λ found. option_map (λ f. (f.0, f.1.now)) found
         ≡ inside_list scope (within_reach level (known_inside scope (in_force force.entry)
         (inside_of format.now) payload.now)) payload.now) }
@@ -162,8 +164,8 @@ fn push_attribute<'a>(
     out: &mut Vec<u8>,
 ) -> Result<Option<(ListTable, &'a [u8])>, AllocError>
     requires { level ≤ deepest_level }
-    ensures ok { OnOk result (out.new.items ≡ out.old.items
-        ++ attribute_lines level list_table (in_force force.entry) (attribute_of attribute.entry)) }
+    ensures appends { AppendsWith (length attribute.entry.payload.now) out.old out.new result
+        (attribute_lines level list_table (in_force force.entry) (attribute_of attribute.entry)) }
     ensures list { IfOk result (λ found. option_map (λ f. (f.0, f.1.now)) found
         ≡ list_inside level list_table (in_force force.entry) (attribute_of attribute.entry)) }
 {
@@ -198,7 +200,7 @@ pub(crate) fn push_list(
     out: &mut Vec<u8>,
 ) -> Result<(), AllocError>
     requires { level ≤ deepest_level }
-    ensures ok { OnOk result (out.new.items ≡ out.old.items ++ list_lines level list_table bytes.now) }
+    ensures { AppendsWith (length bytes.now) out.old out.new result (list_lines level list_table bytes.now) }
 {
     lists_unfold_by_attributes();
     let mut rest = bytes;

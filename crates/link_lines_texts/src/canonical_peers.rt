@@ -1,6 +1,6 @@
 //! Peers that are already canonical.
 
-ghost use Rattle.std.specs.Prelude.{◌≡◌, true, length, bytes_eq, IfOk};
+ghost use Rattle.std.specs.Prelude.{◌≡◌, ◌+◌, ◌<◌, ◌≤◌, true, length, bytes_eq, vec_capacity, IfOk, OnErr};
 ghost use Rattle.link_message_grammar.specs.Body.{link_peer};
 ghost use Rattle.link_lines_texts.specs.Format.{is_canonical_peer};
 
@@ -14,12 +14,14 @@ use std::alloc::AllocError;
 ///
 /// # Errors
 ///
-/// `AllocError` if `scratch` can't grow.
+/// `AllocError` if `scratch` lacked capacity for as many bytes more and can't grow; it is unchanged.
 fn is_written_unchanged(peer: &[u8], scratch: &mut Vec<u8>) -> Result<bool, AllocError>
     requires accepted { link_peer.accepted peer.now ≡ true }
     requires size { length (link_peer.canonical peer.now) ≡ length peer.now }
     ensures ok { IfOk result (λ is_unchanged. is_unchanged ≡ bytes_eq (link_peer.canonical peer.now) peer.now) }
     ensures scratch { scratch.new.items ≡ scratch.old.items }
+    ensures capacity { vec_capacity scratch.old ≤ vec_capacity scratch.new }
+    ensures memory { OnErr result (vec_capacity scratch.old < length scratch.old.items + length peer.now) }
 {
     scratch.reserve(peer.len())?;
     let start = scratch.len();
@@ -34,11 +36,13 @@ fn is_written_unchanged(peer: &[u8], scratch: &mut Vec<u8>) -> Result<bool, Allo
 ///
 /// # Errors
 ///
-/// `AllocError` if `scratch` can't grow.
+/// `AllocError` if `scratch` lacked capacity for as many bytes more and can't grow; it is unchanged.
 #[tactic(auto, unfolding(crate::specs::Format::is_canonical_peer))]
 pub(crate) fn is_canonical_peer(bytes: &[u8], scratch: &mut Vec<u8>) -> Result<bool, AllocError>
     ensures ok { IfOk result (λ is_canonical. is_canonical ≡ is_canonical_peer bytes.now) }
     ensures scratch { scratch.new.items ≡ scratch.old.items }
+    ensures capacity { vec_capacity scratch.old ≤ vec_capacity scratch.new }
+    ensures memory { OnErr result (vec_capacity scratch.old < length scratch.old.items + length bytes.now) }
 {
     measures_determine_rules();
     let Some(found) = LinkPeer.measure_peer(bytes) else {

@@ -1,6 +1,6 @@
 //! How the payloads of attributes with names are shown.
 
-ghost use Rattle.std.specs.Prelude.{◌≡◌, true, unwrap_or, IfOk};
+ghost use Rattle.std.specs.Prelude.{◌≡◌, ◌+◌, ◌<◌, ◌≤◌, true, length, unwrap_or, vec_capacity, IfOk, OnErr};
 ghost use Rattle.link_lines_texts.specs.Format.{inside_of, inside_held, known_inside, of_held, peer_inside, statistics_inside, within_reach};
 ghost use Rattle.link_tables.specs.InForce.{held_in_force, in_force};
 
@@ -94,6 +94,8 @@ fn inner_peer_format(payload: &[u8], scratch: &mut Vec<u8>) -> Result<Format, Al
     ensures ok { IfOk result (λ format. inside_of format
         ≡ peer_inside true payload.now) }
     ensures scratch { scratch.new.items ≡ scratch.old.items }
+    ensures capacity { vec_capacity scratch.old ≤ vec_capacity scratch.new }
+    ensures memory { OnErr result (vec_capacity scratch.old < length scratch.old.items + length payload.now) }
 {
     if is_canonical_peer(payload, scratch)? {
         Ok(FormatBy::Peer)
@@ -108,7 +110,7 @@ fn inner_peer_format(payload: &[u8], scratch: &mut Vec<u8>) -> Result<Format, Al
 ///
 /// # Errors
 ///
-/// `AllocError` if `scratch` can't grow.
+/// `AllocError` if `scratch` lacked capacity for the payload's bytes and can't grow; it is unchanged.
 pub(crate) fn known_format(
     scope: Scope,
     force: InForce<'_>,
@@ -121,6 +123,8 @@ pub(crate) fn known_format(
         ≡ known_inside scope (in_force force.entry)
         (inside_of format.now) payload.now) }
     ensures scratch { scratch.new.items ≡ scratch.old.items }
+    ensures capacity { vec_capacity scratch.old ≤ vec_capacity scratch.new }
+    ensures memory { OnErr result (vec_capacity scratch.old < length scratch.old.items + length payload.now) }
 {
     Ok(match format {
         FormatBy::Data => Some(info_format(force, IFLA_INFO_DATA)),

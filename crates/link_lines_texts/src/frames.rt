@@ -1,6 +1,8 @@
 //! The lines of messages.
 
 ghost use Rattle.std.specs.Prelude.{◌≡◌, ◌<◌, ◌≤◌, ◌+◌, ◌^◌, ◌++◌, true, false, length, drop, decimal, OnOk, IfSome, IfNone};
+ghost use Rattle.link_lines_values.specs.Appends.{Appends};
+ghost use Rattle.link_lines_texts.specs.AppendsWith.{AppendsWith};
 ghost use Rattle.netlink_packet_core_grammar.specs.Attributes.{nla_align};
 ghost use Rattle.netlink_packet_core.specs.Frames.{frame_length};
 ghost use Rattle.link_lines_values.specs.Names.{text_in};
@@ -72,7 +74,7 @@ fn flag_names(message_type: u16) -> Numbers
 /// Appends the name of a message type, or `type` and its number if it has no name.
 #[tactic(auto, unfolding(crate::specs::Frames::type_text))]
 fn push_type(message_type: u16, out: &mut Vec<u8>) -> Result<(), AllocError>
-    ensures ok { OnOk result (out.new.items ≡ out.old.items ++ type_text message_type) }
+    ensures { Appends out.old out.new result (type_text message_type) }
 {
     let name = type_name(message_type);
     if !name.is_empty() {
@@ -85,7 +87,7 @@ fn push_type(message_type: u16, out: &mut Vec<u8>) -> Result<(), AllocError>
 /// Appends the sequence and port number of a message if `numbers` is true.
 fn push_numbers(numbers: bool, frame: &[u8], out: &mut Vec<u8>) -> Result<(), AllocError>
     requires { 16 ≤ length frame.now }
-    ensures ok { OnOk result (out.new.items ≡ out.old.items ++ numbers_text numbers frame.now) }
+    ensures { Appends out.old out.new result (numbers_text numbers frame.now) }
 {
     if !numbers {
         return Ok(());
@@ -99,7 +101,7 @@ fn push_numbers(numbers: bool, frame: &[u8], out: &mut Vec<u8>) -> Result<(), Al
 #[tactic(auto, unfolding(crate::specs::Frames::header_line))]
 fn push_header(numbers: bool, frame: &[u8], out: &mut Vec<u8>) -> Result<(), AllocError>
     requires { 16 ≤ length frame.now }
-    ensures ok { OnOk result (out.new.items ≡ out.old.items ++ header_line numbers frame.now) }
+    ensures { Appends out.old out.new result (header_line numbers frame.now) }
 {
     let header = NetlinkBuffer::new(frame);
     let message_type = header.message_type();
@@ -118,7 +120,7 @@ fn push_header(numbers: bool, frame: &[u8], out: &mut Vec<u8>) -> Result<(), All
 #[tactic(auto, unfolding(crate::specs::Frames::request_line))]
 fn push_request(numbers: bool, header: &[u8], out: &mut Vec<u8>) -> Result<(), AllocError>
     requires { 16 ≤ length header.now }
-    ensures ok { OnOk result (out.new.items ≡ out.old.items ++ request_line numbers header.now) }
+    ensures { Appends out.old out.new result (request_line numbers header.now) }
 {
     push_labelled_decimal(
         b"  request length ",
@@ -132,7 +134,7 @@ fn push_request(numbers: bool, header: &[u8], out: &mut Vec<u8>) -> Result<(), A
 /// Appends the lines of the body of a link message, or of a peer.
 #[tactic(auto, unfolding(crate::specs::Frames::link_lines))]
 fn push_link(scope: Scope, body: &[u8], out: &mut Vec<u8>) -> Result<(), AllocError>
-    ensures ok { OnOk result (out.new.items ≡ out.old.items ++ link_lines scope body.now) }
+    ensures { AppendsWith (length body.now) out.old out.new result (link_lines scope body.now) }
 {
     if body.len() < LINK_HEADER_LEN {
         return push_bytes_line(b"body", body, out);
@@ -149,7 +151,7 @@ fn push_link(scope: Scope, body: &[u8], out: &mut Vec<u8>) -> Result<(), AllocEr
 /// is a canonical peer, or else its bytes. Peers inside it are shown as inside a peer.
 #[tactic(auto, unfolding(crate::specs::Frames::property_lines))]
 fn push_properties(is_request: bool, body: &[u8], out: &mut Vec<u8>) -> Result<(), AllocError>
-    ensures ok { OnOk result (out.new.items ≡ out.old.items ++ property_lines is_request body.now) }
+    ensures { AppendsWith (length body.now) out.old out.new result (property_lines is_request body.now) }
 {
     if !is_canonical_peer(body, out)? {
         return push_bytes_line(b"body", body, out);
@@ -169,8 +171,7 @@ fn push_after_code(
     rest: &[u8],
     out: &mut Vec<u8>,
 ) -> Result<(), AllocError>
-    ensures ok { OnOk result (out.new.items
-        ≡ out.old.items ++ after_code numbers message_type rest.now) }
+    ensures { Appends out.old out.new result (after_code numbers message_type rest.now) }
 {
     if message_type == NLMSG_ERROR && rest.len() >= NETLINK_HEADER_LEN {
         push_request(numbers, rest, out)?;
@@ -187,7 +188,7 @@ fn push_code(
     body: &[u8],
     out: &mut Vec<u8>,
 ) -> Result<(), AllocError>
-    ensures ok { OnOk result (out.new.items ≡ out.old.items ++ code_lines numbers message_type body.now) }
+    ensures { Appends out.old out.new result (code_lines numbers message_type body.now) }
 {
     if body.len() < CODE_LEN {
         return push_bytes_line(b"body", body, out);
@@ -215,7 +216,7 @@ fn push_other(
     body: &[u8],
     out: &mut Vec<u8>,
 ) -> Result<(), AllocError>
-    ensures ok { OnOk result (out.new.items ≡ out.old.items ++ other_lines message_type is_request body.now) }
+    ensures { AppendsWith (length body.now) out.old out.new result (other_lines message_type is_request body.now) }
 {
     if is_property_type(message_type) {
         return push_properties(is_request, body, out);
@@ -245,8 +246,7 @@ fn push_body(
     body: &[u8],
     out: &mut Vec<u8>,
 ) -> Result<(), AllocError>
-    ensures ok { OnOk result (out.new.items
-        ≡ out.old.items ++ body_lines numbers message_type is_request body.now) }
+    ensures { AppendsWith (length body.now) out.old out.new result (body_lines numbers message_type is_request body.now) }
 {
     match message_type {
         NLMSG_ERROR | NLMSG_DONE => push_code(numbers, message_type, body, out),
@@ -270,11 +270,12 @@ fn has_request_flag(frame: &[u8]) -> bool
 ///
 /// # Errors
 ///
-/// `AllocError` if `out` can't grow; it may then have a part of the lines.
+/// `AllocError` if `out` lacked capacity for the lines and as many bytes as the frame has, and can't
+/// grow; what it held stays, and a part of the lines may follow.
 #[tactic(auto, unfolding(crate::specs::Frames::frame_lines))]
 pub fn push_frame(frame: &[u8], numbers: bool, out: &mut Vec<u8>) -> Result<(), AllocError>
     requires { 16 ≤ length frame.now }
-    ensures ok { OnOk result (out.new.items ≡ out.old.items ++ frame_lines numbers frame.now) }
+    ensures { AppendsWith (length frame.now) out.old out.new result (frame_lines numbers frame.now) }
 {
     push_header(numbers, frame, out)?;
     let message_type = NetlinkBuffer::new(frame).message_type();

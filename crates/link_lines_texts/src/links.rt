@@ -1,6 +1,7 @@
 //! The header of a link, in a message and in a peer.
 
 ghost use Rattle.std.specs.Prelude.{◌≡◌, ◌<◌, ◌≤◌, ◌^◌, ◌++◌, length, decimal, OnOk};
+ghost use Rattle.link_lines_values.specs.Appends.{Appends};
 ghost use Rattle.link_lines_values.specs.Flags.{named_flags, word_flags};
 ghost use Rattle.link_lines_values.specs.Indents.{indent};
 ghost use Rattle.link_lines_values.specs.Names.{named_number};
@@ -21,8 +22,7 @@ fn push_labelled(
     number: u32,
     out: &mut Vec<u8>,
 ) -> Result<(), AllocError>
-    ensures ok { OnOk result (out.new.items
-        ≡ out.old.items ++ labelled label.now (named_number (number_texts table) number)) }
+    ensures { Appends out.old out.new result (labelled label.now (named_number (number_texts table) number)) }
 {
     out.extend_from_slice(label)?;
     push_number(table.texts(), number as u64, out)
@@ -34,8 +34,7 @@ pub(crate) fn push_labelled_decimal(
     number: u32,
     out: &mut Vec<u8>,
 ) -> Result<(), AllocError>
-    ensures ok { OnOk result (out.new.items
-        ≡ out.old.items ++ labelled label.now (decimal number)) }
+    ensures { Appends out.old out.new result (labelled label.now (decimal number)) }
 {
     out.extend_from_slice(label)?;
     push_decimal(number as u64, out)
@@ -48,8 +47,7 @@ pub(crate) fn push_labelled_flags(
     flags: u32,
     out: &mut Vec<u8>,
 ) -> Result<(), AllocError>
-    ensures ok { OnOk result (out.new.items
-        ≡ out.old.items ++ labelled label.now (named_flags (number_texts table) flags)) }
+    ensures { Appends out.old out.new result (labelled label.now (named_flags (number_texts table) flags)) }
 {
     out.extend_from_slice(label)?;
     push_flags(table.texts(), flags as u64, out)
@@ -59,7 +57,7 @@ pub(crate) fn push_labelled_flags(
 #[tactic(auto, unfolding(crate::specs::Links::link_numbers))]
 fn push_link_numbers(body: &[u8], out: &mut Vec<u8>) -> Result<(), AllocError>
     requires { 16 ≤ length body.now }
-    ensures ok { OnOk result (out.new.items ≡ out.old.items ++ link_numbers body.now) }
+    ensures { Appends out.old out.new result (link_numbers body.now) }
 {
     push_labelled(b"ifinfomsg family ", ADDRESS_FAMILY, body[0] as u32, out)?;
     push_labelled(b" type ", LINK_LAYER_TYPE, read_u16(body, 2) as u32, out)?;
@@ -73,8 +71,7 @@ fn push_labelled_word_flags(
     flags: u32,
     out: &mut Vec<u8>,
 ) -> Result<(), AllocError>
-    ensures ok { OnOk result (out.new.items
-        ≡ out.old.items ++ labelled label.now (word_flags (number_texts table) flags)) }
+    ensures { Appends out.old out.new result (labelled label.now (word_flags (number_texts table) flags)) }
 {
     out.extend_from_slice(label)?;
     push_word_flags(table.texts(), flags, out)
@@ -82,8 +79,7 @@ fn push_labelled_word_flags(
 
 /// Appends a label and a link's flags.
 fn push_labelled_link_flags(label: &[u8], flags: u32, out: &mut Vec<u8>) -> Result<(), AllocError>
-    ensures ok { OnOk result (out.new.items
-        ≡ out.old.items ++ labelled label.now (word_flags link_flag_names flags)) }
+    ensures { Appends out.old out.new result (labelled label.now (word_flags link_flag_names flags)) }
 {
     push_labelled_word_flags(label, LINK_FLAGS, flags, out)
 }
@@ -92,7 +88,7 @@ fn push_labelled_link_flags(label: &[u8], flags: u32, out: &mut Vec<u8>) -> Resu
 #[tactic(auto, unfolding(crate::specs::Links::link_flags))]
 fn push_link_flags(body: &[u8], out: &mut Vec<u8>) -> Result<(), AllocError>
     requires { 16 ≤ length body.now }
-    ensures ok { OnOk result (out.new.items ≡ out.old.items ++ link_flags body.now) }
+    ensures { Appends out.old out.new result (link_flags body.now) }
 {
     push_labelled_link_flags(b" flags ", read_u32(body, 8), out)?;
     push_labelled_link_flags(b" change ", read_u32(body, 12), out)?;
@@ -106,7 +102,7 @@ pub(crate) fn push_link_header(
     out: &mut Vec<u8>,
 ) -> Result<(), AllocError>
     requires { 16 ≤ length body.now }
-    ensures ok { OnOk result (out.new.items ≡ out.old.items ++ link_header_line level body.now) }
+    ensures { Appends out.old out.new result (link_header_line level body.now) }
 {
     push_indent(level, out)?;
     push_link_numbers(body, out)?;

@@ -1,5 +1,5 @@
 -- Counters, one after the other.
-use Rattle.std.proofs.Common.{◌≡◌, ℕ, zero, suc, ◌+◌, ◌-◌, ◌/◌, ◌<◌, ◌≤◌, List, [], ◌∷◌, ◌++◌, length, take, drop, get_or, refl, ap, ◌∙◌, arith}
+use Rattle.std.proofs.Common.{◌≡◌, ℕ, zero, suc, ◌+◌, ◌-◌, ◌/◌, ◌<◌, ◌≤◌, List, [], ◌∷◌, ◌++◌, codes, length, take, drop, get_or, refl, ap, ◌∙◌, arith}
 use Rattle.std.specs.Prelude.{cond}
 use Rattle.std.specs.Fmt.{decimal}
 use Rattle.std.proofs.Math.Nat.{div-eq-sub-div, div-eq_of_lt}
@@ -7,7 +7,7 @@ use Rattle.std.proofs.lemmas.List.{length-drop}
 use Rattle.link_lines_values.specs.declared.fields.FieldOf.{FieldOf}
 use Rattle.link_lines_values.specs.declared.number_tables.Numbers.{Numbers}
 use Rattle.link_lines_values.specs.Bytes.{is_zero}
-use Rattle.link_lines_values.specs.Records.{Field, FieldShown, counter_name, field_text, fields_of, slots_text, title_or}
+use Rattle.link_lines_values.specs.Records.{Field, FieldShown, counter_name, counters_text, field_text, fields_of, shown_of, slots_text, title_or}
 
 module _ {N : Type 0} (f : N → List ℕ) where
   -- The title of the field at an index.
@@ -21,6 +21,13 @@ module _ {N : Type 0} (f : N → List ℕ) where
   title_past [] n k l = refl
   title_past (r ∷ rows) n zero l = absurd (omega arith)
   title_past (r ∷ rows) n (suc k) l = title_past rows n k (omega arith)
+
+  -- Counters by the rows of their fields.
+  pub counters_of : (rows : List (FieldOf N Numbers)) (d : FieldOf N Numbers) (size : ℕ) (bytes : List ℕ) → 1 ≤ length rows → size ≡ (get_or rows 0 d).1 →
+      codes " fields " ++ (decimal (length bytes / size) ++ slots_text size (shown_of (get_or rows 0 d).2) (fields_of f rows) 0 (length bytes / size) bytes) ≡ counters_text (fields_of f rows) bytes
+  counters_of [] d size bytes h e = absurd (omega arith)
+  counters_of (r ∷ rows) d size bytes h e =
+      ap (λ n. codes " fields " ++ (decimal (length bytes / n) ++ slots_text n (shown_of r.2) (fields_of f (r ∷ rows)) 0 (length bytes / n) bytes)) e
 
 -- The counter at the start, and the others.
 pub slots_step : (size : ℕ) (shown : FieldShown) (fs : List Field) (i : ℕ) (p first rest : List ℕ) → 0 < size → size ≤ length p → first ≡ take size p → rest ≡ drop size p →

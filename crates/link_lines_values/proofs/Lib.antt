@@ -1,3 +1,5 @@
+pub mod Appending
+pub mod Segments
 pub mod Readings
 pub mod Zeros
 pub mod Listing

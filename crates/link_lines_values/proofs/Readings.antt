@@ -6,7 +6,7 @@ use Rattle.attribute_tables_grammar.specs.Shapes.{number}
 use Rattle.link_lines_values.specs.Digits.{big_endian, is_number}
 use Rattle.link_lines_values.specs.Flags.{word_flags}
 use Rattle.link_lines_values.specs.Names.{Text}
-use Rattle.link_lines_values.specs.Values.{flags_and_mask_value}
+use Rattle.link_lines_values.specs.Values.{flags_and_mask_value, port_range_value}
 
 pub low_2 : (a b : ℕ) → from_le_bytes w16 (a ∷ b ∷ []) ≡ number (a ∷ b ∷ [])
 low_2 a b = omega arith
@@ -41,6 +41,12 @@ mask_bytes names (a ∷ b ∷ c ∷ d ∷ e ∷ f ∷ g ∷ h ∷ []) flags mask
     ap (λ x. 32 ∷ (word_flags names x ++ (codes " mask " ++ word_flags names mask))) (from ∙ low_4 a b c d)
     ∙ ap (λ x. 32 ∷ (word_flags names (number (a ∷ b ∷ c ∷ d ∷ [])) ++ (codes " mask " ++ word_flags names x))) (into ∙ low_4 e f g h)
 mask_bytes names p flags mask len from into = absurd (omega arith)
+
+pub port_bytes : (p : List ℕ) (first end : ℕ) → length p ≡ 4 → first ≡ from_be_bytes w16 (get_or p 0 0 ∷ get_or p 1 0 ∷ []) → end ≡ from_be_bytes w16 (get_or p 2 0 ∷ get_or p 3 0 ∷ []) → 32 ∷ (decimal first ++ 32 ∷ decimal end) ≡ port_range_value p
+port_bytes (a ∷ b ∷ c ∷ d ∷ []) first end len from into =
+    ap (λ x. 32 ∷ (decimal x ++ 32 ∷ decimal end)) (from ∙ high_2 a b)
+    ∙ ap (λ x. 32 ∷ (decimal (big_endian (a ∷ b ∷ [])) ++ 32 ∷ decimal x)) (into ∙ high_2 c d)
+port_bytes p first end len from into = absurd (omega arith)
 
 pub ruleset low_first = (low_2, low_3, low_4, low_8)
 

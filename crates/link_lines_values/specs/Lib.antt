@@ -1,5 +1,7 @@
+pub mod Appends
 pub mod Digits
 pub mod Bytes
+pub mod Internet
 pub mod Names
 pub mod NumberTexts
 pub mod Flags

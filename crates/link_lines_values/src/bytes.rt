@@ -1,6 +1,7 @@
 //! Bytes as text: in hex, with colons between them, in quotes.
 
 ghost use Rattle.std.specs.Prelude.{◌≡◌, ◌++◌, ◌∷◌, [], flat_map, OnOk};
+ghost use Rattle.link_lines_values.specs.Appends.{Appends};
 ghost use Rattle.link_lines_values.specs.Bytes.{hex_text, bytes_text, colon_byte, colons, hardware_text, is_zero};
 ghost use Rattle.link_lines_values.specs.Bytes.{count_without_zeros, padded_address, padded_text, escaped, quoted, boolean_text};
 
@@ -12,7 +13,7 @@ use std::alloc::AllocError;
 // Out of line, as few fields need it: inlined, it would slow `push_field_value`.
 #[inline(never)]
 pub(crate) fn push_hex_text(bytes: &[u8], out: &mut Vec<u8>) -> Result<(), AllocError>
-    ensures ok { OnOk result (out.new.items ≡ out.old.items ++ hex_text bytes.now) }
+    ensures { Appends out.old out.new result (hex_text bytes.now) }
 {
     for byte in bytes {
         out.extend_from_slice(&hex_byte(*byte))?;
@@ -24,9 +25,10 @@ pub(crate) fn push_hex_text(bytes: &[u8], out: &mut Vec<u8>) -> Result<(), Alloc
 ///
 /// # Errors
 ///
-/// `AllocError` if `out` can't grow; it may then have a part of the text.
+/// `AllocError` if `out` lacked capacity for the text and can't grow; what it held stays, and a
+/// part of the text may follow.
 pub fn push_bytes(bytes: &[u8], out: &mut Vec<u8>) -> Result<(), AllocError>
-    ensures ok { OnOk result (out.new.items ≡ out.old.items ++ bytes_text bytes.now) }
+    ensures { Appends out.old out.new result (bytes_text bytes.now) }
 {
     if bytes.is_empty() {
         return Ok(());
@@ -37,7 +39,7 @@ pub fn push_bytes(bytes: &[u8], out: &mut Vec<u8>) -> Result<(), AllocError>
 
 // Appends each byte in hex with a colon before it.
 fn push_colon_bytes(bytes: &[u8], out: &mut Vec<u8>) -> Result<(), AllocError>
-    ensures ok { OnOk result (out.new.items ≡ out.old.items ++ flat_map colon_byte bytes.now) }
+    ensures { Appends out.old out.new result (flat_map colon_byte bytes.now) }
 {
     for byte in bytes {
         let [high, low] = hex_byte(*byte);
@@ -48,7 +50,7 @@ fn push_colon_bytes(bytes: &[u8], out: &mut Vec<u8>) -> Result<(), AllocError>
 
 /// Appends bytes in hex with colons between them.
 pub(crate) fn push_colons(bytes: &[u8], out: &mut Vec<u8>) -> Result<(), AllocError>
-    ensures ok { OnOk result (out.new.items ≡ out.old.items ++ colons bytes.now) }
+    ensures { Appends out.old out.new result (colons bytes.now) }
 {
     if let [first, rest @ ..] = bytes {
         out.extend_from_slice(&hex_byte(*first))?;
@@ -59,7 +61,7 @@ pub(crate) fn push_colons(bytes: &[u8], out: &mut Vec<u8>) -> Result<(), AllocEr
 
 /// Appends a space and bytes in hex with colons between them; nothing if there are no bytes.
 pub(crate) fn push_hardware_address(bytes: &[u8], out: &mut Vec<u8>) -> Result<(), AllocError>
-    ensures ok { OnOk result (out.new.items ≡ out.old.items ++ hardware_text bytes.now) }
+    ensures { Appends out.old out.new result (hardware_text bytes.now) }
 {
     if bytes.is_empty() {
         return Ok(());
@@ -98,7 +100,7 @@ fn count_without_zeros(bytes: &[u8]) -> usize
 // Out of line, as few fields need it: inlined, it would slow `push_field_value`.
 #[inline(never)]
 pub(crate) fn push_padded_address(bytes: &[u8], out: &mut Vec<u8>) -> Result<(), AllocError>
-    ensures ok { OnOk result (out.new.items ≡ out.old.items ++ padded_address bytes.now) }
+    ensures { Appends out.old out.new result (padded_address bytes.now) }
 {
     let count = count_without_zeros(bytes).max(6).min(bytes.len());
     push_colons(&bytes[..count], out)
@@ -106,7 +108,7 @@ pub(crate) fn push_padded_address(bytes: &[u8], out: &mut Vec<u8>) -> Result<(),
 
 // Appends a byte of a text in quotes.
 fn push_escaped(byte: u8, out: &mut Vec<u8>) -> Result<(), AllocError>
-    ensures ok { OnOk result (out.new.items ≡ out.old.items ++ escaped byte) }
+    ensures { Appends out.old out.new result (escaped byte) }
 {
     if byte == b'"' || byte == b'\\' {
         return out.extend_from_slice(&[b'\\', byte]);
@@ -121,7 +123,7 @@ fn push_escaped(byte: u8, out: &mut Vec<u8>) -> Result<(), AllocError>
 
 // Appends the bytes of a text in quotes, without the quotes.
 fn push_escaped_text(bytes: &[u8], out: &mut Vec<u8>) -> Result<(), AllocError>
-    ensures ok { OnOk result (out.new.items ≡ out.old.items ++ flat_map escaped bytes.now) }
+    ensures { Appends out.old out.new result (flat_map escaped bytes.now) }
 {
     for byte in bytes {
         push_escaped(*byte, out)?;
@@ -131,7 +133,7 @@ fn push_escaped_text(bytes: &[u8], out: &mut Vec<u8>) -> Result<(), AllocError>
 
 /// Appends a space and a text in quotes, without its last NUL.
 pub(crate) fn push_text(bytes: &[u8], out: &mut Vec<u8>) -> Result<(), AllocError>
-    ensures ok { OnOk result (out.new.items ≡ out.old.items ++ 32 ∷ quoted bytes.now) }
+    ensures { Appends out.old out.new result (32 ∷ quoted bytes.now) }
 {
     out.extend_from_slice(b" \"")?;
     push_escaped_text(without_nul(bytes), out)?;
@@ -142,7 +144,7 @@ pub(crate) fn push_text(bytes: &[u8], out: &mut Vec<u8>) -> Result<(), AllocErro
 // Out of line, as few fields need it: inlined, it would slow `push_field_value`.
 #[inline(never)]
 pub(crate) fn push_padded_text(bytes: &[u8], out: &mut Vec<u8>) -> Result<(), AllocError>
-    ensures ok { OnOk result (out.new.items ≡ out.old.items ++ padded_text bytes.now) }
+    ensures { Appends out.old out.new result (padded_text bytes.now) }
 {
     let count = count_without_zeros(bytes).min(bytes.len());
     out.extend_from_slice(b"\"")?;
@@ -152,7 +154,7 @@ pub(crate) fn push_padded_text(bytes: &[u8], out: &mut Vec<u8>) -> Result<(), Al
 
 /// Appends `on` if a byte isn't zero, or else `off`.
 pub(crate) fn push_boolean(bytes: &[u8], out: &mut Vec<u8>) -> Result<(), AllocError>
-    ensures ok { OnOk result (out.new.items ≡ out.old.items ++ boolean_text bytes.now) }
+    ensures { Appends out.old out.new result (boolean_text bytes.now) }
 {
     if is_zero(bytes) {
         out.extend_from_slice(b"off")

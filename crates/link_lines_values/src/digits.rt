@@ -2,6 +2,7 @@
 
 ghost use Rattle.std.specs.Prelude.{◌≡◌, ◌≤◌, ◌<◌, ◌==◌, ◌++◌, false, Some, None, cond, length, drop, OnOk};
 ghost use Rattle.std.specs.Fmt.{decimal, digits, digit_glyph};
+ghost use Rattle.link_lines_values.specs.Appends.{Appends};
 ghost use Rattle.attribute_tables_grammar.specs.Shapes.{number};
 ghost use Rattle.link_lines_values.specs.Digits.{big_endian, is_number, hex_byte, hex_number, four_digits};
 ghost use Rattle.link_lines_values.specs.Digits.{signed_by, signed_text};
@@ -47,7 +48,7 @@ pub(crate) fn big_endian(bytes: &[u8]) -> Option<u64>
 // Appends a number in decimal. It is out of line, so that `push_decimal` can be inlined.
 #[inline(never)]
 fn push_formatted(number: u64, out: &mut Vec<u8>) -> Result<(), AllocError>
-    ensures ok { OnOk result (out.new.items ≡ out.old.items ++ decimal number) }
+    ensures { Appends out.old out.new result (decimal number) }
 {
     let mut buffer = Buffer::new();
     out.extend_from_slice(buffer.format(number).as_bytes())
@@ -57,10 +58,9 @@ fn push_formatted(number: u64, out: &mut Vec<u8>) -> Result<(), AllocError>
 ///
 /// # Errors
 ///
-/// `AllocError` if `out` can't grow.
-#[tactic(auto, using(crate::proofs::Readings::one_digit))]
+/// `AllocError` if `out` lacked capacity for the text and can't grow; what it held stays.
 pub fn push_decimal(number: u64, out: &mut Vec<u8>) -> Result<(), AllocError>
-    ensures ok { OnOk result (out.new.items ≡ out.old.items ++ decimal number) }
+    ensures { Appends out.old out.new result (decimal number) }
 {
     if number < 10 {
         out.push(b'0' + number as u8)?;
@@ -72,7 +72,7 @@ pub fn push_decimal(number: u64, out: &mut Vec<u8>) -> Result<(), AllocError>
 /// Appends a number with its sign: from `half` on it is the number minus twice that.
 pub(crate) fn push_signed_by(half: u64, number: u64, out: &mut Vec<u8>) -> Result<(), AllocError>
     requires { half ≤ 2147483648 }
-    ensures ok { OnOk result (out.new.items ≡ out.old.items ++ signed_by half number) }
+    ensures { Appends out.old out.new result (signed_by half number) }
 {
     if number < half {
         return push_decimal(number, out);
@@ -83,13 +83,13 @@ pub(crate) fn push_signed_by(half: u64, number: u64, out: &mut Vec<u8>) -> Resul
 
 /// Appends a number of 4 bytes as a signed one, in decimal.
 pub(crate) fn push_signed(number: u64, out: &mut Vec<u8>) -> Result<(), AllocError>
-    ensures ok { OnOk result (out.new.items ≡ out.old.items ++ signed_text number) }
+    ensures { Appends out.old out.new result (signed_text number) }
 {
     push_signed_by(0x8000_0000, number, out)
 }
 
-// Returns a hex digit in lower case.
-fn glyph(digit: u8) -> u8
+/// Returns a hex digit in lower case.
+pub(crate) fn glyph(digit: u8) -> u8
     requires { digit < 16 }
     ensures { result ≡ digit_glyph false digit }
 {
@@ -127,7 +127,7 @@ fn write_hex(number: u64, out: &mut [u8; 64]) -> usize
 
 /// Appends a number as `{:#x}` writes it.
 pub(crate) fn push_hex(number: u64, out: &mut Vec<u8>) -> Result<(), AllocError>
-    ensures ok { OnOk result (out.new.items ≡ out.old.items ++ hex_number number) }
+    ensures { Appends out.old out.new result (hex_number number) }
 {
     let mut digits = [0u8; 64];
     let start = write_hex(number, &mut digits);
@@ -137,7 +137,7 @@ pub(crate) fn push_hex(number: u64, out: &mut Vec<u8>) -> Result<(), AllocError>
 
 /// Appends a number in hex, without leading zeros.
 pub(crate) fn push_hex_digits(number: u64, out: &mut Vec<u8>) -> Result<(), AllocError>
-    ensures ok { OnOk result (out.new.items ≡ out.old.items ++ digits 16 false number) }
+    ensures { Appends out.old out.new result (digits 16 false number) }
 {
     let mut digits = [0u8; 64];
     let start = write_hex(number, &mut digits);
@@ -148,9 +148,9 @@ pub(crate) fn push_hex_digits(number: u64, out: &mut Vec<u8>) -> Result<(), Allo
 ///
 /// # Errors
 ///
-/// `AllocError` if `out` can't grow.
+/// `AllocError` if `out` lacked capacity for the text and can't grow; what it held stays.
 pub fn push_four_digits(number: u16, out: &mut Vec<u8>) -> Result<(), AllocError>
-    ensures ok { OnOk result (out.new.items ≡ out.old.items ++ four_digits number) }
+    ensures { Appends out.old out.new result (four_digits number) }
 {
     let high = (number / 256) as u8;
     let low = (number % 256) as u8;

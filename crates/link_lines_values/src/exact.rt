@@ -1,8 +1,9 @@
 //! Payloads of raw attributes as text: a value if it determines the payload, or else the bytes.
 
-ghost use Rattle.std.specs.Prelude.{◌≡◌, ◌++◌, [], codes, true, OnOk};
+ghost use Rattle.std.specs.Prelude.{◌≡◌, ◌++◌, [], codes, decimal, true};
 ghost use Rattle.std.specs.Net.Addr.{segments_of};
 ghost use Rattle.std.specs.Net.Text.{ipv4_text, ipv6_text};
+ghost use Rattle.link_lines_values.specs.Appends.{Appends};
 ghost use Rattle.link_lines_values.specs.Bytes.{bytes_text};
 ghost use Rattle.link_lines_values.specs.Records.{fields_of};
 ghost use Rattle.link_lines_values.specs.Values.{number_value};
@@ -16,14 +17,12 @@ use crate::addresses::push_address;
 use crate::bytes::{is_zero, push_bytes, push_hardware_address, push_hex_text, push_text};
 use crate::digits::push_decimal;
 use crate::fields::{Field, Layout};
+use crate::internet::{push_ipv4, push_ipv6};
 use crate::number_tables::Numbers;
 use crate::number_texts::PLAIN;
 use crate::records::{is_counters, is_record, push_counters, push_record_fields};
 use crate::values::{ShownBy, push_value};
-use arrayvec::ArrayString;
 use std::alloc::AllocError;
-use std::fmt::Write;
-use std::net::{Ipv4Addr, Ipv6Addr};
 
 /// How the payload of a raw attribute is shown if its line determines it, with names of numbers of
 /// type `N` and records of type `R`. Other payloads are shown as their bytes after the word
@@ -146,7 +145,7 @@ fn takes(exact: Exact, payload: &[u8]) -> bool
 // Appends a space and a little-endian number without a name, or bytes if no number has their size.
 #[tactic(auto, unfolding(crate::specs::NumberTexts::number_texts))]
 fn push_plain_number(payload: &[u8], out: &mut Vec<u8>) -> Result<(), AllocError>
-    ensures ok { OnOk result (out.new.items ≡ out.old.items ++ number_value [] payload.now) }
+    ensures { Appends out.old out.new result (number_value [] payload.now) }
 {
     push_value(ShownBy::Number(PLAIN), payload, out)
 }
@@ -154,8 +153,7 @@ fn push_plain_number(payload: &[u8], out: &mut Vec<u8>) -> Result<(), AllocError
 // Appends the first `count` numbers of `size` bytes each, with a space before each. `min` spares a
 // contract on the number of bytes.
 fn push_pieces(size: usize, count: usize, bytes: &[u8], out: &mut Vec<u8>) -> Result<(), AllocError>
-    ensures ok { OnOk result (out.new.items
-        ≡ out.old.items ++ pieces_text (number_value []) size count bytes.now) }
+    ensures { Appends out.old out.new result (pieces_text (number_value []) size count bytes.now) }
 {
     let mut rest = bytes;
     for _ in 0..count {
@@ -168,7 +166,7 @@ fn push_pieces(size: usize, count: usize, bytes: &[u8], out: &mut Vec<u8>) -> Re
 
 // Appends numbers of `size` bytes each, with a space before each; bytes if the size is zero.
 fn push_numbers(size: u8, payload: &[u8], out: &mut Vec<u8>) -> Result<(), AllocError>
-    ensures ok { OnOk result (out.new.items ≡ out.old.items ++ numbers_text size payload.now) }
+    ensures { Appends out.old out.new result (numbers_text size payload.now) }
 {
     if size == 0 {
         return push_bytes(payload, out);
@@ -179,7 +177,7 @@ fn push_numbers(size: u8, payload: &[u8], out: &mut Vec<u8>) -> Result<(), Alloc
 
 // Appends a space and the identifier of a bridge, or bytes if they are not 8.
 fn push_bridge_id(payload: &[u8], out: &mut Vec<u8>) -> Result<(), AllocError>
-    ensures ok { OnOk result (out.new.items ≡ out.old.items ++ bridge_id_text payload.now) }
+    ensures { Appends out.old out.new result (bridge_id_text payload.now) }
 {
     if payload.len() != 8 {
         return push_bytes(payload, out);
@@ -190,23 +188,27 @@ fn push_bridge_id(payload: &[u8], out: &mut Vec<u8>) -> Result<(), AllocError>
     push_hex_text(&payload[2..], out)
 }
 
+// Appends a title and a number.
+fn push_titled(title: &[u8], number: u32, out: &mut Vec<u8>) -> Result<(), AllocError>
+    ensures { Appends out.old out.new result (title.now ++ decimal number) }
+{
+    out.extend_from_slice(title)?;
+    push_decimal(u64::from(number), out)
+}
+
 // Appends an MPLS label by its number.
 fn push_label(label: u32, out: &mut Vec<u8>) -> Result<(), AllocError>
-    ensures ok { OnOk result (out.new.items ≡ out.old.items ++ label_text label) }
+    ensures { Appends out.old out.new result (label_text label) }
 {
     push_decimal(u64::from(label / 4096), out)?;
-    out.extend_from_slice(b" tc ")?;
-    push_decimal(u64::from(label / 512 % 8), out)?;
-    out.extend_from_slice(b" s ")?;
-    push_decimal(u64::from(label / 256 % 2), out)?;
-    out.extend_from_slice(b" ttl ")?;
-    push_decimal(u64::from(label % 256), out)
+    push_titled(b" tc ", label / 512 % 8, out)?;
+    push_titled(b" s ", label / 256 % 2, out)?;
+    push_titled(b" ttl ", label % 256, out)
 }
 
 // Appends an MPLS label, or bytes in hex if they are not 4.
-#[tactic(auto, using(crate::proofs::Readings::high_first))]
 fn push_label_value(part: &[u8], out: &mut Vec<u8>) -> Result<(), AllocError>
-    ensures ok { OnOk result (out.new.items ≡ out.old.items ++ label_value part.now) }
+    ensures { Appends out.old out.new result (label_value part.now) }
 {
     match part {
         [a, b, c, d] => push_label(u32::from_be_bytes([*a, *b, *c, *d]), out),
@@ -216,7 +218,7 @@ fn push_label_value(part: &[u8], out: &mut Vec<u8>) -> Result<(), AllocError>
 
 // Appends ` / ` and an MPLS label.
 fn push_label_after(part: &[u8], out: &mut Vec<u8>) -> Result<(), AllocError>
-    ensures ok { OnOk result (out.new.items ≡ out.old.items ++ label_after part.now) }
+    ensures { Appends out.old out.new result (label_after part.now) }
 {
     out.extend_from_slice(b" / ")?;
     push_label_value(part, out)
@@ -224,7 +226,7 @@ fn push_label_after(part: &[u8], out: &mut Vec<u8>) -> Result<(), AllocError>
 
 // Appends MPLS labels with ` / ` before each.
 fn push_more_labels(bytes: &[u8], out: &mut Vec<u8>) -> Result<(), AllocError>
-    ensures ok { OnOk result (out.new.items ≡ out.old.items ++ more_labels_text bytes.now) }
+    ensures { Appends out.old out.new result (more_labels_text bytes.now) }
 {
     let mut rest = bytes;
     for _ in 0..bytes.len() / 4 {
@@ -237,7 +239,7 @@ fn push_more_labels(bytes: &[u8], out: &mut Vec<u8>) -> Result<(), AllocError>
 
 // Appends a space and a stack of MPLS labels.
 fn push_labels(payload: &[u8], out: &mut Vec<u8>) -> Result<(), AllocError>
-    ensures ok { OnOk result (out.new.items ≡ out.old.items ++ labels_text payload.now) }
+    ensures { Appends out.old out.new result (labels_text payload.now) }
 {
     let (first, rest) = payload.split_at(4usize.min(payload.len()));
     out.push(b' ')?;
@@ -245,54 +247,19 @@ fn push_labels(payload: &[u8], out: &mut Vec<u8>) -> Result<(), AllocError>
     push_more_labels(rest, out)
 }
 
-// Appends the family and the address of an IPv4 gateway. Its text is never longer than the buffer.
-fn push_ipv4_via(octets: [u8; 4], out: &mut Vec<u8>) -> Result<(), AllocError>
-    ensures ok { OnOk result (out.new.items
-        ≡ out.old.items ++ (codes " family=2 (AF_INET) addr=" ++ ipv4_text octets)) }
-{
-    let mut text = ArrayString::<48>::new();
-    match write!(
-        text,
-        " family=2 (AF_INET) addr={}",
-        Ipv4Addr::from_octets(octets)
-    ) {
-        Ok(()) => out.extend_from_slice(text.as_bytes()),
-        Err(_) => Err(AllocError),
-    }
-}
-
-// Appends the family and the address of an IPv6 gateway. Its text is never longer than the buffer.
-fn push_ipv6_via(octets: [u8; 16], out: &mut Vec<u8>) -> Result<(), AllocError>
-    ensures ok { OnOk result (out.new.items
-        ≡ out.old.items
-        ++ (codes " family=10 (AF_INET6) addr=" ++ ipv6_text (segments_of octets))) }
-{
-    let mut text = ArrayString::<80>::new();
-    match write!(
-        text,
-        " family=10 (AF_INET6) addr={}",
-        Ipv6Addr::from_octets(octets)
-    ) {
-        Ok(()) => out.extend_from_slice(text.as_bytes()),
-        Err(_) => Err(AllocError),
-    }
-}
-
 // Appends a space, the family and the address of a gateway, by the number of bytes: 6 for IPv4, 18
 // for IPv6; any other number as bytes.
 fn push_via(payload: &[u8], out: &mut Vec<u8>) -> Result<(), AllocError>
-    ensures ok { OnOk result (out.new.items ≡ out.old.items ++ via_text payload.now) }
+    ensures { Appends out.old out.new result (via_text payload.now) }
 {
     match payload.len() {
         6 => {
-            let mut octets = [0; 4];
-            octets.copy_from_slice(&payload[2..]);
-            push_ipv4_via(octets, out)
+            out.extend_from_slice(b" family=2 (AF_INET) addr=")?;
+            push_ipv4(&payload[2..], out)
         }
         18 => {
-            let mut octets = [0; 16];
-            octets.copy_from_slice(&payload[2..]);
-            push_ipv6_via(octets, out)
+            out.extend_from_slice(b" family=10 (AF_INET6) addr=")?;
+            push_ipv6(&payload[2..], out)
         }
         _ => push_bytes(payload, out),
     }
@@ -303,9 +270,7 @@ fn push_via(payload: &[u8], out: &mut Vec<u8>) -> Result<(), AllocError>
 #[tactic(auto, using(crate::proofs::ExactTaken::of_a_record))]
 fn push_taken(exact: Exact, payload: &[u8], out: &mut Vec<u8>) -> Result<(), AllocError>
     requires { takes (exact_of exact) payload.now ≡ true }
-    ensures ok { OnOk result (out.new.items
-        ≡ out.old.items
-        ++ exact_text (exact_of exact) payload.now) }
+    ensures { Appends out.old out.new result (exact_text (exact_of exact) payload.now) }
 {
     match exact {
         ExactBy::Number(_) => push_plain_number(payload, out),
@@ -326,8 +291,7 @@ fn push_taken(exact: Exact, payload: &[u8], out: &mut Vec<u8>) -> Result<(), All
 
 // Appends the word `bytes`, and the bytes in hex if there are any.
 fn push_bytes_word(payload: &[u8], out: &mut Vec<u8>) -> Result<(), AllocError>
-    ensures ok { OnOk result (out.new.items
-        ≡ out.old.items ++ (codes " bytes" ++ bytes_text payload.now)) }
+    ensures { Appends out.old out.new result (codes " bytes" ++ bytes_text payload.now) }
 {
     out.extend_from_slice(b" bytes")?;
     push_bytes(payload, out)
@@ -339,11 +303,10 @@ fn push_bytes_word(payload: &[u8], out: &mut Vec<u8>) -> Result<(), AllocError>
 ///
 /// # Errors
 ///
-/// `AllocError` if `out` can't grow; it may then have a part of the text.
+/// `AllocError` if `out` lacked capacity for the text and can't grow; what it held stays, and a
+/// part of the text may follow.
 pub fn push_raw_value(exact: Exact, payload: &[u8], out: &mut Vec<u8>) -> Result<(), AllocError>
-    ensures ok { OnOk result (out.new.items
-        ≡ out.old.items
-        ++ raw_value (exact_of exact) payload.now) }
+    ensures { Appends out.old out.new result (raw_value (exact_of exact) payload.now) }
 {
     if takes(exact, payload) {
         push_taken(exact, payload, out)

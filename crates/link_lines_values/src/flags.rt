@@ -1,6 +1,7 @@
 //! Sets of flags with the names of their bits.
 
 ghost use Rattle.std.specs.Prelude.{◌≡◌, ◌++◌, not, IfOk, OnOk};
+ghost use Rattle.link_lines_values.specs.Appends.{Appends};
 ghost use Rattle.link_lines_values.specs.Names.{texts_of};
 ghost use Rattle.link_lines_values.specs.Flags.{has_none, listed, opened, named_flags, nameless, nameless_text, names_set};
 ghost use Rattle.link_lines_values.specs.Flags.{flags_text, word_flags};
@@ -27,7 +28,8 @@ fn nameless(rows: &[FlagName], number: u64) -> u64
 // Appends the names of the bits that are set, with ` (` before the first and ` | ` before each
 // other. Returns whether there is any.
 fn push_names(rows: &[FlagName], number: u64, out: &mut Vec<u8>) -> Result<bool, AllocError>
-    ensures names { OnOk result (out.new.items ≡ out.old.items ++ opened (names_set (texts_of (λ b. b.now) rows.now) number)) }
+    ensures appends { Appends out.old out.new result
+        (opened (names_set (texts_of (λ b. b.now) rows.now) number)) }
     ensures any { IfOk result (λ is_any. is_any ≡ not (has_none (names_set (texts_of (λ b. b.now) rows.now) number))) }
 {
     let mut is_any = false;
@@ -43,7 +45,7 @@ fn push_names(rows: &[FlagName], number: u64, out: &mut Vec<u8>) -> Result<bool,
 
 // Appends the bits without a name in hex, if there are any.
 fn push_nameless(rest: u64, out: &mut Vec<u8>) -> Result<(), AllocError>
-    ensures ok { OnOk result (out.new.items ≡ out.old.items ++ nameless_text rest) }
+    ensures { Appends out.old out.new result (nameless_text rest) }
 {
     if rest == 0 {
         return Ok(());
@@ -55,9 +57,9 @@ fn push_nameless(rest: u64, out: &mut Vec<u8>) -> Result<(), AllocError>
 // Appends in brackets the names of the bits that are set and, last, the bits without a name;
 // nothing if no bit has a name.
 fn push_listed(names: &[FlagName], number: u64, out: &mut Vec<u8>) -> Result<(), AllocError>
-    ensures ok { OnOk result (out.new.items
-        ≡ out.old.items ++ listed (names_set (texts_of (λ b. b.now) names.now) number)
-        (nameless (texts_of (λ b. b.now) names.now) number)) }
+    ensures { Appends out.old out.new result
+        (listed (names_set (texts_of (λ b. b.now) names.now) number) (nameless (texts_of
+        (λ b. b.now) names.now) number)) }
 {
     if push_names(names, number, out)? {
         push_nameless(nameless(names, number), out)?;
@@ -71,10 +73,10 @@ fn push_listed(names: &[FlagName], number: u64, out: &mut Vec<u8>) -> Result<(),
 ///
 /// # Errors
 ///
-/// `AllocError` if `out` can't grow; it may then have a part of the text.
+/// `AllocError` if `out` lacked capacity for the text and can't grow; what it held stays, and a
+/// part of the text may follow.
 pub fn push_flags(names: &[FlagName], number: u64, out: &mut Vec<u8>) -> Result<(), AllocError>
-    ensures ok { OnOk result (out.new.items
-        ≡ out.old.items ++ named_flags (texts_of (λ b. b.now) names.now) number) }
+    ensures { Appends out.old out.new result (named_flags (texts_of (λ b. b.now) names.now) number) }
 {
     push_hex(number, out)?;
     push_listed(names, number, out)
@@ -84,10 +86,10 @@ pub fn push_flags(names: &[FlagName], number: u64, out: &mut Vec<u8>) -> Result<
 ///
 /// # Errors
 ///
-/// `AllocError` if `out` can't grow; it may then have a part of the text.
+/// `AllocError` if `out` lacked capacity for the text and can't grow; what it held stays, and a
+/// part of the text may follow.
 pub fn push_word_flags(names: &[FlagName], number: u32, out: &mut Vec<u8>) -> Result<(), AllocError>
-    ensures ok { OnOk result (out.new.items
-        ≡ out.old.items ++ word_flags (texts_of (λ b. b.now) names.now) number) }
+    ensures { Appends out.old out.new result (word_flags (texts_of (λ b. b.now) names.now) number) }
 {
     push_hex(u64::from(number), out)?;
     if number == u32::MAX {
@@ -106,8 +108,7 @@ pub(crate) fn push_flags_of(
     out: &mut Vec<u8>,
 ) -> Result<(), AllocError>
     requires { flags ≡ number bytes.now }
-    ensures ok { OnOk result (out.new.items
-        ≡ out.old.items ++ flags_text (texts_of (λ b. b.now) names.now) bytes.now) }
+    ensures { Appends out.old out.new result (flags_text (texts_of (λ b. b.now) names.now) bytes.now) }
 {
     match bytes {
         [a, b, c, d] => push_word_flags(names, u32::from_le_bytes([*a, *b, *c, *d]), out),

@@ -1,6 +1,7 @@
 //! The indentation of lines.
 
 ghost use Rattle.std.specs.Prelude.{◌≡◌, ◌++◌, OnOk};
+ghost use Rattle.link_lines_values.specs.Appends.{Appends};
 ghost use Rattle.link_lines_values.specs.Indents.{indent};
 
 use std::alloc::AllocError;
@@ -12,10 +13,11 @@ const SPACES: [u8; 16] = [b' '; 16];
 ///
 /// # Errors
 ///
-/// `AllocError` if `out` can't grow; it may then have a part of the spaces.
+/// `AllocError` if `out` lacked capacity for the spaces and can't grow; what it held stays, and a
+/// part of the spaces may follow.
 #[tactic(auto, using(crate::proofs::Deeper::spaces))]
 pub fn push_indent(level: usize, out: &mut Vec<u8>) -> Result<(), AllocError>
-    ensures ok { OnOk result (out.new.items ≡ out.old.items ++ indent level) }
+    ensures { Appends out.old out.new result (indent level) }
 {
     if level <= 8 {
         return out.extend_from_slice(&SPACES[..2 * level]);

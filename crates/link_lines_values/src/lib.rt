@@ -13,6 +13,7 @@ mod flag_names;
 mod flags;
 mod groups;
 mod indents;
+mod internet;
 pub mod laws;
 mod layouts;
 pub mod line_layouts;

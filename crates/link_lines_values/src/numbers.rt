@@ -1,6 +1,7 @@
 //! Numbers with their names.
 
 ghost use Rattle.std.specs.Prelude.{◌≡◌, ◌++◌, OnOk};
+ghost use Rattle.link_lines_values.specs.Appends.{Appends};
 ghost use Rattle.link_lines_values.specs.Names.{bracketed, named_number, named_signed, text_in, texts_of};
 
 use crate::digits::{push_decimal, push_signed};
@@ -21,7 +22,7 @@ pub fn find_text(rows: &[NumberText], number: u64) -> &'static [u8]
 
 // Appends a name in brackets; nothing if the name is empty.
 fn push_bracketed(name: &[u8], out: &mut Vec<u8>) -> Result<(), AllocError>
-    ensures ok { OnOk result (out.new.items ≡ out.old.items ++ bracketed name.now) }
+    ensures { Appends out.old out.new result (bracketed name.now) }
 {
     if name.is_empty() {
         return Ok(());
@@ -36,9 +37,9 @@ fn push_bracketed(name: &[u8], out: &mut Vec<u8>) -> Result<(), AllocError>
 ///
 /// # Errors
 ///
-/// `AllocError` if `out` can't grow.
+/// `AllocError` if `out` lacked capacity for the text and can't grow; what it held stays.
 pub fn push_name(texts: &[NumberText], number: u64, out: &mut Vec<u8>) -> Result<(), AllocError>
-    ensures ok { OnOk result (out.new.items ≡ out.old.items ++ text_in (texts_of (λ b. b.now) texts.now) number) }
+    ensures { Appends out.old out.new result (text_in (texts_of (λ b. b.now) texts.now) number) }
 {
     out.extend_from_slice(find_text(texts, number))
 }
@@ -49,8 +50,7 @@ pub(crate) fn push_bracketed_name(
     number: u64,
     out: &mut Vec<u8>,
 ) -> Result<(), AllocError>
-    ensures ok { OnOk result (out.new.items
-        ≡ out.old.items ++ bracketed (text_in (texts_of (λ b. b.now) texts.now) number)) }
+    ensures { Appends out.old out.new result (bracketed (text_in (texts_of (λ b. b.now) texts.now) number)) }
 {
     push_bracketed(find_text(texts, number), out)
 }
@@ -59,9 +59,10 @@ pub(crate) fn push_bracketed_name(
 ///
 /// # Errors
 ///
-/// `AllocError` if `out` can't grow; it may then have a part of the text.
+/// `AllocError` if `out` lacked capacity for the text and can't grow; what it held stays, and a
+/// part of the text may follow.
 pub fn push_number(texts: &[NumberText], number: u64, out: &mut Vec<u8>) -> Result<(), AllocError>
-    ensures ok { OnOk result (out.new.items ≡ out.old.items ++ named_number (texts_of (λ b. b.now) texts.now) number) }
+    ensures { Appends out.old out.new result (named_number (texts_of (λ b. b.now) texts.now) number) }
 {
     push_decimal(number, out)?;
     if texts.is_empty() {
@@ -77,7 +78,7 @@ pub(crate) fn push_signed_number(
     number: u64,
     out: &mut Vec<u8>,
 ) -> Result<(), AllocError>
-    ensures ok { OnOk result (out.new.items ≡ out.old.items ++ named_signed (texts_of (λ b. b.now) texts.now) number) }
+    ensures { Appends out.old out.new result (named_signed (texts_of (λ b. b.now) texts.now) number) }
 {
     push_signed(number, out)?;
     push_bracketed(find_text(texts, number), out)

@@ -2,6 +2,7 @@
 
 ghost use Rattle.std.specs.Prelude.{◌≡◌, [], ◌==◌, ◌<◌, ◌≤◌, ◌+◌, ◌/◌, ◌∷◌, ◌++◌, true};
 ghost use Rattle.std.specs.Prelude.{◌||◌, ◌&&◌, cond, drop, false, length, min, IfNone, IfSome, OnOk};
+ghost use Rattle.link_lines_values.specs.Appends.{Appends};
 ghost use Rattle.link_lines_values.specs.Bytes.{is_zero};
 ghost use Rattle.link_lines_values.specs.Names.{texts_of};
 ghost use Rattle.link_lines_values.specs.Records.{field_of, field_text, field_value, fields_of, fields_text};
@@ -48,8 +49,8 @@ fn push_field_number(
     part: &[u8],
     out: &mut Vec<u8>,
 ) -> Result<(), AllocError>
-    ensures ok { OnOk result (out.new.items
-        ≡ out.old.items ++ number_or_hex (texts_of (λ b. b.now) texts.now) number part.now) }
+    ensures { Appends out.old out.new result
+        (number_or_hex (texts_of (λ b. b.now) texts.now) number part.now) }
 {
     match number {
         Some(number) => push_number(texts, number, out),
@@ -77,7 +78,7 @@ fn is_signed_size(size: usize) -> bool
 
 // Appends the number of a field with its sign, or its bytes if no signed number has their size.
 fn push_field_signed(part: &[u8], out: &mut Vec<u8>) -> Result<(), AllocError>
-    ensures ok { OnOk result (out.new.items ≡ out.old.items ++ field_value FieldShownBy.Signed part.now) }
+    ensures { Appends out.old out.new result (field_value FieldShownBy.Signed part.now) }
 {
     match little_endian(part) {
         Some(number) if is_signed_size(part.len()) => {
@@ -91,8 +92,8 @@ fn push_field_signed(part: &[u8], out: &mut Vec<u8>) -> Result<(), AllocError>
 // Out of line, as few fields need it: inlined, it would slow `push_field_value`.
 #[inline(never)]
 fn push_field_flags(names: &[FlagName], part: &[u8], out: &mut Vec<u8>) -> Result<(), AllocError>
-    ensures ok { OnOk result (out.new.items
-        ≡ out.old.items ++ field_value (FieldShownBy.Flags (texts_of (λ b. b.now) names.now)) part.now) }
+    ensures { Appends out.old out.new result
+        (field_value (FieldShownBy.Flags (texts_of (λ b. b.now) names.now)) part.now) }
 {
     match little_endian(part) {
         Some(flags) => push_flags_of(names, flags, part, out),
@@ -109,8 +110,8 @@ fn push_field_handle(
     part: &[u8],
     out: &mut Vec<u8>,
 ) -> Result<(), AllocError>
-    ensures ok { OnOk result (out.new.items
-        ≡ out.old.items ++ handle_or_hex (texts_of (λ b. b.now) texts.now) handle part.now) }
+    ensures { Appends out.old out.new result
+        (handle_or_hex (texts_of (λ b. b.now) texts.now) handle part.now) }
 {
     match handle {
         Some(handle) if part.len() == 4 => {
@@ -125,8 +126,7 @@ fn push_field_handle(
 
 // Appends the value of a field.
 fn push_field_value(shown: &FieldShown, part: &[u8], out: &mut Vec<u8>) -> Result<(), AllocError>
-    ensures ok { OnOk result (out.new.items
-        ≡ out.old.items ++ field_value (shown_of shown.now) part.now) }
+    ensures { Appends out.old out.new result (field_value (shown_of shown.now) part.now) }
 {
     match shown {
         FieldShownBy::Number(table) => {
@@ -155,8 +155,8 @@ fn push_field(
     part: &[u8],
     out: &mut Vec<u8>,
 ) -> Result<(), AllocError>
-    ensures ok { OnOk result (out.new.items
-        ≡ out.old.items ++ field_text separator (field_of (λ b. b.now) field.now) part.now) }
+    ensures { Appends out.old out.new result
+        (field_text separator (field_of (λ b. b.now) field.now) part.now) }
 {
     out.push(b' ')?;
     out.extend_from_slice(field.0)?;
@@ -198,8 +198,8 @@ fn push_fields(
     out: &mut Vec<u8>,
 ) -> Result<(), AllocError>
     requires { length bytes.now ≡ total_size (fields_of (λ b. b.now) rows.now) }
-    ensures ok { OnOk result (out.new.items
-        ≡ out.old.items ++ fields_text separator is_sparse (fields_of (λ b. b.now) rows.now) bytes.now) }
+    ensures { Appends out.old out.new result
+        (fields_text separator is_sparse (fields_of (λ b. b.now) rows.now) bytes.now) }
 {
     let mut rest = bytes;
     for row in rows {
@@ -216,11 +216,12 @@ fn push_fields(
 ///
 /// # Errors
 ///
-/// `AllocError` if `out` can't grow; it may then have a part of the text.
+/// `AllocError` if `out` lacked capacity for the text and can't grow; what it held stays, and a
+/// part of the text may follow.
 pub fn push_record_fields(rows: &[Field], bytes: &[u8], out: &mut Vec<u8>) -> Result<(), AllocError>
     requires { length bytes.now ≡ total_size (fields_of (λ b. b.now) rows.now) }
-    ensures ok { OnOk result (out.new.items
-        ≡ out.old.items ++ fields_text 61 false (fields_of (λ b. b.now) rows.now) bytes.now) }
+    ensures { Appends out.old out.new result
+        (fields_text 61 false (fields_of (λ b. b.now) rows.now) bytes.now) }
 {
     push_fields(b'=', false, rows, bytes, out)
 }
@@ -229,11 +230,12 @@ pub fn push_record_fields(rows: &[Field], bytes: &[u8], out: &mut Vec<u8>) -> Re
 ///
 /// # Errors
 ///
-/// `AllocError` if `out` can't grow; it may then have a part of the text.
+/// `AllocError` if `out` lacked capacity for the text and can't grow; what it held stays, and a
+/// part of the text may follow.
 pub fn push_header_fields(rows: &[Field], bytes: &[u8], out: &mut Vec<u8>) -> Result<(), AllocError>
     requires { length bytes.now ≡ total_size (fields_of (λ b. b.now) rows.now) }
-    ensures ok { OnOk result (out.new.items
-        ≡ out.old.items ++ fields_text 32 false (fields_of (λ b. b.now) rows.now) bytes.now) }
+    ensures { Appends out.old out.new result
+        (fields_text 32 false (fields_of (λ b. b.now) rows.now) bytes.now) }
 {
     push_fields(b' ', false, rows, bytes, out)
 }
@@ -284,8 +286,8 @@ pub(crate) fn push_record(
     bytes: &[u8],
     out: &mut Vec<u8>,
 ) -> Result<(), AllocError>
-    ensures ok { OnOk result (out.new.items
-        ≡ out.old.items ++ record_text is_sparse (fields_of (λ b. b.now) rows.now) bytes.now) }
+    ensures { Appends out.old out.new result
+        (record_text is_sparse (fields_of (λ b. b.now) rows.now) bytes.now) }
 {
     match after_fields(rows, bytes) {
         Some(rest) if is_zero(rest) => {
@@ -324,8 +326,7 @@ fn find_title(rows: &[Field], index: usize) -> &'static [u8]
 
 // Appends the name of a counter: the title of its field, or its index if there is none.
 fn push_counter_name(rows: &[Field], index: usize, out: &mut Vec<u8>) -> Result<(), AllocError>
-    ensures ok { OnOk result (out.new.items
-        ≡ out.old.items ++ counter_name (fields_of (λ b. b.now) rows.now) index) }
+    ensures { Appends out.old out.new result (counter_name (fields_of (λ b. b.now) rows.now) index) }
 {
     if index < rows.len() {
         return out.extend_from_slice(find_title(rows, index));
@@ -341,9 +342,8 @@ fn push_counter(
     part: &[u8],
     out: &mut Vec<u8>,
 ) -> Result<(), AllocError>
-    ensures ok { OnOk result (out.new.items
-        ≡ out.old.items ++ cond (is_zero part.now) []
-        (32 ∷ (counter_name (fields_of (λ b. b.now) rows.now) index
+    ensures { Appends out.old out.new result
+        (cond (is_zero part.now) [] (32 ∷ (counter_name (fields_of (λ b. b.now) rows.now) index
         ++ 61 ∷ field_value (shown_of shown.now) part.now))) }
 {
     if is_zero_field(part) {
@@ -364,9 +364,9 @@ fn push_slots(
     out: &mut Vec<u8>,
 ) -> Result<(), AllocError>
     requires { 0 < size }
-    ensures ok { OnOk result (out.new.items
-        ≡ out.old.items ++ slots_text size (shown_of shown.now)
-        (fields_of (λ b. b.now) rows.now) 0 (length bytes.now / size) bytes.now) }
+    ensures { Appends out.old out.new result
+        (slots_text size (shown_of shown.now) (fields_of (λ b. b.now) rows.now) 0
+        (length bytes.now / size) bytes.now) }
 {
     let mut index = 0;
     let mut rest = bytes;
@@ -384,11 +384,11 @@ fn push_slots(
 ///
 /// # Errors
 ///
-/// `AllocError` if `out` can't grow; it may then have a part of the text.
+/// `AllocError` if `out` lacked capacity for the text and can't grow; what it held stays, and a
+/// part of the text may follow.
 pub fn push_counters(rows: &[Field], bytes: &[u8], out: &mut Vec<u8>) -> Result<(), AllocError>
     requires { is_counters (fields_of (λ b. b.now) rows.now) bytes.now ≡ true }
-    ensures ok { OnOk result (out.new.items
-        ≡ out.old.items ++ counters_text (fields_of (λ b. b.now) rows.now) bytes.now) }
+    ensures { Appends out.old out.new result (counters_text (fields_of (λ b. b.now) rows.now) bytes.now) }
 {
     match rows {
         [first, ..] => {
@@ -405,15 +405,15 @@ pub fn push_counters(rows: &[Field], bytes: &[u8], out: &mut Vec<u8>) -> Result<
 ///
 /// # Errors
 ///
-/// `AllocError` if `out` can't grow; it may then have a part of the text.
+/// `AllocError` if `out` lacked capacity for the text and can't grow; what it held stays, and a
+/// part of the text may follow.
 pub fn push_nonzero_counters(
     rows: &[Field],
     bytes: &[u8],
     out: &mut Vec<u8>,
 ) -> Result<(), AllocError>
     requires { is_counters (fields_of (λ b. b.now) rows.now) bytes.now ≡ true }
-    ensures ok { OnOk result (out.new.items
-        ≡ out.old.items ++ nonzero_text (fields_of (λ b. b.now) rows.now) bytes.now) }
+    ensures { Appends out.old out.new result (nonzero_text (fields_of (λ b. b.now) rows.now) bytes.now) }
 {
     match rows {
         [first, ..] => push_slots(usize::from(first.1), &first.2, rows, bytes, out),

@@ -1,6 +1,7 @@
 //! Payloads of attributes as text.
 
 ghost use Rattle.std.specs.Prelude.{◌≡◌, ◌++◌, ◌∷◌, codes, OnOk};
+ghost use Rattle.link_lines_values.specs.Appends.{Appends};
 ghost use Rattle.link_lines_values.specs.Bytes.{boolean_text};
 ghost use Rattle.link_lines_values.specs.Flags.{word_flags};
 ghost use Rattle.link_lines_values.specs.Values.{big_endian_flags_value, big_endian_value, flags_and_mask_value};
@@ -69,8 +70,7 @@ fn push_number_value(
     payload: &[u8],
     out: &mut Vec<u8>,
 ) -> Result<(), AllocError>
-    ensures ok { OnOk result (out.new.items
-        ≡ out.old.items ++ number_value (texts_of (λ b. b.now) texts.now) payload.now) }
+    ensures { Appends out.old out.new result (number_value (texts_of (λ b. b.now) texts.now) payload.now) }
 {
     let Some(number) = little_endian(payload) else {
         return push_bytes(payload, out);
@@ -85,8 +85,8 @@ fn push_big_endian_value(
     payload: &[u8],
     out: &mut Vec<u8>,
 ) -> Result<(), AllocError>
-    ensures ok { OnOk result (out.new.items
-        ≡ out.old.items ++ big_endian_value (texts_of (λ b. b.now) texts.now) payload.now) }
+    ensures { Appends out.old out.new result
+        (big_endian_value (texts_of (λ b. b.now) texts.now) payload.now) }
 {
     let Some(number) = big_endian(payload) else {
         return push_bytes(payload, out);
@@ -101,8 +101,7 @@ fn push_signed_value(
     payload: &[u8],
     out: &mut Vec<u8>,
 ) -> Result<(), AllocError>
-    ensures ok { OnOk result (out.new.items
-        ≡ out.old.items ++ signed_value (texts_of (λ b. b.now) texts.now) payload.now) }
+    ensures { Appends out.old out.new result (signed_value (texts_of (λ b. b.now) texts.now) payload.now) }
 {
     match little_endian(payload) {
         Some(number) if payload.len() == 4 => {
@@ -115,7 +114,7 @@ fn push_signed_value(
 
 /// Appends a space and big-endian flags in hex, or bytes if no number has their size.
 fn push_big_endian_flags(payload: &[u8], out: &mut Vec<u8>) -> Result<(), AllocError>
-    ensures ok { OnOk result (out.new.items ≡ out.old.items ++ big_endian_flags_value payload.now) }
+    ensures { Appends out.old out.new result (big_endian_flags_value payload.now) }
 {
     match big_endian(payload) {
         Some(flags) => {
@@ -128,8 +127,8 @@ fn push_big_endian_flags(payload: &[u8], out: &mut Vec<u8>) -> Result<(), AllocE
 
 /// Appends a space and flags with the names of their bits, or bytes if no number has their size.
 fn push_named_flags(names: &[FlagName], payload: &[u8], out: &mut Vec<u8>) -> Result<(), AllocError>
-    ensures ok { OnOk result (out.new.items
-        ≡ out.old.items ++ named_flags_value (texts_of (λ b. b.now) names.now) payload.now) }
+    ensures { Appends out.old out.new result
+        (named_flags_value (texts_of (λ b. b.now) names.now) payload.now) }
 {
     let Some(flags) = little_endian(payload) else {
         return push_bytes(payload, out);
@@ -140,7 +139,7 @@ fn push_named_flags(names: &[FlagName], payload: &[u8], out: &mut Vec<u8>) -> Re
 
 /// Appends a space and a byte in decimal; nothing for no byte; more as bytes.
 fn push_optional_byte(payload: &[u8], out: &mut Vec<u8>) -> Result<(), AllocError>
-    ensures ok { OnOk result (out.new.items ≡ out.old.items ++ optional_byte_value payload.now) }
+    ensures { Appends out.old out.new result (optional_byte_value payload.now) }
 {
     match payload {
         [byte] => {
@@ -152,9 +151,8 @@ fn push_optional_byte(payload: &[u8], out: &mut Vec<u8>) -> Result<(), AllocErro
 }
 
 /// Appends a space and two port numbers, or bytes if they are not 4.
-#[tactic(auto, using(crate::proofs::Readings::high_first))]
 fn push_port_range(payload: &[u8], out: &mut Vec<u8>) -> Result<(), AllocError>
-    ensures ok { OnOk result (out.new.items ≡ out.old.items ++ port_range_value payload.now) }
+    ensures { Appends out.old out.new result (port_range_value payload.now) }
 {
     match payload {
         [a, b, c, d] => {
@@ -169,9 +167,9 @@ fn push_port_range(payload: &[u8], out: &mut Vec<u8>) -> Result<(), AllocError>
 
 // Appends a space, flags, ` mask ` and a mask.
 fn push_mask(names: &[FlagName], flags: u32, mask: u32, out: &mut Vec<u8>) -> Result<(), AllocError>
-    ensures ok { OnOk result (out.new.items
-        ≡ out.old.items ++ 32 ∷ (word_flags (texts_of (λ b. b.now) names.now) flags ++
-        (codes " mask " ++ word_flags (texts_of (λ b. b.now) names.now) mask))) }
+    ensures { Appends out.old out.new result
+        (32 ∷ (word_flags (texts_of (λ b. b.now) names.now) flags ++ (codes " mask "
+        ++ word_flags (texts_of (λ b. b.now) names.now) mask))) }
 {
     out.push(b' ')?;
     push_word_flags(names, flags, out)?;
@@ -185,8 +183,8 @@ fn push_flags_and_mask(
     payload: &[u8],
     out: &mut Vec<u8>,
 ) -> Result<(), AllocError>
-    ensures ok { OnOk result (out.new.items
-        ≡ out.old.items ++ flags_and_mask_value (texts_of (λ b. b.now) names.now) payload.now) }
+    ensures { Appends out.old out.new result
+        (flags_and_mask_value (texts_of (λ b. b.now) names.now) payload.now) }
 {
     match payload {
         [a, b, c, d, e, f, g, h] => push_mask(
@@ -201,7 +199,7 @@ fn push_flags_and_mask(
 
 /// Appends a space and `on` or `off`.
 fn push_boolean_value(payload: &[u8], out: &mut Vec<u8>) -> Result<(), AllocError>
-    ensures ok { OnOk result (out.new.items ≡ out.old.items ++ 32 ∷ boolean_text payload.now) }
+    ensures { Appends out.old out.new result (32 ∷ boolean_text payload.now) }
 {
     out.push(b' ')?;
     push_boolean(payload, out)
@@ -211,10 +209,10 @@ fn push_boolean_value(payload: &[u8], out: &mut Vec<u8>) -> Result<(), AllocErro
 ///
 /// # Errors
 ///
-/// `AllocError` if `out` can't grow; it may then have a part of the text.
+/// `AllocError` if `out` lacked capacity for the text and can't grow; what it held stays, and a
+/// part of the text may follow.
 pub fn push_value(shown: Shown, payload: &[u8], out: &mut Vec<u8>) -> Result<(), AllocError>
-    ensures ok { OnOk result (out.new.items
-        ≡ out.old.items ++ value_text (format_of shown) payload.now) }
+    ensures { Appends out.old out.new result (value_text (format_of shown) payload.now) }
 {
     match shown {
         ShownBy::Number(table) => push_number_value(table.texts(), payload, out),

@@ -1,12 +1,11 @@
-use Rattle.std.proofs.Common.{◌≡◌, ◌++◌, false, length}
+use Rattle.std.proofs.Common.{false, length}
+use Rattle.link_lines_values.specs.Appends.{AppendsAllBut}
 use Rattle.link_lines_parts.specs.Lines.{words_of}
 use Rattle.link_lines_parts.specs.Remaining.{without_index_fields}
 use Rattle.link_lines_parts.proofs.remaining.push_without_index_fields.Given as goal
 
 abbrev pub invariant-loop-word : goal.invariant-loop-word
-invariant-loop-word l =
-    l.out.items ++ without_index_fields l.after_name (words_of l.rest)
-    ≡ l.fn.out.items ++ without_index_fields false (words_of l.fn.line)
+invariant-loop-word l = AppendsAllBut l.fn.out l.out (without_index_fields false (words_of l.fn.line)) (without_index_fields l.after_name (words_of l.rest))
 
 abbrev pub decreases-loop-word : goal.decreases-loop-word
 decreases-loop-word l = length l.rest

@@ -1,9 +1,10 @@
-use Rattle.std.proofs.Common.{◌≡◌, ◌++◌, ◌≤◌}
+use Rattle.std.proofs.Common.{◌-◌, ◌≤◌}
+use Rattle.link_lines_values.specs.Appends.{AppendsAllBut}
 use Rattle.link_lines_values.specs.Indents.{indent}
 use Rattle.link_lines_values.proofs.indents.push_indent.Given as goal
 
 abbrev pub invariant-loop : goal.invariant-loop
 invariant-loop l = record {
   within : l.counter ≤ l.fn.level;
-  so_far : l.out.items ≡ l.fn.out.items ++ indent l.counter;
+  appends : AppendsAllBut l.fn.out l.out (indent l.fn.level) (indent (l.fn.level - l.counter));
 }

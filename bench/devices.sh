@@ -1,6 +1,6 @@
 #!/usr/bin/env bash
 # Runs `linkcap norm`, `linkcap same` and `linkshow` on devices that fail, under a program name that isn't UTF-8, and with
-# little memory; and compares status, output and standard error with what docs/frames.md says.
+# little memory; and compares status, output and standard error with what docs/statuses.md says.
 #
 #     bench/devices.sh [PROGRAM [SHOW]]
 #
@@ -149,12 +149,6 @@ status=$?
 expect "a result that can't be printed" 2 "write failed at 0" 0
 run same "$request" $'\xff'
 expect "a file name that isn't UTF-8" 3 "$usage" 0
-(ulimit -v 65536 && exec "$program" same "$request" /dev/zero) > "$work/text" 2> "$work/report"
-status=$?
-case $status:$(cat "$work/report") in
-    "2:second: no memory at "*) echo "ok      a file without an end" ;;
-    *) echo "WRONG   a file without an end: status $status, '$(cat "$work/report")'"; failed=1 ;;
-esac
 
 { sleep 0.2; "$program" same "$request" "$request" 2> "$work/report"; echo $? > "$work/status"; } | true
 : > "$work/text"
@@ -173,6 +167,10 @@ expect "a frame of 4 GiB takes memory for the bytes that have come" 2 "cut frame
 huge_frame 300000000 2> /dev/null | (ulimit -v 65536 && exec "$program" norm 4294967295) > "$work/text" 2> "$work/report"
 status=$?
 expect "a frame that is larger than memory" 2 "no memory at 0" 0
+: > "$work/text"
+huge_frame 300000000 2> /dev/null | (ulimit -v 65536 && exec "$program" same "$request" /dev/stdin 4294967295) > "$work/text" 2> "$work/report"
+status=$?
+expect "a frame in a file that is larger than memory" 2 "second: no memory at 0" 0
 
 # The same of linkshow.
 program=$show
@@ -185,7 +183,9 @@ run < "$work/cut"
 expect "lines before a fault are written" 2 "cut frame at 48" "$lines"
 run < "$work/long"
 expect "lines: a fault after the first piece" 2 "cut frame at 67200" $((1400 * lines))
-for arguments in "--limit 15" "48 48" "--limit"; do
+run --limit 15 < "$request"
+expect "lines: a limit that is none" 3 "linkshow: --limit: no number from 16 to 4294967295: 15" 0
+for arguments in "48 48" "--limit"; do
     # shellcheck disable=SC2086
     run $arguments < "$request"
     expect "lines: usage error: '$arguments'" 3 "usage: linkshow [--only TYPE,..] [--link WORD] [--without NAME,..] [--without-numbers] [--offsets] [--keep-going] [--json] [--kernels] [--limit N] [FILE]; linkshow --help says more" 0

@@ -1,4 +1,4 @@
-//! Example calls on link messages, which the page `docs/link_message.md` quotes.
+//! Example calls on link messages, which the page `docs/rattle/link_message.md` quotes.
 
 ghost use Rattle.std.specs.Prelude.{◌≡◌, ◌++◌, true, IfOk};
 ghost use Rattle.netlink_packet_core.specs.Attributes.{attribute_text};

@@ -15,6 +15,7 @@ pub use fault::RouteFault;
 pub use frames::read_message;
 pub use link_capture_checks::{Measure, SideFault, check, measure, normal_len, same};
 pub use link_capture_commands::{Command, DEFAULT_LIMIT, read_words, status_norm, status_same};
+pub use link_capture_comparing::{read_to_end, same_sources};
 pub use link_capture_grammar::fault::{CaptureFault, FaultKind};
 pub use link_capture_grammar::laws;
 pub use link_capture_grammar::link_types::{RTM_DELLINK, RTM_GETLINK, RTM_NEWLINK, RTM_SETLINK};

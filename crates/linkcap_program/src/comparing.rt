@@ -1,18 +1,19 @@
 //! Compares the captures in two files.
 
-ghost use Rattle.std.specs.Prelude.{◌≡◌, ◌∷◌, [], Result, Ok, IfOk, IfErr};
+ghost use Rattle.std.specs.Prelude.{◌≡◌, ◌⊎◌, ℕ, List, true, false, Ok, Err};
 ghost use Rattle.std.specs.Process.{exit_status};
-ghost use Rattle.std.specs.declared.io.ErrorKind.{ErrorKind};
-ghost use Rattle.link_capture_reader.specs.Files.{files_of, opening, then_opened};
+ghost use Rattle.link_capture_comparing.specs.Comparisons.{IsReadWhole, IsUnread};
+ghost use Rattle.link_capture_reader.specs.Files.{files_of};
 ghost use Rattle.link_capture_reader.specs.States.{sink_state, source_state};
-ghost use Rattle.linkcap_program.specs.Comparisons.{IsRead, IsUnread, Compares};
+ghost use Rattle.linkcap_program.specs.Comparisons.{Compares, FailsAt, IsUnopened};
 ghost use Rattle.linkcap_program.specs.Runs.{SameRun, SameReported, same_line};
 
 use super::lines::line;
-use link_capture_checks::{SideFault, same};
+use link_capture_checks::SideFault;
 use link_capture_commands::{NOT_PRINTED, status_same};
+use link_capture_comparing::{read_to_end, same_sources};
 use link_capture_grammar::fault::{CaptureFault, FaultKind};
-use link_capture_reader::{FileSystem, Sink, read_all, report_text};
+use link_capture_reader::{FileSystem, Sink, Source, report_text};
 use std::alloc::Global;
 use std::process::ExitCode;
 
@@ -22,47 +23,40 @@ const NOT_OPENED: CaptureFault = CaptureFault {
     offset: 0,
 };
 
-/// Returns all bytes of the first or the second of two files. If the file can't be opened, the
-/// fault is a failed read at 0.
-fn read_side<F: FileSystem>(
-    alloc: Global,
-    files: &mut F,
-    name: &str,
-    second: bool,
-) -> Result<Vec<u8>, SideFault>
-    ensures ok { IfOk result (λ bytes. (outcome : Result F.File ErrorKind)
-        × (F.openings files.new ≡ then_opened (F.openings files.old) (opening name.now outcome ∷ []))
-        × IsRead (source_state F.File.to_come F.File.failures F.File.ends_reported)
-        (F.contents files.old name.now) outcome bytes.items) }
-    ensures side { IfErr result (λ e. e.second ≡ second) }
-    ensures fault { IfErr result (λ e. (outcome : Result F.File ErrorKind)
-        × (F.openings files.new ≡ then_opened (F.openings files.old) (opening name.now outcome ∷ []))
-        × IsUnread (source_state F.File.to_come F.File.failures F.File.ends_reported)
-        (F.contents files.old name.now) outcome e.fault) }
-    ensures contents { F.contents files.new ≡ F.contents files.old }
+/// Returns the fault of the first or the second of two files.
+fn fault_of(second: bool, fault: CaptureFault) -> SideFault
+    ensures { result ≡ record { second = second; fault = fault } }
 {
-    let Ok(mut file) = files.open(name) else {
-        return Err(SideFault {
-            second,
-            fault: NOT_OPENED,
-        });
-    };
-    match read_all(alloc, &mut file) {
-        Ok(bytes) => Ok(bytes),
-        Err(fault) => Err(SideFault { second, fault }),
+    SideFault { second, fault }
+}
+
+/// Returns the fault if the second file can't be opened: that of the first file, if reading it to its
+/// end fails.
+fn unopened_second<S: Source>(first: &mut S) -> SideFault
+    ensures { (read : List ℕ) × ((IsReadWhole (source_state S.to_come S.failures S.ends_reported first.old)
+        (source_state S.to_come S.failures S.ends_reported first.new) read
+        × FailsAt true IsUnopened (Err result))
+        ⊎ FailsAt false (IsUnread (source_state S.to_come S.failures S.ends_reported first.old)
+        (source_state S.to_come S.failures S.ends_reported first.new) read) (Err result)) }
+{
+    match read_to_end(first) {
+        Ok(()) => fault_of(true, NOT_OPENED),
+        Err(fault) => fault_of(false, fault),
     }
 }
 
 /// Returns whether the captures in two files mean the same under a limit. The first file is opened
-/// once and read, then the second, and then their captures are judged; so a missing file is
-/// reported before a fault of the other capture. If the first can't be read, the second isn't
-/// opened.
+/// once, and then the second; if the first can't be opened, the second isn't. Then both are read in
+/// step, each to its end. If the second can't be opened, the first is read to its end all the same,
+/// since a fault of reading it comes first.
 ///
 /// # Errors
 ///
-/// The first of these faults, with the file that has it: `Read` at 0 if the file can't be opened;
-/// `Read` or `Memory` at the number of bytes read if reading it or an allocation fails; the first
-/// fault of the first capture, or that of the second if the first is legal.
+/// The first of these faults, with the file that has it: `Read` at 0 if the first file can't be
+/// opened, or at the number of bytes read if reading it fails; the same for the second file; the
+/// first fault of the first capture, or that of the second if the first is legal. At a message that
+/// is cut in what was read, and before which there is no fault, it is `Memory` if an allocation
+/// fails. More than `u64::MAX` bytes are `TooLong`, which ranks as a failed read.
 pub fn compare<F: FileSystem>(
     alloc: Global,
     files: &mut F,
@@ -73,9 +67,13 @@ pub fn compare<F: FileSystem>(
     ensures { Compares (files_of (source_state F.File.to_come F.File.failures F.File.ends_reported)
         F.contents F.openings files.old files.new) first.now second.now limit result }
 {
-    let left = read_side(alloc, files, first, false)?;
-    let right = read_side(alloc, files, second, true)?;
-    same(left.as_slice(), right.as_slice(), limit)
+    let Ok(mut left) = files.open(first) else {
+        return Err(fault_of(false, NOT_OPENED));
+    };
+    let Ok(mut right) = files.open(second) else {
+        return Err(unopened_second(&mut left));
+    };
+    same_sources(alloc, &mut left, &mut right, limit)
 }
 
 // Returns the line that is printed for two captures.

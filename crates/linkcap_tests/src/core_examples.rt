@@ -1,4 +1,4 @@
-//! Calls of the core, which the page `docs/netlink_packet_core.md` quotes.
+//! Calls of the core, which the page `docs/rattle/netlink_packet_core.md` quotes.
 
 ghost use Rattle.std.specs.Prelude.{◌≡◌, true, IfOk};
 ghost use Rattle.netlink_packet_core.specs.Attributes.{attribute_text};

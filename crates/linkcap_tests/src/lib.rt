@@ -29,4 +29,6 @@ mod requests;
 #[cfg(test)]
 mod runs;
 #[cfg(test)]
+mod steps;
+#[cfg(test)]
 mod stores;

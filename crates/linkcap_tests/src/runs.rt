@@ -26,19 +26,19 @@ pub(crate) const TEXT: [u8; 68] = [
 ];
 
 /// The normal text of that request alone.
-const REQUEST: [u8; 48] = [
+pub(crate) const REQUEST: [u8; 48] = [
     48, 0, 0, 0, 18, 0, 1, 3, 52, 14, 249, 90, 0, 0, 0, 0, 0, 0, 0, 0, 0, 0, 0, 0, 0, 0, 0, 0, 0,
     0, 0, 0, 8, 0, 29, 0, 9, 0, 0, 0, 7, 0, 3, 0, 108, 111, 0, 0,
 ];
 
 /// The same, and the first bytes of another message.
-const BEGUN: [u8; 58] = [
+pub(crate) const BEGUN: [u8; 58] = [
     48, 0, 0, 0, 18, 0, 1, 3, 52, 14, 249, 90, 0, 0, 0, 0, 0, 0, 0, 0, 0, 0, 0, 0, 0, 0, 0, 0, 0,
     0, 0, 0, 8, 0, 29, 0, 9, 0, 0, 0, 7, 0, 3, 0, 108, 111, 0, 0, 48, 0, 0, 0, 18, 0, 1, 3, 52, 14,
 ];
 
 /// A DONE message without a body, and a length under 16.
-const SHORT: [u8; 32] = [
+pub(crate) const SHORT: [u8; 32] = [
     16, 0, 0, 0, 3, 0, 2, 0, 1, 0, 0, 0, 0, 0, 0, 0, 8, 0, 0, 0, 3, 0, 0, 0, 0, 0, 0, 0, 0, 0, 0, 0,
 ];
 

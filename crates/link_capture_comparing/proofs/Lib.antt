@@ -1,0 +1,5 @@
+pub mod Counting
+pub mod Standing
+pub mod Together
+pub mod Finding
+pub mod Deciding

@@ -1,0 +1,4 @@
+pub mod Comparisons
+pub mod Readings
+pub mod Sides
+pub mod Partings

@@ -97,6 +97,18 @@ expect "messages after a refused body" 2 "refused body at 0: $reason at 32" "$wo
 run "$lines"
 expect "a file of lines" 2 "frame over the limit at 0
 linkshow: these are lines of linkshow already: linkdiff and linkjson read them" "$work/nothing"
+run --limit=48 --only=getlink --without=IFLA_MTU --link=lo "$request"
+expect "values behind =" 0 "" "$lines"
+run --link= "$request"
+expect "an empty value behind =" 0 "no messages" "$work/nothing"
+cp "$request" "$work/--json"
+(cd "$work" && "$program" -- --json > text 2> report)
+status=$?
+expect "a file whose name is an option" 0 "" "$lines"
+run -- - < "$request"
+expect "standard input by - after --" 0 "" "$lines"
+run --kernels -- < "$request"
+expect "nothing after --" 0 "" "$lines"
 cp "$request" "$work/48"
 (cd "$work" && "$program" 48 > text 2> report)
 status=$?
@@ -107,8 +119,11 @@ run --version
 grep -oE 'linkshow [0-9]+\.[0-9.]+, lines [0-9]+' docs/showing.md | head -n 1 > "$work/version"
 expect "the version is that of the page" 0 "" "$work/version"
 run --help
-status=$status:$(head -n 1 "$work/text"):$(grep -c -- '^  --' "$work/text")
+status=$status:$(head -n 1 "$work/text"):$(grep -cE -- '^  (-h, )?--' "$work/text")
 expect "help" "0:usage: linkshow [--only TYPE,..] [--link WORD] [--without NAME,..]:11" "" "$work/text"
+cp "$work/text" "$work/help"
+run -h
+expect "help by -h" 0 "" "$work/help"
 # The limits are those of the header for C.
 default=$(sed -n 's/^#define LINKCAP_DEFAULT_LIMIT //p' bindings/c/linkcap.h)
 lowest=$(sed -n 's/^#define LINKCAP_MIN_LIMIT //p' bindings/c/linkcap.h)
@@ -121,14 +136,24 @@ status=$?
 expect "help that can't be printed" 2 "write failed at 0" "$work/nothing"
 
 # Usage errors.
-for arguments in "--limit" "--limit 15" "--limit +48" "--limit 4294967296" "--limit 48 --limit" "--limit=48" "--only" "--link" "--without" "--kernels --unknown" "-x" \
-    "a b" "- a" "a --kernels" "--help a" "--version --kernels"; do
+for arguments in "--limit" "--limit 48 --limit" "--only" "--link" "--without" "--kernels --unknown" "-x" "-x=y" "--json=on" "--limits=48" \
+    "a b" "- a" "a --kernels" "--help a" "-h -h" "--version --kernels" "-- a b" "-- - -" "--kernels -- a --json"; do
     # shellcheck disable=SC2086
     run $arguments < "$request"
     expect "usage error: '$arguments'" 3 "$usage" "$work/nothing"
 done
 run "" < "$request"
 expect "usage error: an empty argument" 3 "$usage" "$work/nothing"
+run -- "" < "$request"
+expect "usage error: an empty argument after --" 3 "$usage" "$work/nothing"
+for limit in 15 +48 4294967296 48x ""; do
+    run --limit "$limit" --unknown < "$request"
+    expect "no limit: '$limit'" 3 "linkshow: --limit: no number from 16 to 4294967295: $limit" "$work/nothing"
+    run --limit="$limit" --unknown < "$request"
+    expect "no limit behind =: '$limit'" 3 "linkshow: --limit: no number from 16 to 4294967295: $limit" "$work/nothing"
+done
+run --without=IFLA_MTU=1 < "$request"
+expect "a value with =" 3 "linkshow: --without: no attribute or group is called IFLA_MTU=1" "$work/nothing"
 run $'\xff' < "$request"
 expect "usage error: an argument that isn't UTF-8" 3 "$usage" "$work/nothing"
 
@@ -213,6 +238,28 @@ expect "the same from a pipe that waits" 2 "refused body at 65520: IFLA_MTU: a p
 printf '\x12\0\0\0\3\0\0\0\0\0\0\0\0\0\0\0\0\0' > "$work/done"
 run "$work/done"
 expect "a refused body without an offset" 2 "refused body at 0: a body of 2 bytes" "$work/nothing"
+{ echo '# linkcap lines, format 4'; cat "$lines"; } > "$work/golden"
+run "$work/golden"
+expect "a golden file" 2 "frame over the limit at 0
+linkshow: these are lines of linkshow already: linkdiff and linkjson read them" "$work/nothing"
+run --json "$request"
+cp "$work/text" "$work/json"
+run "$work/json"
+expect "a file of JSON" 2 "frame over the limit at 0
+linkshow: this is JSON of linkshow already" "$work/nothing"
+gzip -c "$request" > "$work/named.gz"
+gzip -n < "$request" > "$work/nameless.gz"
+printf '\xfd7zXZ\0\0\4%032d' 0 > "$work/xz"
+printf '\x28\xb5\x2f\xfd%032d' 0 > "$work/zst"
+for file in named.gz nameless.gz xz zst; do
+    run "$work/$file"
+    sed 1d "$work/report" > "$work/hint"
+    status=$status:$(cat "$work/hint")
+    expect "a compressed file: $file" "2:linkshow: this is a compressed file: decompress it first" "$(cat "$work/report")" "$work/nothing"
+done
+run "$program"
+status=$status:$(sed 1d "$work/report")
+expect "a program" "2:linkshow: this is a program: linkrec run records what it asks for" "$(cat "$work/report")" "$work/nothing"
 pcap="linkshow: this is a pcap file: linkrec pcap FILE makes a capture of it"
 for magic in a1b2c3d4 d4c3b2a1 a1b23c4d 4d3cb2a1; do
     { printf "\\x${magic:0:2}\\x${magic:2:2}\\x${magic:4:2}\\x${magic:6:2}"; head -c 20 /dev/zero; } > "$work/pcap"

@@ -84,12 +84,23 @@ sed -i 's/"lo" >/"l1" >/' "$work/positions.made"
 succeeds "a position of another link" bash -c '"$0" positions.made a > diff; [ $? -eq 1 ] && grep -qx -- "+  IFLA_EXT_MASK 0x9 (Vf | SkipStats)" diff' "$linkdiff"
 succeeds "a comparison to a closed pipe" bash -c '"$0" headed.made b 2> report | { exec 0<&-; sleep 1; }; [ ${PIPESTATUS[0]} -eq 141 ] && [ ! -s report ]' "$linkgold"
 expect "a golden file and a pipe" 0 "" bash -c '"$0" headed.made <(cat a) && "$0" headed.made - < a && "$0" <(cat headed.made) a' "$linkgold" < /dev/null
+# linkshow knows what some files are, and the scripts pass on what it says. Of others they say what they look like.
 fault="frame over the limit at 0"
-for name in a.gz a.xz elf a.json a.hex; do
-    expect "linkdiff of $name" 2 "linkdiff: $name: $fault"$'\n'"linkdiff: $name: it looks like ${looks[$name]}" "$linkdiff" a "$name" < /dev/null
-    expect "linkgold of $name" 2 "linkgold: $name: $fault; it looks like ${looks[$name]}" "$linkgold" a.lines "$name" < /dev/null
-    expect "linkjson of $name" 2 "$fault"$'\n'"linkjson: it looks like ${looks[$name]}" "$linkjson" "$name" < /dev/null
+declare -A known=(
+    [a.gz]="this is a compressed file: decompress it first"
+    [a.xz]="this is a compressed file: decompress it first"
+    [elf]="this is a program: linkrec run records what it asks for"
+    [a.json]="this is JSON of linkshow already"
+)
+for name in "${!known[@]}"; do
+    report="$fault"$'\n'"linkshow: ${known[$name]}"
+    expect "linkdiff of $name" 2 "linkdiff: $name: $report" "$linkdiff" a "$name" < /dev/null
+    expect "linkgold of $name" 2 "linkgold: $name: $report" "$linkgold" a.lines "$name" < /dev/null
+    expect "linkjson of $name" 2 "$report" "$linkjson" "$name" < /dev/null
 done
+expect "linkdiff of a.hex" 2 "linkdiff: a.hex: $fault"$'\n'"linkdiff: a.hex: it looks like ${looks[a.hex]}" "$linkdiff" a a.hex < /dev/null
+expect "linkgold of a.hex" 2 "linkgold: a.hex: $fault; it looks like ${looks[a.hex]}" "$linkgold" a.lines a.hex < /dev/null
+expect "linkjson of a.hex" 2 "$fault"$'\n'"linkjson: it looks like ${looks[a.hex]}" "$linkjson" a.hex < /dev/null
 expect "packets of gzip" 1 "linkrec: no pcap or pcapng file: it looks like ${looks[a.gz]}" "$linkrec" pcap a.gz < /dev/null
 
 # ---- what the manuals show

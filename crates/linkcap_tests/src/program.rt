@@ -45,7 +45,7 @@ const USAGE_LINE: &str = "usage: linkcap norm [LIMIT] or linkcap same FILE FILE 
 
 /// Arguments after the program's name, the output for the capture and these files, and the error
 /// message.
-const ARGUMENTS: [(&str, &[u8], &str); 15] = [
+const ARGUMENTS: [(&str, &[u8], &str); 17] = [
     ("norm", &TEXT, ""),
     ("norm 48", &TEXT, ""),
     ("norm 47", b"", "frame over the limit at 0\n"),
@@ -57,6 +57,8 @@ const ARGUMENTS: [(&str, &[u8], &str); 15] = [
     ("same text front", b"different\n", ""),
     ("same cut missing", b"", "second: read failed at 0\n"),
     ("same broken missing", b"", "first: read failed at 16\n"),
+    ("same cut broken", b"", "second: read failed at 16\n"),
+    ("same broken cut", b"", "first: read failed at 16\n"),
     ("same cut text", b"", "first: cut frame at 48\n"),
     ("same text cut", b"", "second: cut frame at 48\n"),
     (

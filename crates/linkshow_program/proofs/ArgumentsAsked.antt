@@ -1,10 +1,10 @@
 -- Arguments, one after the other.
 use Rattle.std.proofs.Common.{◌≡◌, ℕ, ◌-◌, ◌≤◌, ◌<◌, List, [], ◌∷◌, length, map, take, drop, get_or, Result, Ok, Err, refl, sym, ap, subst, ◌∙◌, arith}
 use Rattle.std.proofs.lemmas.List.{take_rest}
-use Rattle.linkshow_program.specs.Arguments.{argument_of, if_last, of_file, with_flag, Expected.Nothing, Expected.ValueOf, Gives, Settings, Takes, UsageFault}
+use Rattle.linkshow_program.specs.Arguments.{argument_of, if_last, of_file, value_of, with_flag, with_operand, Expected.Nothing, Gives, Settings, Takes, UsageFault}
 use Rattle.linkshow_program.specs.declared.arguments.FlagOption.{FlagOption}
 use Rattle.linkshow_program.specs.declared.arguments.ValueOption.{ValueOption}
-use Rattle.linkshow_program.specs.declared.arguments.Argument.TheVariants.{Flag, Valued, Input, Name, Invalid}
+use Rattle.linkshow_program.specs.declared.arguments.Argument.TheVariants.{Flag, Valued, Assigned, Input, End, Name, Invalid}
 
 -- What the first arguments give, the second ones do.
 pub record Gone (o : Settings) (ws : List (List ℕ)) (q : Settings) (vs : List (List ℕ)) : Type 0 where
@@ -49,7 +49,18 @@ value_failed w v rest option o fault e t = rw (e, Gives) (Err fault, t, refl)
 pub value_missing : (w : List ℕ) (option : ValueOption) (o : Settings) → argument_of w ≡ Valued option → Gives Nothing o (w ∷ []) (Err UsageFault.Usage)
 value_missing w option o e = rw (e, Gives) refl
 
+-- An option with its value in one argument.
+pub assigned_gone : {w v : List ℕ} {rest : List (List ℕ)} {option : ValueOption} {o p : Settings} → argument_of w ≡ Assigned option → v ≡ value_of w → Takes option o v (Ok p) → Gone p rest o (w ∷ rest)
+assigned_gone {w} {v} {rest} {option} {o} {p} e d t = record { gives = λ r. rw (e, Gives) (λ g. (Ok p, subst (λ x. Takes option o x (Ok p)) d t, g)) }
+
+-- Its value has a fault.
+pub assigned_failed : (w v : List ℕ) (rest : List (List ℕ)) (option : ValueOption) (o : Settings) (fault : UsageFault) → argument_of w ≡ Assigned option → v ≡ value_of w → Takes option o v (Err fault) → Gives Nothing o (w ∷ rest) (Err fault)
+assigned_failed w v rest option o fault e d t = rw (e, Gives) (Err fault, subst (λ x. Takes option o x (Err fault)) d t, refl)
+
 -- ---- the last arguments
+
+pub end_last : (w : List ℕ) (rest : List (List ℕ)) (o : Settings) (r : Result Settings UsageFault) → argument_of w ≡ End → r ≡ with_operand rest o → Gives Nothing o (w ∷ rest) r
+end_last w rest o r e h = rw (e, Gives) h
 
 pub input_last : (w : List ℕ) (rest : List (List ℕ)) (o : Settings) (r : Result Settings UsageFault) → argument_of w ≡ Input → r ≡ if_last rest o → Gives Nothing o (w ∷ rest) r
 input_last w rest o r e h = rw (e, Gives) h

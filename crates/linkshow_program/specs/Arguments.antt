@@ -1,6 +1,7 @@
 -- The meaning of the program's arguments.
-use Rattle.std.specs.Prelude.{◌≡◌, ◌≤◌, ◌==◌, ◌⊎◌, ℕ, Bool, true, false, List, [], ◌∷◌, codes, cond, bytes_eq}
+use Rattle.std.specs.Prelude.{◌≡◌, ◌≤◌, ◌==◌, ◌⊎◌, ◌||◌, ℕ, Bool, true, false, List, [], ◌∷◌, codes, cond, bytes_eq, length}
 use Rattle.std.specs.Prelude.{Option, None, Some, option_map, Result, Ok, Err}
+use Rattle.std.specs.List.{after_first, before_first, position_or_len}
 use Rattle.std.specs.Result.{result_map_both}
 use Rattle.std.specs.Str.Parse.{digits_value}
 use Rattle.link_capture_commands.specs.Commands.{IsLimitArgument}
@@ -8,7 +9,7 @@ use Rattle.link_lines.specs.Types.{TakesType}
 use Rattle.link_lines.specs.Without.{Exclusion, TakesWord, exclusion_of, nothing_excluded}
 use Rattle.link_lines.specs.Words.{Reads, WordFault, parts}
 use Rattle.linkshow_program.specs.declared.arguments.Argument.{Argument}
-use Rattle.linkshow_program.specs.declared.arguments.Argument.TheVariants.{Flag, Valued, Input, Name, Invalid}
+use Rattle.linkshow_program.specs.declared.arguments.Argument.TheVariants.{Flag, Valued, Assigned, Input, End, Name, Invalid}
 use Rattle.linkshow_program.specs.declared.arguments.Asked.{Asked}
 use Rattle.linkshow_program.specs.declared.arguments.Asked.TheVariants.{Help, Version, Show}
 use Rattle.linkshow_program.specs.declared.arguments.FlagOption.{FlagOption}
@@ -22,10 +23,50 @@ use Rattle.linkshow_program.specs.declared.arguments.ValueOption.TheVariants.{On
 
 -- ---- arguments
 
--- An argument that begins with `-` and isn't an option, or is empty, is invalid; any other is a name.
-abbrev pub name_of : List ℕ → Argument
-name_of [] = Invalid
-name_of (c ∷ more) = cond (c == 45) Invalid Name
+-- Whether a byte is `=`.
+abbrev pub is_equals : ℕ → Bool
+is_equals c = c == 61
+
+-- The parts of an argument before and after the first `=`; None if there is none.
+abbrev pub assigned : List ℕ → Option (List ℕ × List ℕ)
+assigned w = cond (position_or_len is_equals w == length w) None
+    (Some (before_first is_equals w, after_first is_equals w))
+
+-- The option that a value follows which has this name; None if there is none.
+abbrev pub valued_by : List ℕ → Option ValueOption
+valued_by name =
+    cond (bytes_eq name (codes "--only")) (Some Only)
+    (cond (bytes_eq name (codes "--link")) (Some Link)
+    (cond (bytes_eq name (codes "--without")) (Some Without)
+    (cond (bytes_eq name (codes "--limit")) (Some Limit) None)))
+
+-- An option with its value, if the part before `=` is such an option.
+abbrev pub assigned_to : Option ValueOption → Argument
+assigned_to (Some option) = Assigned option
+assigned_to None = Invalid
+
+-- The meaning of an argument that begins with `-` and is no option by itself.
+abbrev pub assignment_of : Option (List ℕ × List ℕ) → Argument
+assignment_of (Some parts) = assigned_to (valued_by parts.0)
+assignment_of None = Invalid
+
+-- The meaning of an argument that is no option by itself: an option with its value, or the name of a file.
+abbrev pub operand_of : List ℕ → Argument
+operand_of [] = Invalid
+operand_of (c ∷ more) = cond (c == 45) (assignment_of (assigned (c ∷ more))) Name
+
+-- The value in an argument that is an option with its value.
+abbrev pub value_in : Option (List ℕ × List ℕ) → List ℕ
+value_in (Some parts) = parts.1
+value_in None = []
+
+abbrev pub value_of : List ℕ → List ℕ
+value_of w = value_in (assigned w)
+
+-- An option that a value follows, or else the meaning of an operand.
+abbrev pub valued_or : Option ValueOption → List ℕ → Argument
+valued_or (Some option) w = Valued option
+valued_or None w = operand_of w
 
 -- The meaning of an argument that isn't the value of an option.
 abbrev pub argument_of : List ℕ → Argument
@@ -35,11 +76,8 @@ argument_of w =
     (cond (bytes_eq w (codes "--offsets")) (Flag Offsets)
     (cond (bytes_eq w (codes "--keep-going")) (Flag KeepGoing)
     (cond (bytes_eq w (codes "--json")) (Flag Json)
-    (cond (bytes_eq w (codes "--only")) (Valued Only)
-    (cond (bytes_eq w (codes "--link")) (Valued Link)
-    (cond (bytes_eq w (codes "--without")) (Valued Without)
-    (cond (bytes_eq w (codes "--limit")) (Valued Limit)
-    (cond (bytes_eq w (codes "-")) Input (name_of w))))))))))
+    (cond (bytes_eq w (codes "-")) Input
+    (cond (bytes_eq w (codes "--")) End (valued_or (valued_by w) w)))))))
 
 -- ---- options
 
@@ -121,12 +159,14 @@ of_file name o = record o { file = Some name }
 -- Why arguments are invalid, by the bytes of their words.
 pub data UsageFault : Type 0 where
   Usage : UsageFault
+  InvalidLimit : List ℕ → UsageFault
   UnknownType : List ℕ → UsageFault
   UnknownName : List ℕ → UsageFault
 
 -- The fault that an error in code represents.
 abbrev pub usage_fault : UsageError → UsageFault
 usage_fault Errors.Usage = UsageFault.Usage
+usage_fault (Errors.InvalidLimit word) = UsageFault.InvalidLimit word.now
 usage_fault (Errors.UnknownType word) = UsageFault.UnknownType word.now
 usage_fault (Errors.UnknownName word) = UsageFault.UnknownName word.now
 
@@ -150,12 +190,23 @@ Takes Link o w r = r ≡ Ok (with_link w o)
 Takes Without o w r = (excluded : Result Exclusion WordFault) × Reads TakesWord nothing_excluded (parts w) excluded ×
     (r ≡ result_map_both (λ x. with_exclusion x o) name_fault excluded)
 Takes Limit o w r = (IsLimitArgument w × (r ≡ Ok (with_limit (digits_value 10 w) o))) ⊎
-    ((IsLimitArgument w → ⊥) × (r ≡ Err UsageFault.Usage))
+    ((IsLimitArgument w → ⊥) × (r ≡ Err (UsageFault.InvalidLimit w)))
 
 -- The options, if no argument is left.
 abbrev pub if_last : List (List ℕ) → Settings → Result Settings UsageFault
 if_last [] o = Ok o
 if_last (w ∷ rest) o = Err UsageFault.Usage
+
+-- The options for the file of this name, or for standard input if the name is `-`.
+abbrev pub named : List ℕ → Settings → Result Settings UsageFault
+named [] o = Err UsageFault.Usage
+named (c ∷ w) o = cond (bytes_eq (c ∷ w) (codes "-")) (Ok o) (Ok (of_file (c ∷ w) o))
+
+-- The options with what follows `--`: the name of a file, `-` or nothing.
+abbrev pub with_operand : List (List ℕ) → Settings → Result Settings UsageFault
+with_operand [] o = Ok o
+with_operand (w ∷ []) o = named w o
+with_operand (w ∷ v ∷ rest) o = Err UsageFault.Usage
 
 -- What is expected next: an option, a file or nothing; or the value of an option.
 pub data Expected : Type 0 where
@@ -173,17 +224,30 @@ Gives Nothing o [] r = r ≡ Ok o
 Gives Nothing o (w ∷ rest) r = elim (argument_of w) [
   | Flag flag ↦ Gives Nothing (with_flag flag o) rest r
   | Valued option ↦ Gives (ValueOf option) o rest r
+  | Assigned option ↦ (next : Result Settings UsageFault) × Takes option o (value_of w) next × elim next [
+    | Ok p ↦ Gives Nothing p rest r
+    | Err e ↦ r ≡ Err e
+  ]
   | Input ↦ r ≡ if_last rest o
+  | End ↦ r ≡ with_operand rest o
   | Name ↦ r ≡ if_last rest (of_file w o)
   | Invalid ↦ r ≡ Err UsageFault.Usage
 ]
 
+-- Whether an argument asks for the help.
+abbrev pub is_help : List ℕ → Bool
+is_help w = bytes_eq w (codes "--help") || bytes_eq w (codes "-h")
+
+-- There is one argument, which asks for the help.
+abbrev pub AskForHelp : List (List ℕ) → Type 0
+AskForHelp arguments = (w : List ℕ) × (arguments ≡ w ∷ []) × (is_help w ≡ true)
+
 -- The arguments ask for this, or have this fault.
 abbrev pub Asks : List (List ℕ) → Result Asked UsageError → Type 0
-Asks arguments (Ok Help) = arguments ≡ codes "--help" ∷ []
+Asks arguments (Ok Help) = AskForHelp arguments
 Asks arguments (Ok Version) = arguments ≡ codes "--version" ∷ []
 Asks arguments (Ok (Show options)) = Gives Nothing defaults arguments (Ok (settings_of options))
-Asks arguments (Err e) = (arguments ≡ codes "--help" ∷ [] → ⊥) × (arguments ≡ codes "--version" ∷ [] → ⊥) ×
+Asks arguments (Err e) = (AskForHelp arguments → ⊥) × (arguments ≡ codes "--version" ∷ [] → ⊥) ×
     Gives Nothing defaults arguments (Err (usage_fault e))
 
 -- The limit is one that a run can have.

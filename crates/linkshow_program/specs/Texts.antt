@@ -29,10 +29,25 @@ is_pcap first = bytes_eq first (161 ∷ 178 ∷ 195 ∷ 212 ∷ []) ||
 abbrev pub is_pcapng : List ℕ → Bool
 is_pcapng first = bytes_eq first (10 ∷ 13 ∷ 13 ∷ 10 ∷ [])
 
--- Whether bytes are the first four of a file of the program's own lines: of the name of a message's type, or of `type`
--- for one without a name.
+-- Whether bytes are the first four of a file of the program's own lines: of the name of a message's type, of `type` for
+-- one without a name, or of the head of a golden file.
 abbrev pub is_lines : List ℕ → Bool
-is_lines first = bytes_eq first (codes "RTM_") || (bytes_eq first (codes "NLMS") || bytes_eq first (codes "type"))
+is_lines first = bytes_eq first (codes "RTM_") ||
+    (bytes_eq first (codes "NLMS") || (bytes_eq first (codes "type") || bytes_eq first (codes "# li")))
+
+-- Whether bytes are the first four of a line of the program's JSON.
+abbrev pub is_json : List ℕ → Bool
+is_json first = bytes_eq first (codes "{\"ty")
+
+-- Whether bytes are the first four of a compressed file: of gzip, without and with a name; of xz; of Zstandard.
+abbrev pub is_compressed : List ℕ → Bool
+is_compressed first = bytes_eq first (31 ∷ 139 ∷ 8 ∷ 0 ∷ []) ||
+    (bytes_eq first (31 ∷ 139 ∷ 8 ∷ 8 ∷ []) ||
+    (bytes_eq first (253 ∷ 55 ∷ 122 ∷ 88 ∷ []) || bytes_eq first (40 ∷ 181 ∷ 47 ∷ 253 ∷ [])))
+
+-- Whether bytes are the first four of a program in the format ELF.
+abbrev pub is_program : List ℕ → Bool
+is_program first = bytes_eq first (127 ∷ 69 ∷ 76 ∷ 70 ∷ [])
 
 -- The advice for a capture with a fault that begins with these bytes.
 abbrev pub advice : List ℕ → List ℕ
@@ -41,7 +56,10 @@ advice first =
     (cond (is_pcapng first) (codes "linkshow: this is a pcapng file: linkrec pcap FILE makes a capture of it" ++
     10 ∷ [])
     (cond (is_lines first) (codes "linkshow: these are lines of linkshow already: linkdiff and linkjson read them" ++
-    10 ∷ []) []))
+    10 ∷ [])
+    (cond (is_json first) (codes "linkshow: this is JSON of linkshow already" ++ 10 ∷ [])
+    (cond (is_compressed first) (codes "linkshow: this is a compressed file: decompress it first" ++ 10 ∷ [])
+    (cond (is_program first) (codes "linkshow: this is a program: linkrec run records what it asks for" ++ 10 ∷ []) [])))))
 
 -- The usage line.
 abbrev pub usage_line : List ℕ
@@ -52,6 +70,8 @@ usage_line =
 -- The report of a usage error.
 abbrev pub usage_text : UsageFault → List ℕ
 usage_text UsageFault.Usage = usage_line
+usage_text (UsageFault.InvalidLimit word) =
+    codes "linkshow: --limit: no number from 16 to 4294967295: " ++ (word ++ 10 ∷ [])
 usage_text (UsageFault.UnknownType word) =
     codes "linkshow: --only: no type of messages is called " ++ (word ++ 10 ∷ [])
 usage_text (UsageFault.UnknownName word) =
@@ -92,9 +112,12 @@ help_text =
     codes "                     4294967295; without it, 1048576" ∷
     codes "  --kernels          first note on standard error each encoding that kernels" ∷
     codes "                     treat differently from its normal text" ∷
-    codes "  --help             this text" ∷
+    codes "  -h, --help         this text" ∷
     codes "  --version          the version of linkshow, and the format version of its" ∷
     codes "                     lines" ∷
+    codes "" ∷
+    codes "A value follows its option, or comes after =, as --only=newlink. After -- no" ∷
+    codes "option follows, but a FILE, whose name may begin with -." ∷
     codes "" ∷
     codes "Status 0: the capture is legal, and its lines are written. 2: a fault, which" ∷
     codes "standard error names with its offset in bytes; the lines before it are" ∷

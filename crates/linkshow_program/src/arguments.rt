@@ -1,9 +1,10 @@
 //! The arguments of the program, parsed without allocating.
 
-ghost use Rattle.std.specs.Prelude.{◌≡◌, ◌≤◌, map, IfOk, string_bytes};
+ghost use Rattle.std.specs.Prelude.{◌≡◌, ◌≤◌, map, option_map, IfOk, string_bytes};
 ghost use Rattle.std.specs.Result.{result_map_both};
-ghost use Rattle.linkshow_program.specs.Arguments.{argument_of, defaults, if_last, settings_of, usage_fault};
-ghost use Rattle.linkshow_program.specs.Arguments.{with_flag, Asks, Expected.Nothing, Gives, HasLimit, Takes};
+ghost use Rattle.linkshow_program.specs.Arguments.{argument_of, defaults, if_last, named, settings_of, usage_fault};
+ghost use Rattle.linkshow_program.specs.Arguments.{assigned, is_help, operand_of, value_of, valued_by, with_flag, with_operand};
+ghost use Rattle.linkshow_program.specs.Arguments.{Asks, Expected.Nothing, Gives, HasLimit, Takes};
 ghost use Rattle.linkshow_program.specs.declared.arguments.ValueOption.TheVariants as Valued;
 
 use link_capture_commands::{DEFAULT_LIMIT, read_limit};
@@ -50,6 +51,8 @@ pub enum Asked<'a> {
 pub enum UsageError<'a> {
     /// They don't fit the usage line.
     Usage,
+    /// This isn't a number that a limit can be.
+    InvalidLimit(&'a str),
     /// No type of messages has this name or number.
     UnknownType(&'a str),
     /// No attribute, and no group of them, has this name.
@@ -91,12 +94,70 @@ pub(crate) enum Argument {
     Flag(FlagOption),
     /// An option that a value follows.
     Valued(ValueOption),
+    /// An option with its value, as `--only=newlink`.
+    Assigned(ValueOption),
     /// `-`: standard input
     Input,
+    /// `--`: no option follows
+    End,
     /// The name of a file.
     Name,
     /// No option of the program, or an empty argument.
     Invalid,
+}
+
+/// Returns the parts of an argument before and after the first `=`; None if there is none.
+fn split_value(word: &str) -> Option<(&str, &str)>
+    ensures { option_map (λ parts. (parts.0.now, parts.1.now)) result ≡ assigned word.now }
+{
+    word.split_once('=')
+}
+
+/// Returns the option that a value follows which has this name; None if there is none.
+fn valued_by(name: &str) -> Option<ValueOption>
+    ensures { result ≡ valued_by name.now }
+{
+    if name == "--only" {
+        Some(ValueOption::Only)
+    } else if name == "--link" {
+        Some(ValueOption::Link)
+    } else if name == "--without" {
+        Some(ValueOption::Without)
+    } else if name == "--limit" {
+        Some(ValueOption::Limit)
+    } else {
+        None
+    }
+}
+
+/// Returns the meaning of an argument that is no option by itself: an option with its value, or the
+/// name of a file.
+fn operand_of(word: &str) -> Argument
+    ensures { result ≡ operand_of word.now }
+{
+    if word.is_empty() {
+        return Argument::Invalid;
+    }
+    if word.as_bytes()[0] != b'-' {
+        return Argument::Name;
+    }
+    let Some((name, _)) = split_value(word) else {
+        return Argument::Invalid;
+    };
+    match valued_by(name) {
+        Some(option) => Argument::Assigned(option),
+        None => Argument::Invalid,
+    }
+}
+
+/// Returns the value in an argument that is an option with its value.
+fn value_of(word: &str) -> &str
+    ensures { result.now ≡ value_of word.now }
+{
+    match split_value(word) {
+        Some((_, value)) => value,
+        None => "",
+    }
 }
 
 /// Returns the meaning of an argument that isn't the value of an option.
@@ -114,20 +175,14 @@ fn argument_of(word: &str) -> Argument
         Argument::Flag(FlagOption::KeepGoing)
     } else if word == "--json" {
         Argument::Flag(FlagOption::Json)
-    } else if word == "--only" {
-        Argument::Valued(ValueOption::Only)
-    } else if word == "--link" {
-        Argument::Valued(ValueOption::Link)
-    } else if word == "--without" {
-        Argument::Valued(ValueOption::Without)
-    } else if word == "--limit" {
-        Argument::Valued(ValueOption::Limit)
     } else if word == "-" {
         Argument::Input
-    } else if word.is_empty() || word.as_bytes()[0] == b'-' {
-        Argument::Invalid
+    } else if word == "--" {
+        Argument::End
+    } else if let Some(option) = valued_by(word) {
+        Argument::Valued(option)
     } else {
-        Argument::Name
+        operand_of(word)
     }
 }
 
@@ -167,7 +222,7 @@ fn with_limit<'a>(number: &'a str, options: Options<'a>) -> Result<Options<'a>, 
 {
     match read_limit(number) {
         Some(limit) => Ok(Options { limit, ..options }),
-        None => Err(UsageError::Usage),
+        None => Err(UsageError::InvalidLimit(number)),
     }
 }
 
@@ -240,6 +295,37 @@ fn when_last<'a>(left: &[String], options: Options<'a>) -> Result<Options<'a>, U
     }
 }
 
+/// Returns the options for the file of this name, or for standard input if the name is `-`.
+fn named<'a>(name: &'a str, options: Options<'a>) -> Result<Options<'a>, UsageError<'a>>
+    ensures named { result_map_both settings_of usage_fault result
+        ≡ named name.now (settings_of options.entry) }
+    ensures limit { IfOk result (λ o. o.limit ≡ options.entry.limit) }
+{
+    if name.is_empty() {
+        return Err(UsageError::Usage);
+    }
+    if name == "-" {
+        return Ok(options);
+    }
+    Ok(Options {
+        file: Some(name),
+        ..options
+    })
+}
+
+/// Returns the options with what follows `--`: the name of a file, `-` or nothing.
+fn with_operand<'a>(left: &'a [String], options: Options<'a>) -> Result<Options<'a>, UsageError<'a>>
+    ensures given { result_map_both settings_of usage_fault result
+        ≡ with_operand (map string_bytes left.now) (settings_of options.entry) }
+    ensures limit { IfOk result (λ o. o.limit ≡ options.entry.limit) }
+{
+    match left {
+        [] => Ok(options),
+        [name] => named(name.as_str(), options),
+        _ => Err(UsageError::Usage),
+    }
+}
+
 /// Reads options, followed by the name of a file, `-` or nothing.
 fn read_options(arguments: &[String]) -> Result<Options<'_>, UsageError<'_>>
     ensures given { Gives Nothing defaults (map string_bytes arguments.now)
@@ -276,7 +362,14 @@ fn read_options(arguments: &[String]) -> Result<Options<'_>, UsageError<'_>>
                 }
                 left = more;
             }
+            Argument::Assigned(option) => {
+                match with_value(option, value_of(word.as_str()), options) {
+                    Ok(next) => options = next,
+                    Err(error) => return Err(error),
+                }
+            }
             Argument::Input => return when_last(rest, options),
+            Argument::End => return with_operand(rest, options),
             Argument::Name => {
                 options.file = Some(word.as_str());
                 return when_last(rest, options);
@@ -286,18 +379,27 @@ fn read_options(arguments: &[String]) -> Result<Options<'_>, UsageError<'_>>
     }
 }
 
-/// Reads the arguments: `--help`, `--version`, or options, followed by the name of a file, `-` or
-/// nothing. Options may come in any order and more than once; the last of a kind counts.
+/// Returns whether an argument asks for the help.
+fn is_help(word: &str) -> bool
+    ensures { result ≡ is_help word.now }
+{
+    word == "--help" || word == "-h"
+}
+
+/// Reads the arguments: `--help` or `-h`, `--version`, or options, followed by the name of a file,
+/// `-` or nothing. Options may come in any order and more than once; the last of a kind counts. The
+/// value of an option follows it, or is in the same argument after `=`. After `--` no option follows.
 ///
 /// # Errors
 ///
-/// The first fault: an unknown word in the value of `--only` or `--without`, else a usage error.
+/// The first fault: an unknown word in the value of `--only` or `--without`, a limit that is none,
+/// else a usage error.
 pub fn read_words(arguments: &[String]) -> Result<Asked<'_>, UsageError<'_>>
     ensures asked { Asks (map string_bytes arguments.now) result }
     ensures limit { IfOk result (λ asked. HasLimit asked) }
 {
     match arguments {
-        [word] if word.as_str() == "--help" => Ok(Asked::Help),
+        [word] if is_help(word.as_str()) => Ok(Asked::Help),
         [word] if word.as_str() == "--version" => Ok(Asked::Version),
         _ => match read_options(arguments) {
             Ok(options) => Ok(Asked::Show(options)),

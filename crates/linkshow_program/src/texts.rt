@@ -1,7 +1,8 @@
 //! The texts that the program writes.
 
 ghost use Rattle.std.specs.Prelude.{◌≡◌};
-ghost use Rattle.linkshow_program.specs.Texts.{cause, is_lines, is_pcap, is_pcapng, advice, help_text, version_text};
+ghost use Rattle.linkshow_program.specs.Texts.{is_compressed, is_json, is_lines, is_pcap, is_pcapng, is_program};
+ghost use Rattle.linkshow_program.specs.Texts.{advice, cause, help_text, version_text};
 
 use std::io::ErrorKind;
 
@@ -41,9 +42,12 @@ of its normal text: captures that mean the same have the same lines.
                      4294967295; without it, 1048576
   --kernels          first note on standard error each encoding that kernels
                      treat differently from its normal text
-  --help             this text
+  -h, --help         this text
   --version          the version of linkshow, and the format version of its
                      lines
+
+A value follows its option, or comes after =, as --only=newlink. After -- no
+option follows, but a FILE, whose name may begin with -.
 
 Status 0: the capture is legal, and its lines are written. 2: a fault, which
 standard error names with its offset in bytes; the lines before it are
@@ -104,12 +108,40 @@ fn is_pcapng(first: &[u8]) -> bool
     first == b"\n\r\r\n".as_slice()
 }
 
-/// Returns whether bytes begin lines of this program: with the name of a message's type, or `type`
-/// for one without a name.
+/// Returns whether bytes begin lines of this program: with the name of a message's type, with `type`
+/// for one without a name, or with the head of a golden file.
 fn is_lines(first: &[u8]) -> bool
     ensures { result ≡ is_lines first.now }
 {
-    first == b"RTM_".as_slice() || first == b"NLMS".as_slice() || first == b"type".as_slice()
+    first == b"RTM_".as_slice()
+        || first == b"NLMS".as_slice()
+        || first == b"type".as_slice()
+        || first == b"# li".as_slice()
+}
+
+/// Returns whether bytes begin a line of this program's JSON.
+fn is_json(first: &[u8]) -> bool
+    ensures { result ≡ is_json first.now }
+{
+    first == b"{\"ty".as_slice()
+}
+
+/// Returns whether bytes begin a compressed file: of gzip, without and with a name, of xz, or of
+/// Zstandard.
+fn is_compressed(first: &[u8]) -> bool
+    ensures { result ≡ is_compressed first.now }
+{
+    first == b"\x1f\x8b\x08\x00".as_slice()
+        || first == b"\x1f\x8b\x08\x08".as_slice()
+        || first == b"\xfd7zX".as_slice()
+        || first == b"\x28\xb5\x2f\xfd".as_slice()
+}
+
+/// Returns whether bytes begin a program in the format ELF.
+fn is_program(first: &[u8]) -> bool
+    ensures { result ≡ is_program first.now }
+{
+    first == b"\x7fELF".as_slice()
 }
 
 /// Returns the advice for a capture with a fault that begins with these four bytes: a line, or
@@ -123,6 +155,12 @@ pub fn advice(first: &[u8]) -> &'static str
         "linkshow: this is a pcapng file: linkrec pcap FILE makes a capture of it\n"
     } else if is_lines(first) {
         "linkshow: these are lines of linkshow already: linkdiff and linkjson read them\n"
+    } else if is_json(first) {
+        "linkshow: this is JSON of linkshow already\n"
+    } else if is_compressed(first) {
+        "linkshow: this is a compressed file: decompress it first\n"
+    } else if is_program(first) {
+        "linkshow: this is a program: linkrec run records what it asks for\n"
     } else {
         ""
     }

@@ -17,6 +17,10 @@ pub(crate) fn report_usage<E: Sink>(errors: &mut E, error: UsageError<'_>) -> bo
 {
     match error {
         UsageError::Usage => report_text(errors, USAGE),
+        UsageError::InvalidLimit(word) => {
+            let text = "linkshow: --limit: no number from 16 to 4294967295: ";
+            report_texts(errors, &[text, word, "\n"])
+        }
         UsageError::UnknownType(word) => {
             let text = "linkshow: --only: no type of messages is called ";
             report_texts(errors, &[text, word, "\n"])

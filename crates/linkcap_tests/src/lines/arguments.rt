@@ -102,7 +102,7 @@ fn usage_errors_have_the_first_unknown_word(rt: HostRuntime) -> Result<(), Fail>
             "--only 2,newlinks --without x",
             UsageError::UnknownType("newlinks"),
         ),
-        ("--limit 15 --only x", UsageError::Usage),
+        ("--limit 15 --only x", UsageError::InvalidLimit("15")),
         ("--link", UsageError::Usage),
         ("a --only x", UsageError::Usage),
         ("--help --only x", UsageError::Usage),

@@ -23,15 +23,18 @@ static double read_clock(void) {
     return time.tv_sec * 1e9 + time.tv_nsec;
 }
 
+static const struct linkcap_options options;
+
 static bool check(void) {
-    struct linkcap_fault fault;
-    return linkcap_check((uint8_t *)capture.bytes, capture.size, LINKCAP_DEFAULT_LIMIT, &fault) == LINKCAP_OK;
+    struct linkcap_sizes sizes;
+    struct linkcap_finding fault;
+    return linkcap_check((uint8_t *)capture.bytes, capture.size, &options, &sizes, &fault) == LINKCAP_OK;
 }
 
 static bool same(void) {
-    struct linkcap_fault fault;
-    uint32_t status = linkcap_same((uint8_t *)capture.bytes, capture.size, (uint8_t *)other.bytes, other.size,
-                                   LINKCAP_DEFAULT_LIMIT, &fault);
+    struct linkcap_finding fault;
+    enum linkcap_status status =
+        linkcap_same((uint8_t *)capture.bytes, capture.size, (uint8_t *)other.bytes, other.size, &options, &fault);
     return status == LINKCAP_OK || status == LINKCAP_DIFFERENT;
 }
 

@@ -1,5 +1,5 @@
 #!/usr/bin/env bash
-# Runs the tests of C, Python, Rust and Go over the proved library, and the examples of docs/other-languages.md.
+# Runs the tests of C, Python, Rust and Go over the proved library, and the examples of their pages, README.md beside each package.
 #
 #     bindings/check.sh
 #
@@ -10,7 +10,6 @@
 set -uo pipefail
 cd "$(dirname "$0")/.."
 top=$PWD
-page=$top/docs/other-languages.md
 work=$(mktemp -d)
 trap 'rm -rf "$work"' EXIT
 cc=${CC:-cc}
@@ -47,10 +46,18 @@ finish() {
     exit
 }
 
-# block LANGUAGE: the first block of code of a language on the page
+# block LANGUAGE [FENCE]: the first block of code of a language on its page, or of what the page calls FENCE
 block() {
-    awk -v fence="\`\`\`$1" '$0 == fence { inside = 1; next } inside && $0 == "```" { exit } inside' "$page"
+    awk -v fence="\`\`\`${2:-$1}" '$0 == fence { inside = 1; next } inside && $0 == "```" { exit } inside' "$top/bindings/$1/README.md"
 }
+
+# fails_as_on_the_page LANGUAGE COMMAND..: whether a test fails with the output on the page of a language, but for the times
+fails_as_on_the_page() {
+    "${@:2}" > "$work/failure" 2>&1
+    [ $? -eq 1 ] && diff <(block "$1" console | sed 1d | without_times) <(without_times < "$work/failure")
+}
+
+without_times() { sed -E 's/[0-9.]+s\b/TIME/'; }
 
 # cut_vectors KIND: writes the stored cases and results of a kind to files, without labels (lines that begin with `# `). Only
 # results of `show`, the last kind, have several lines.
@@ -100,6 +107,41 @@ page_in_c() {
     "$work/norm" < "$work/long" > /dev/full && return 1
     printf '\x30\0\0\0' | "$work/norm" 2> "$work/fault" > "$work/text"
     [ $? -eq 2 ] && [ "$(cat "$work/fault")" = "cut frame at 0" ] && [ ! -s "$work/text" ]
+}
+
+# header_in_c COMPILER: compiles linkcap.h, and the example that it begins with, by each standard. A result that isn't used is an
+# error, and an enum of statuses has 32 bits, as the library's.
+header_in_c() {
+    local standard options=(-Wall -Wextra -Wpedantic -Wconversion -Werror -c -o /dev/null -I "$lib")
+    {
+        printf '#include <stdio.h>\n#include <linkcap.h>\n'
+        printf 'extern char bits[sizeof(enum linkcap_status) == 4 ? 1 : -1];\n'
+        printf 'void example(const uint8_t *capture, size_t length);\nvoid example(const uint8_t *capture, size_t length)\n{\n'
+        sed -n '/^ \* A capture/q; s/^ \*     //p' "$lib/linkcap.h"
+        printf '}\n'
+    } > "$work/example.c"
+    [ "$(grep -c linkcap_check "$work/example.c")" -eq 1 ] || return
+    for standard in c99 c11 c17; do "$1" "-std=$standard" "${options[@]}" "$work/example.c" || return; done
+    printf '#include <linkcap.h>\nvoid f(void) { linkcap_words(0, 0, 0, 0); }\n' > "$work/unused.c"
+    ! "$1" "${options[@]}" "$work/unused.c" 2> /dev/null
+}
+
+# header_in_cxx: the same in C++, of the headers.
+header_in_cxx() {
+    local standard
+    printf '#include <linkcap.h>\nlinkcap_options options;\nlinkcap_sizes sizes;\nlinkcap_progress progress;\n' > "$work/header.cc"
+    printf 'linkcap_message message;\nint main() { return linkcap_version() != LINKCAP_VERSION; }\n' >> "$work/header.cc"
+    for standard in c++98 c++11 c++14 c++17 c++20; do
+        "$cxx" "-std=$standard" -Wall -Wextra -Wpedantic -Wconversion -Werror -fsyntax-only -I "$lib" "$work/header.cc" || return
+    done
+    printf '#include <linkcap_golden.h>\nint main() { return linkcap_golden(0, 0, "a.lines"); }\n' > "$work/golden.cc"
+    "$cxx" -std=c++11 -Wall -Wextra -pedantic -Werror -fsyntax-only -I "$lib" "$work/golden.cc"
+}
+
+# A caller whose enums are as short as can be reads the same statuses.
+short_enums_in_c() {
+    "$cc" -std=c11 -D_GNU_SOURCE -fshort-enums -I "$lib" -o "$work/short" bindings/c/tests/edges.c "$lib/liblinkcap.a" -pthread \
+        -Wl,--wrap=malloc,--wrap=realloc,--wrap=free && "$work/short" samples/req-veth.bin
 }
 
 # golden_in_c COMPILER OPTION..: runs the tests of linkcap_golden.h, which is in C99.
@@ -161,11 +203,11 @@ check_installation() {
     PATH=$work/prefix/bin:$PATH linkjson samples/req-veth.bin > "$work/json" && grep -q '"value": "veth"' "$work/json" || return
     PATH=$work/prefix/bin:$PATH linkgold samples/req-veth.lines samples/req-veth.bin || return
     cmp man/linkshow.1 "$work/prefix/share/man/man1/linkshow.1" || return
-    cmp man/linkcap.3 "$work/prefix/share/man/man3/linkcap_normalize_some.3" || return
+    cmp man/linkcap.3 "$work/prefix/share/man/man3/linkcap_write.3" || return
     cmp man/linkcap.zsh "$work/prefix/share/zsh/site-functions/_linkcap" || return
     cmp man/linkcap.fish "$work/prefix/share/fish/vendor_completions.d/linkgold.fish" || return
     bash -c '. "$1"; complete -p linkcap linkshow' - "$work/prefix/share/bash-completion/completions/linkcap" || return
-    tools/pages.py --run --prefix "$work/prefix" docs/other-languages.md man/linkcap.3
+    tools/pages.py --run --prefix "$work/prefix" bindings/*/README.md man/linkcap.3
 }
 
 test_c() {
@@ -196,8 +238,9 @@ test_c() {
     fi
     if has clang; then
         step "C, sanitizers of clang: golden" golden_in_c clang "${san[@]}"
+        step "C, clang: the header" header_in_c clang
     else
-        skip "C, sanitizers of clang: golden" "no clang"
+        skip "C, clang" "no clang"
     fi
     if has valgrind; then
         local grind=(valgrind -q --error-exitcode=9 --leak-check=full --show-leak-kinds=all --errors-for-leak-kinds=all)
@@ -207,12 +250,12 @@ test_c() {
         skip "C, valgrind" "no valgrind"
     fi
     if has "$cxx"; then
-        printf '#include <linkcap.h>\nlinkcap_sizes sizes;\nlinkcap_progress progress;\nlinkcap_message message;\n' > "$work/header.cc"
-        printf '#include <linkcap_golden.h>\nint main() { return linkcap_golden(0, 0, "a.lines"); }\n' >> "$work/header.cc"
-        step "C++: the headers" "$cxx" -std=c++11 -Wall -Wextra -pedantic -Werror -fsyntax-only -I "$lib" "$work/header.cc"
+        step "C++: the headers" header_in_cxx
     else
         skip "C++: the headers" "no $cxx"
     fi
+    step "C: the header" header_in_c "$cc"
+    step "C: the edges, with short enums" short_enums_in_c
     step "C: the page" page_in_c
     step "C: the golden test of the page" golden_of_the_page
     step "C: the manual" manual_in_c
@@ -281,8 +324,12 @@ test_python() {
     step "Python: the fixture" env -C "$work/python" "${run[@]}" -m pytest -q -p no:cacheprovider \
         "$top/bindings/python/tests/test_fixture.py"
     if "${run[@]}" -c 'import pyroute2' 2> /dev/null; then
-        block python > "$work/python/test_page.py"
-        step "Python: the page" env -C "$work/python" "${run[@]}" -m pytest -q -p no:cacheprovider test_page.py
+        cp bindings/python/examples/* "$work/python"
+        step "Python: the page" env -C "$work/python" "${run[@]}" -m pytest -q -p no:cacheprovider test_request.py
+        sed -i 's/1450/1400/' "$work/python/test_request.py"
+        # Where these variables are set, pytest's summary has the whole message, and not what fits into a line.
+        step "Python: the failure on the page" fails_as_on_the_page python \
+            env -u CI -u BUILD_NUMBER -C "$work/python" "${run[@]}" -m pytest -q --tb=short -p no:cacheprovider test_request.py
     else
         skip "Python: the page" "no pyroute2"
     fi
@@ -292,6 +339,14 @@ test_python() {
 rust_docs() {
     env -u LINKCAP_LIB_DIR PKG_CONFIG_PATH=/nonexistent PKG_CONFIG_LIBDIR=/nonexistent RUSTDOCFLAGS="-D warnings" \
         cargo doc -q --offline --no-deps --manifest-path bindings/rust/Cargo.toml
+}
+
+# rust_fails_as_on_the_page OPTION..: the golden test of the page, whose request has another MTU, panics with the page's message
+rust_fails_as_on_the_page() {
+    mkdir -p "$work/changed" && cp -r bindings/rust "$work/changed" || return
+    sed -i 's/1450/1400/' "$work/changed/rust/route_example/src/main.rs"
+    cargo test -q --offline --manifest-path "$work/changed/rust/route_example/Cargo.toml" "$@" > "$work/failure" 2>&1 && return 1
+    diff <(block rust text) <(sed -n '/^linkcap: /,/^$/p' "$work/failure" | sed '/^$/d')
 }
 
 # The oldest Rust that Cargo.toml names: Debian 12's.
@@ -329,6 +384,7 @@ test_rust() {
             --config 'source.crates-io.replace-with="debian"' --config "source.debian.directory=\"$packages\"")
         step "Rust: netlink-packet-route" cargo run -q --offline "${debian[@]}"
         step "Rust: netlink-packet-route, golden" cargo test -q --offline "${debian[@]}"
+        step "Rust: the failure on the page" rust_fails_as_on_the_page "${debian[@]:2}"
     else
         skip "Rust: netlink-packet-route" "no package librust-netlink-packet-route-dev of 0.12"
     fi
@@ -371,6 +427,9 @@ test_vishvananda() {
         return
     fi
     step "Go: vishvananda/netlink" env -C $folder go test -run 'TestVlan|TestVeth|TestPadding' .
+    sed '/"eth0.5"/s/1450/1400/' $folder/request_test.go > "$work/changed.go"
+    printf '{"Replace": {"request_test.go": "%s"}}\n' "$work/changed.go" > "$work/overlay.json"
+    step "Go: the failure on the page" fails_as_on_the_page go env -C $folder go test -overlay "$work/overlay.json" -run TestVlan .
     if [ "$(id -u)" -eq 0 ] && has strace && has python3 && unshare -n true 2> /dev/null; then
         step "Go: LinkAdd" env -C $folder go test -run TestLinkAdd .
     else

@@ -79,7 +79,7 @@ static bool is_text(const Bytes &text, bool has_newlines)
     });
 }
 
-static bool is_same_fault(const linkcap_fault &one, const linkcap_fault &other)
+static bool is_same_fault(const linkcap_finding &one, const linkcap_finding &other)
 {
     return one.kind == other.kind && one.offset == other.offset && one.side == other.side;
 }
@@ -89,33 +89,46 @@ static Bytes take_prefix(const Bytes &capture, size_t length)
     return Bytes(capture.begin(), capture.begin() + length);
 }
 
-static void check_legal(const Bytes &capture, uint32_t limit, const Bytes &text, const Bytes &listing)
+// What is written of a capture: its text, its lines, or these without sequence and port numbers.
+static Result normalize(const Bytes &capture, uint32_t limit) { return write_all(capture, make_options(limit)); }
+
+static Result lines(const Bytes &capture, uint32_t limit, uint32_t flags = 0, const char *only = "", const char *without = "")
 {
-    linkcap_sizes sizes, text_sizes;
-    LAW(measure(capture, limit, sizes).status == LINKCAP_OK && sizes.text_high == 0 && sizes.text_low == text.size());
-    LAW(measure(text, limit, text_sizes).status == LINKCAP_OK && text_sizes.frames == sizes.frames);
-    Result renormalized = normalize(text, limit);
-    LAW(renormalized.status == LINKCAP_OK && renormalized.written == text);
-    LAW(same(capture, text, limit).status == LINKCAP_OK && same(text, capture, limit).status == LINKCAP_OK);
-    LAW(same(capture, capture, limit).status == LINKCAP_OK);
-    Result text_lines = lines(text, limit, {});
-    LAW(text_lines.status == LINKCAP_OK && text_lines.written == listing);
-    Result unnumbered = lines(capture, limit, {true, {}});
-    LAW(unnumbered.status == LINKCAP_OK && unnumbered.written.size() <= listing.size());
-    Result selection = lines(capture, limit, {false, {16, 3}});
-    LAW(selection.status == LINKCAP_OK && selection.written.size() <= listing.size());
-    LAW(why(capture, limit).status == LINKCAP_NONE);
-    LAW(quirks(text, limit).list.empty());
-    LAW(same_ignoring_numbers(capture, text, limit).status == LINKCAP_OK);
+    return write_all(capture, make_options(limit, LINKCAP_LINES, flags, only, without));
 }
 
-// Iteration yields as many messages as `measure` counts, and ends at the capture's first fault.
+static linkcap_status compare(const Bytes &first, const Bytes &second, uint32_t limit, uint32_t flags = 0)
+{
+    return same(first, second, make_options(limit, LINKCAP_TEXT, flags)).status;
+}
+
+static void check_legal(const Bytes &capture, uint32_t limit, const linkcap_sizes &sizes, const Bytes &text, const Bytes &listing)
+{
+    linkcap_sizes text_sizes;
+    LAW(sizes.text_high == 0 && sizes.text_low == text.size());
+    LAW(check(text, make_options(limit), text_sizes).status == LINKCAP_OK && text_sizes.frames == sizes.frames);
+    Result renormalized = normalize(text, limit);
+    LAW(renormalized.status == LINKCAP_OK && renormalized.written == text);
+    LAW(compare(capture, text, limit) == LINKCAP_OK && compare(text, capture, limit) == LINKCAP_OK);
+    LAW(compare(capture, capture, limit) == LINKCAP_OK);
+    Result text_lines = lines(text, limit);
+    LAW(text_lines.status == LINKCAP_OK && text_lines.written == listing);
+    Result unnumbered = lines(capture, limit, LINKCAP_WITHOUT_NUMBERS);
+    LAW(unnumbered.status == LINKCAP_OK && unnumbered.written.size() <= listing.size());
+    Result selection = lines(capture, limit, 0, "16,3");
+    LAW(selection.status == LINKCAP_OK && selection.written.size() <= listing.size());
+    LAW(why(capture, 0, make_options(limit)).status == LINKCAP_NONE);
+    LAW(quirks(text, make_options(limit)).list.empty());
+    LAW(compare(capture, text, limit, LINKCAP_WITHOUT_NUMBERS) == LINKCAP_OK);
+}
+
+// Iteration yields as many messages as `check` counts, and ends at the capture's first fault.
 static void check_messages(const Bytes &capture, uint32_t limit, const Result &text)
 {
     uint64_t offset = 0;
     size_t from = 0;
     Message next;
-    while ((next = next_message(capture, limit, offset)).status == LINKCAP_OK) {
+    while ((next = next_message(capture, make_options(limit), offset)).status == LINKCAP_OK) {
         LAW(next.message.next > offset && next.message.next <= capture.size() && next.message.length >= 16);
         LAW(next.message.length <= capture.size() - offset);
         LAW(next.message.type == uint32_t(capture[offset + 4] | capture[offset + 5] << 8));
@@ -128,201 +141,144 @@ static void check_messages(const Bytes &capture, uint32_t limit, const Result &t
     LAW(from == text.written.size());
     LAW(next.status == (text.status == LINKCAP_OK ? LINKCAP_NONE : LINKCAP_FAULT));
     LAW(text.status == LINKCAP_OK ? offset == capture.size() : is_same_fault(next.fault, text.fault));
-    LAW(next_message(capture, limit, capture.size()).status == LINKCAP_NONE);
+    LAW(next_message(capture, make_options(limit), capture.size()).status == LINKCAP_NONE);
 }
 
 static void check_quirks(const Bytes &capture, uint32_t limit, const Result &text)
 {
-    Quirks result = quirks(capture, limit);
+    Quirks result = quirks(capture, make_options(limit));
     LAW(result.status == text.status && (text.status == LINKCAP_OK || is_same_fault(result.fault, text.fault)));
     uint64_t end = text.status == LINKCAP_OK ? capture.size() : text.fault.offset;
-    for (const linkcap_quirk &quirk : result.list) {
+    for (const linkcap_finding &quirk : result.list) {
         LAW(quirk.kind >= LINKCAP_NESTED_PORT_SETTINGS && quirk.kind <= LINKCAP_SHORT_MAP && quirk.offset < end);
-        Bytes words = quirk_text(quirk);
-        LAW(is_text(words, false));
-        touch(words.data(), words.data() + words.size());
+        Bytes text = words(quirk);
+        LAW(quirk.side == 0 && is_text(text, false));
+        touch(text.data(), text.data() + text.size());
     }
     counts.quirks += result.list.size();
 }
 
-static void check_reason(const Bytes &capture, uint32_t limit, const linkcap_fault &fault)
+static void check_reason(const Bytes &capture, uint32_t limit, const linkcap_finding &fault)
 {
-    Reason reason = why(capture, limit);
+    Reason reason = why(capture, 0, make_options(limit));
     LAW(reason.status == (fault.kind == LINKCAP_REFUSED ? LINKCAP_OK : LINKCAP_NONE));
     LAW(is_text(reason.words, false));
     LAW(reason.words.empty() || reason.offset == UINT64_MAX || (reason.offset > fault.offset && reason.offset <= capture.size()));
     touch(reason.words.data(), reason.words.data() + reason.words.size());
+    // The faulty message alone, at its offset, has the same reason.
+    Reason alone = why(Bytes(capture.begin() + fault.offset, capture.end()), fault.offset, make_options(limit));
+    LAW(alone.status == reason.status && alone.offset == reason.offset && alone.words == reason.words);
 }
 
 static void check_fault(const Bytes &capture, uint32_t limit, const Result &text, const Bytes &listing)
 {
-    const linkcap_fault &fault = text.fault;
+    const linkcap_finding &fault = text.fault;
     LAW(fault.kind >= LINKCAP_CUT && fault.kind <= LINKCAP_TEXT_OVER_LIMIT && fault.side == 0);
     LAW(fault.offset < capture.size() && fault.offset % 4 == 0);
     Bytes prefix = take_prefix(capture, fault.offset);
-    Result prefix_text = normalize(prefix, limit), prefix_lines = lines(prefix, limit, {});
+    Result prefix_text = normalize(prefix, limit), prefix_lines = lines(prefix, limit);
     LAW(prefix_text.status == LINKCAP_OK && prefix_text.written == text.written);
     LAW(prefix_lines.status == LINKCAP_OK && prefix_lines.written == listing);
-    Result first = same(capture, capture, limit), second = same({}, capture, limit);
+    Result first = same(capture, capture, make_options(limit)), second = same({}, capture, make_options(limit));
     LAW(first.status == LINKCAP_FAULT && is_same_fault(first.fault, {fault.kind, 1, fault.offset}));
     LAW(second.status == LINKCAP_FAULT && is_same_fault(second.fault, {fault.kind, 2, fault.offset}));
-    LAW(is_text(fault_text(fault), false));
+    LAW(is_text(words(fault), false));
     check_reason(capture, limit, fault);
     counts.faults[fault.kind]++;
 }
 
-static void check_small_buffer(const Bytes &capture, uint32_t limit, size_t length, std::minstd_rand &random)
-{
-    if (length == 0)
-        return;
-    size_t capacity = random() % 2 ? length - 1 : random() % length;
-    LAW(get_required_capacity(capture, limit, capacity) == length);
-}
-
 // ---- pieces
 
-struct Stream {
-    const Bytes &capture;
-    uint32_t limit;
-    const LineChoice *choice; // null for normal text
-    size_t used, available; // bytes of the capture
-    bool is_last;
-    Bytes written;
-};
-
-// Calls with the available bytes, and with a larger buffer as long as it is too small.
-static Piece process_available(Stream &stream, size_t capacity)
+// Pieces and buffers of any sizes yield what is written of the whole capture, and its first fault.
+static void check_pieces(const Bytes &capture, const linkcap_options &options, std::minstd_rand &random)
 {
-    for (;;) {
-        Bytes rest(stream.capture.begin() + stream.used, stream.capture.begin() + stream.available);
-        Piece piece = stream.choice ? show_some(rest, stream.is_last, stream.limit, *stream.choice, capacity)
-                                    : normalize_some(rest, stream.is_last, stream.limit, capacity);
+    Result whole = write_all(capture, options);
+    Bytes written;
+    size_t used = 0, available = 0, capacity = 0;
+    linkcap_status status = LINKCAP_OK;
+    linkcap_finding first = {};
+    for (bool is_last = capture.empty();;) {
+        Piece piece = write_piece(Bytes(capture.begin() + used, capture.begin() + available), used, is_last, options, capacity);
         counts.pieces++;
         LAW(piece.status != LINKCAP_NO_ROOM || piece.progress.used > 0 || capacity < piece.progress.wanted);
-        stream.written.insert(stream.written.end(), piece.written.begin(), piece.written.end());
-        stream.used += piece.progress.used;
-        if (piece.status != LINKCAP_NO_ROOM)
-            return piece;
-        capacity = piece.progress.wanted;
-    }
-}
-
-// Pieces and buffers of any sizes yield the text, or the lines, and the fault of the whole capture.
-static void check_pieces(const Bytes &capture, uint32_t limit, const LineChoice *choice, const Result &text,
-                         std::minstd_rand &random)
-{
-    Stream stream = {capture, limit, choice, 0, 0, false, {}};
-    Piece piece = {};
-    while (!stream.is_last && piece.status == LINKCAP_OK) {
-        size_t length = random() % 3 == 0 ? random() % 5 : random() % (capture.size() + 2);
-        stream.available = std::min(capture.size(), stream.available + length);
-        stream.is_last = stream.available == capture.size() && random() % 2;
-        size_t unused = stream.available - stream.used;
-        piece = process_available(stream, random() % 4 ? unused + 64 : random() % (unused + 1));
-    }
-    LAW(piece.status == text.status && stream.written == text.written);
-    LAW(stream.used == (text.status == LINKCAP_OK ? capture.size() : text.fault.offset));
-    LAW(text.status == LINKCAP_OK || piece.fault.kind == text.fault.kind);
-}
-
-// Pieces of any sizes yield the selected lines of the whole capture, or its JSON, and its first fault.
-static void check_selected_pieces(const Bytes &capture, uint32_t limit, uint32_t flags, std::minstd_rand &random)
-{
-    Result whole = selected_lines(capture, limit, flags, "");
-    Bytes written;
-    uint64_t used = 0, available = 0;
-    uint32_t status = LINKCAP_OK;
-    linkcap_fault first = {};
-    for (size_t capacity = 0;;) {
-        bool is_last = available == capture.size();
-        Bytes rest(capture.begin() + used, capture.begin() + available);
-        Piece piece = show_selected_some(rest, is_last, limit, used, flags, capacity);
-        counts.pieces++;
-        LAW(piece.status == LINKCAP_OK || piece.status == LINKCAP_FAULT || piece.status == LINKCAP_NO_ROOM);
         if (piece.status == LINKCAP_FAULT && status == LINKCAP_OK) {
             status = LINKCAP_FAULT;
-            first = {piece.fault.kind, piece.fault.side, used + piece.fault.offset};
+            first = piece.fault;
         }
         written.insert(written.end(), piece.written.begin(), piece.written.end());
         used += piece.progress.used;
-        capacity = piece.progress.wanted;
-        if (piece.status == LINKCAP_FAULT ? piece.fault.offset == piece.progress.used : piece.status == LINKCAP_OK && is_last)
+        capacity = std::max<size_t>(piece.progress.wanted, random() % (capture.size() + 64));
+        if (piece.status == LINKCAP_FAULT ? piece.fault.offset == used : piece.status == LINKCAP_OK && is_last)
             break;
-        if (piece.status == LINKCAP_OK)
-            available = std::min<uint64_t>(capture.size(), available + 1 + random() % (capture.size() / 2 + 1));
+        if (piece.status == LINKCAP_OK) {
+            size_t length = random() % 3 == 0 ? random() % 5 : random() % (capture.size() + 2);
+            available = std::min(capture.size(), available + length);
+            is_last = available == capture.size() && random() % 2;
+        }
     }
     LAW(status == whole.status && written == whole.written);
-    LAW(status == LINKCAP_OK || is_same_fault(first, whole.fault));
+    LAW(status == LINKCAP_OK ? used == capture.size() : is_same_fault(first, whole.fault));
 }
 
-// Without options the selected lines are all; if messages after the first fault are shown too, all are a prefix.
+// Without options the lines are all; if messages after the first fault are shown too, all are a prefix.
 static void check_selections(const Bytes &capture, uint32_t limit, const Result &listing)
 {
-    Result selection = selected_lines(capture, limit, 0, "");
-    LAW(selection.status == listing.status && selection.written == listing.written);
-    LAW(listing.status == LINKCAP_OK || is_same_fault(selection.fault, listing.fault));
-    Result more = selected_lines(capture, limit, LINKCAP_KEEP_GOING, "");
+    Result more = lines(capture, limit, LINKCAP_KEEP_GOING);
     LAW(more.status == listing.status && more.written.size() >= listing.written.size());
     LAW(std::equal(listing.written.begin(), listing.written.end(), more.written.begin()));
     LAW(listing.status == LINKCAP_OK || is_same_fault(more.fault, listing.fault));
     LAW(is_text(more.written, true));
-    Result unnumbered = selected_lines(capture, limit, LINKCAP_WITHOUT_NUMBERS, "");
-    LAW(unnumbered.written == lines(capture, limit, {true, {}}).written);
-    LAW(unnumbered.written == selected_lines(capture, limit, 0, "NUMBERS").written);
-    Result rest = selected_lines(capture, limit, LINKCAP_OFFSETS, "counters,indexes,IFLA_MTU");
+    LAW(lines(capture, limit, LINKCAP_WITHOUT_NUMBERS).written == lines(capture, limit, 0, "", "NUMBERS").written);
+    Result rest = lines(capture, limit, LINKCAP_OFFSETS, "", "counters,indexes,IFLA_MTU");
     LAW(rest.status == listing.status && is_text(rest.written, true));
-    Result objects = selected_lines(capture, limit, LINKCAP_JSON, "");
+    Result objects = write_all(capture, make_options(limit, LINKCAP_JSON));
     LAW(objects.status == listing.status && is_text(objects.written, true));
 }
 
 static void check_one(const Bytes &capture, uint32_t limit, std::minstd_rand &random)
 {
-    Result text = normalize(capture, limit), listing = lines(capture, limit, {}), verdict = check(capture, limit);
     linkcap_sizes sizes;
-    Result measurement = measure(capture, limit, sizes);
-    LAW(verdict.status == text.status && measurement.status == text.status && listing.status == text.status);
+    Result text = normalize(capture, limit), listing = lines(capture, limit);
+    Result verdict = check(capture, make_options(limit), sizes);
+    LAW(verdict.status == text.status && listing.status == text.status);
     LAW(is_text(listing.written, true) && text.written.size() <= 77 * capture.size());
     touch_lines(listing.written);
-    check_small_buffer(capture, limit, text.written.size(), random);
     if (text.status == LINKCAP_OK) {
         counts.legal++;
-        check_legal(capture, limit, text.written, listing.written);
+        check_legal(capture, limit, sizes, text.written, listing.written);
     } else {
-        LAW(is_same_fault(verdict.fault, text.fault) && is_same_fault(measurement.fault, text.fault));
-        LAW(is_same_fault(listing.fault, text.fault));
+        LAW(is_same_fault(verdict.fault, text.fault) && is_same_fault(listing.fault, text.fault));
         check_fault(capture, limit, text, listing.written);
     }
     check_messages(capture, limit, text);
     check_quirks(capture, limit, text);
     check_selections(capture, limit, listing);
-    check_pieces(capture, limit, nullptr, text, random);
-    LineChoice choice = {random() % 2 == 0, random() % 2 ? std::vector<uint16_t>{} : std::vector<uint16_t>{16, 3}};
-    check_pieces(capture, limit, &choice, lines(capture, limit, choice), random);
-    check_selected_pieces(capture, limit, random() % 16, random);
+    check_pieces(capture, make_options(limit), random);
+    linkcap_form form = random() % 2 ? LINKCAP_LINES : LINKCAP_JSON;
+    check_pieces(capture, make_options(limit, form, random() % 8, random() % 2 ? "16,3" : ""), random);
 }
 
 // ---- two captures
 
 static void check_pair(const Bytes &first, const Bytes &second, uint32_t limit)
 {
-    Result one = normalize(first, limit), other = normalize(second, limit), comparison = same(first, second, limit);
-    Result unnumbered = same_ignoring_numbers(first, second, limit);
+    Result one = normalize(first, limit), other = normalize(second, limit), comparison = same(first, second, make_options(limit));
+    Result unnumbered = same(first, second, make_options(limit, LINKCAP_TEXT, LINKCAP_WITHOUT_NUMBERS));
     if (one.status == LINKCAP_FAULT || other.status == LINKCAP_FAULT) {
         bool is_first = one.status == LINKCAP_FAULT;
-        const linkcap_fault &fault = is_first ? one.fault : other.fault;
+        const linkcap_finding &fault = is_first ? one.fault : other.fault;
         LAW(comparison.status == LINKCAP_FAULT
             && is_same_fault(comparison.fault, {fault.kind, is_first ? 1u : 2u, fault.offset}));
         LAW(unnumbered.status == LINKCAP_FAULT && is_same_fault(unnumbered.fault, comparison.fault));
         return;
     }
     bool is_same = one.written == other.written;
-    LAW(comparison.status == (is_same ? LINKCAP_OK : LINKCAP_DIFFERENT)
-        && same(second, first, limit).status == comparison.status);
-    LAW((lines(first, limit, {}).written == lines(second, limit, {}).written) == is_same);
+    LAW(comparison.status == (is_same ? LINKCAP_OK : LINKCAP_DIFFERENT) && compare(second, first, limit) == comparison.status);
+    LAW((lines(first, limit).written == lines(second, limit).written) == is_same);
     LAW(unnumbered.status == LINKCAP_OK || !is_same);
-    bool are_lines_equal = lines(first, limit, {true, {}}).written == lines(second, limit, {true, {}}).written;
-    LAW(are_lines_equal == (unnumbered.status == LINKCAP_OK));
-    LAW(same_ignoring_numbers(second, first, limit).status == unnumbered.status);
+    uint32_t flags = LINKCAP_WITHOUT_NUMBERS;
+    LAW((lines(first, limit, flags).written == lines(second, limit, flags).written) == (unnumbered.status == LINKCAP_OK));
+    LAW(compare(second, first, limit, flags) == unnumbered.status);
     (is_same ? counts.pairs_same : counts.pairs_different)++;
 }
 

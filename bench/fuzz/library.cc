@@ -3,6 +3,7 @@
 #include <sys/mman.h>
 #include <unistd.h>
 
+#include <algorithm>
 #include <cstdlib>
 #include <cstring>
 
@@ -40,192 +41,120 @@ const uint8_t *GuardedMemory::store(const Bytes &bytes) const
     return at;
 }
 
-Result check(const Bytes &capture, uint32_t limit)
+static bool is_untouched(const void *start, size_t length)
+{
+    const uint8_t *at = (const uint8_t *)start;
+    return std::all_of(at, at + length, [](uint8_t byte) { return byte == UNTOUCHED; });
+}
+
+linkcap_options make_options(uint32_t limit, linkcap_form form, uint32_t flags, const char *only, const char *without)
+{
+    return {{only, strlen(only)}, {nullptr, 0}, {without, strlen(without)}, limit, flags, form, 0};
+}
+
+Result check(const Bytes &capture, const linkcap_options &options, linkcap_sizes &sizes)
 {
     Result result = {};
-    result.status = linkcap_check(first_input.store(capture), capture.size(), limit, &result.fault);
+    result.status = linkcap_check(first_input.store(capture), capture.size(), &options, &sizes, &result.fault);
     return result;
 }
 
-Result measure(const Bytes &capture, uint32_t limit, linkcap_sizes &sizes)
+Result same(const Bytes &first, const Bytes &second, const linkcap_options &options)
 {
     Result result = {};
-    result.status = linkcap_measure(first_input.store(capture), capture.size(), limit, &sizes, &result.fault);
-    return result;
-}
-
-Result same(const Bytes &first, const Bytes &second, uint32_t limit)
-{
-    Result result = {};
-    result.status = linkcap_same(first_input.store(first), first.size(), second_input.store(second), second.size(), limit,
+    result.status = linkcap_same(first_input.store(first), first.size(), second_input.store(second), second.size(), &options,
                                  &result.fault);
     return result;
 }
 
-Result same_ignoring_numbers(const Bytes &first, const Bytes &second, uint32_t limit)
+Piece write_piece(const Bytes &piece, uint64_t offset, bool is_last, const linkcap_options &options, size_t capacity)
 {
-    Result result = {};
-    result.status = linkcap_same_ignoring_numbers(first_input.store(first), first.size(), second_input.store(second),
-                                                  second.size(), limit, &result.fault);
-    return result;
-}
-
-// Calls with a buffer of `capacity` bytes, and if it is too small, with one of the size that the call requires.
-template <typename Call> static Result write(size_t capacity, Call call)
-{
-    Result result = {};
-    uint64_t written = 0;
-    result.status = call(output.get_tail(capacity), capacity, &written, &result.fault);
-    if (result.status == LINKCAP_NO_ROOM) {
-        LAW(written > capacity);
-        capacity = written;
-        result.status = call(output.get_tail(capacity), capacity, &written, &result.fault);
-        LAW(result.status != LINKCAP_NO_ROOM && written == capacity);
-    }
-    LAW(result.status == LINKCAP_OK || result.status == LINKCAP_FAULT);
-    LAW(written <= capacity);
-    result.written.assign(output.get_tail(capacity), output.get_tail(capacity) + written);
-    return result;
-}
-
-Result normalize(const Bytes &capture, uint32_t limit)
-{
-    const uint8_t *at = first_input.store(capture);
-    return write(capture.size() + 16, [&](uint8_t *out, size_t capacity, uint64_t *written, linkcap_fault *fault) {
-        return linkcap_normalize(at, capture.size(), limit, out, capacity, written, fault);
-    });
-}
-
-uint64_t get_required_capacity(const Bytes &capture, uint32_t limit, size_t capacity)
-{
+    Piece result = {};
+    linkcap_piece input = {first_input.store(piece), piece.size(), offset, is_last, 0};
     uint8_t *out = output.get_tail(capacity);
-    if (capacity)
-        memset(out, UNTOUCHED, capacity);
-    uint64_t written = 0;
-    linkcap_fault fault;
-    LAW(linkcap_normalize(first_input.store(capture), capture.size(), limit, out, capacity, &written, &fault) == LINKCAP_NO_ROOM);
-    for (size_t i = 0; i < capacity; i++)
-        LAW(out[i] == UNTOUCHED);
-    return written;
+    memset(out, UNTOUCHED, capacity);
+    result.status = linkcap_write(&options, &input, out, capacity, &result.progress, &result.fault);
+    size_t written = result.progress.written;
+    LAW(result.status == LINKCAP_OK || result.status == LINKCAP_FAULT || result.status == LINKCAP_NO_ROOM);
+    LAW(result.progress.used <= piece.size() && written <= capacity);
+    LAW(result.status == LINKCAP_NO_ROOM ? result.progress.wanted > capacity - written : result.progress.wanted == 0);
+    LAW(is_untouched(out + written, capacity - written));
+    result.written.assign(out, out + written);
+    return result;
 }
 
-Result lines(const Bytes &capture, uint32_t limit, const LineChoice &choice)
+Result write_all(const Bytes &capture, const linkcap_options &options)
 {
-    const uint8_t *at = first_input.store(capture);
-    return write(8 * capture.size() + 64, [&](uint8_t *out, size_t capacity, uint64_t *written, linkcap_fault *fault) {
-        return linkcap_show_with(at, capture.size(), limit, choice.without_numbers, choice.types.data(), choice.types.size(), out,
-                                 capacity, written, fault);
-    });
+    Result result = {};
+    size_t used = 0, capacity = 2 * capture.size() + 64;
+    do {
+        Piece piece = write_piece(Bytes(capture.begin() + used, capture.end()), used, true, options, capacity);
+        bool is_first = result.status != LINKCAP_FAULT;
+        used += piece.progress.used;
+        result.written.insert(result.written.end(), piece.written.begin(), piece.written.end());
+        capacity = piece.progress.wanted > capacity ? piece.progress.wanted : capacity;
+        if (piece.status == LINKCAP_FAULT && is_first) {
+            result.status = LINKCAP_FAULT;
+            result.fault = piece.fault;
+        }
+        if (piece.status == LINKCAP_FAULT ? piece.fault.offset == used : piece.status == LINKCAP_OK)
+            return result;
+    } while (true);
 }
 
-Result selected_lines(const Bytes &capture, uint32_t limit, uint32_t flags, const char *names)
-{
-    const uint8_t *at = first_input.store(capture), *without = reinterpret_cast<const uint8_t *>(names);
-    return write(9 * capture.size() + 64, [&](uint8_t *out, size_t capacity, uint64_t *written, linkcap_fault *fault) {
-        return linkcap_show_selected(at, capture.size(), limit, flags, nullptr, 0, nullptr, 0, without, strlen(names), out, capacity,
-                                     written, fault);
-    });
-}
-
-Reason why(const Bytes &capture, uint32_t limit)
+Reason why(const Bytes &piece, uint64_t offset, const linkcap_options &options)
 {
     Reason reason = {};
-    const uint8_t *at = first_input.store(capture);
+    linkcap_piece input = {first_input.store(piece), piece.size(), offset, 1, 0};
     uint64_t written = 0;
-    reason.status = linkcap_why(at, capture.size(), limit, nullptr, 0, &written, &reason.offset);
+    reason.status = linkcap_why(&options, &input, nullptr, 0, &written, &reason.offset);
     if (reason.status != LINKCAP_NO_ROOM) {
         LAW(written == 0 && reason.offset == UINT64_MAX);
         return reason;
     }
     size_t capacity = written;
     uint8_t *out = output.get_tail(capacity);
-    LAW(capacity == 1 || linkcap_why(at, capture.size(), limit, out, capacity - 1, &written, &reason.offset) == LINKCAP_NO_ROOM);
-    reason.status = linkcap_why(at, capture.size(), limit, out, capacity, &written, &reason.offset);
+    LAW(capacity == 1 || linkcap_why(&options, &input, out, capacity - 1, &written, &reason.offset) == LINKCAP_NO_ROOM);
+    reason.status = linkcap_why(&options, &input, out, capacity, &written, &reason.offset);
     LAW(reason.status == LINKCAP_OK && written == capacity);
     reason.words.assign(out, out + written);
     return reason;
 }
 
-// Completes the result of a call for a piece with the bytes that it wrote to `out`.
-static Piece collect_output(Piece result, const Bytes &piece, const uint8_t *out, size_t capacity)
-{
-    LAW(result.progress.used <= piece.size() && result.progress.written <= capacity);
-    LAW(result.status == LINKCAP_NO_ROOM ? result.progress.wanted > capacity - result.progress.written
-                                         : result.progress.wanted == 0);
-    result.written.assign(out, out + result.progress.written);
-    return result;
-}
-
-Piece normalize_some(const Bytes &piece, bool is_last, uint32_t limit, size_t capacity)
-{
-    Piece result = {};
-    uint8_t *out = output.get_tail(capacity);
-    result.status = linkcap_normalize_some(first_input.store(piece), piece.size(), is_last, limit, out, capacity, &result.progress,
-                                           &result.fault);
-    return collect_output(result, piece, out, capacity);
-}
-
-Piece show_some(const Bytes &piece, bool is_last, uint32_t limit, const LineChoice &choice, size_t capacity)
-{
-    Piece result = {};
-    uint8_t *out = output.get_tail(capacity);
-    result.status = linkcap_show_some(first_input.store(piece), piece.size(), is_last, limit, choice.without_numbers,
-                                      choice.types.data(), choice.types.size(), out, capacity, &result.progress, &result.fault);
-    return collect_output(result, piece, out, capacity);
-}
-
-Piece show_selected_some(const Bytes &piece, bool is_last, uint32_t limit, uint64_t offset, uint32_t flags, size_t capacity)
-{
-    Piece result = {};
-    uint8_t *out = output.get_tail(capacity);
-    result.status = linkcap_show_selected_some(first_input.store(piece), piece.size(), is_last, limit, offset, flags, nullptr, 0,
-                                               nullptr, 0, nullptr, 0, out, capacity, &result.progress, &result.fault);
-    return collect_output(result, piece, out, capacity);
-}
-
-Message next_message(const Bytes &capture, uint32_t limit, uint64_t offset)
+Message next_message(const Bytes &capture, const linkcap_options &options, uint64_t offset)
 {
     Message result = {};
-    result.status = linkcap_next_message(first_input.store(capture), capture.size(), limit, offset, &result.message,
+    result.status = linkcap_next_message(first_input.store(capture), capture.size(), &options, offset, &result.message,
                                          &result.fault);
     return result;
 }
 
-Quirks quirks(const Bytes &capture, uint32_t limit)
+Quirks quirks(const Bytes &capture, const linkcap_options &options)
 {
     Quirks result = {};
     const uint8_t *at = first_input.store(capture);
     uint64_t count = 0;
-    result.status = linkcap_quirks(at, capture.size(), limit, nullptr, 0, &count, &result.fault);
+    result.status = linkcap_quirks(at, capture.size(), &options, nullptr, 0, &count, &result.fault);
     if (result.status != LINKCAP_NO_ROOM) {
         LAW(count == 0);
         return result;
     }
-    size_t size = count * sizeof(linkcap_quirk);
-    linkcap_quirk *array = (linkcap_quirk *)output.get_tail(size);
+    size_t size = count * sizeof(linkcap_finding);
+    linkcap_finding *array = (linkcap_finding *)output.get_tail(size);
     memset(array, UNTOUCHED, size);
     uint64_t required = 0;
-    LAW(linkcap_quirks(at, capture.size(), limit, array, count - 1, &required, &result.fault) == LINKCAP_NO_ROOM);
-    for (size_t i = 0; i < size; i++)
-        LAW(((uint8_t *)array)[i] == UNTOUCHED);
-    result.status = linkcap_quirks(at, capture.size(), limit, array, count, &required, &result.fault);
+    LAW(linkcap_quirks(at, capture.size(), &options, array, count - 1, &required, &result.fault) == LINKCAP_NO_ROOM);
+    LAW(is_untouched(array, size));
+    result.status = linkcap_quirks(at, capture.size(), &options, array, count, &required, &result.fault);
     LAW(required == count && (result.status == LINKCAP_OK || result.status == LINKCAP_FAULT));
     result.list.assign(array, array + count);
     return result;
 }
 
-Bytes quirk_text(const linkcap_quirk &quirk)
+Bytes words(const linkcap_finding &finding)
 {
-    uint8_t *out = output.get_tail(LINKCAP_FAULT_TEXT);
+    uint8_t *out = output.get_tail(LINKCAP_WORDS_ROOM);
     uint64_t written = 0;
-    LAW(linkcap_quirk_text(&quirk, out, LINKCAP_FAULT_TEXT, &written) == LINKCAP_OK && written <= LINKCAP_FAULT_TEXT);
-    return Bytes(out, out + written);
-}
-
-Bytes fault_text(const linkcap_fault &fault)
-{
-    uint8_t *out = output.get_tail(LINKCAP_FAULT_TEXT);
-    uint64_t written = 0;
-    LAW(linkcap_fault_text(&fault, out, LINKCAP_FAULT_TEXT, &written) == LINKCAP_OK && written <= LINKCAP_FAULT_TEXT);
+    LAW(linkcap_words(&finding, out, LINKCAP_WORDS_ROOM, &written) == LINKCAP_OK && written <= LINKCAP_WORDS_ROOM);
     return Bytes(out, out + written);
 }

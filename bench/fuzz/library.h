@@ -28,63 +28,54 @@ private:
     size_t capacity;
 };
 
-// The status and the fault of a call, and the bytes that it wrote.
+// The status and the fault of a call, or of calls over all of a capture, and the bytes that they wrote.
 struct Result {
-    uint32_t status;
-    linkcap_fault fault;
+    linkcap_status status;
+    linkcap_finding fault;
     Bytes written;
 };
 
-struct LineChoice {
-    bool without_numbers;
-    std::vector<uint16_t> types;
+// The result of linkcap_write for one piece.
+struct Piece {
+    linkcap_status status;
+    linkcap_finding fault;
+    linkcap_progress progress;
+    Bytes written;
 };
 
 // The result of linkcap_why.
 struct Reason {
-    uint32_t status;
+    linkcap_status status;
     uint64_t offset;
     Bytes words;
 };
 
 // The result of linkcap_next_message.
 struct Message {
-    uint32_t status;
-    linkcap_fault fault;
+    linkcap_status status;
+    linkcap_finding fault;
     linkcap_message message;
 };
 
 // The result of linkcap_quirks.
 struct Quirks {
-    uint32_t status;
-    linkcap_fault fault;
-    std::vector<linkcap_quirk> list;
+    linkcap_status status;
+    linkcap_finding fault;
+    std::vector<linkcap_finding> list;
 };
 
-// The result of linkcap_normalize_some, linkcap_show_some or linkcap_show_selected_some for one piece.
-struct Piece {
-    uint32_t status;
-    linkcap_fault fault;
-    linkcap_progress progress;
-    Bytes written;
-};
+// Returns options with these values. The texts stay the caller's.
+linkcap_options make_options(uint32_t limit, linkcap_form form = LINKCAP_TEXT, uint32_t flags = 0, const char *only = "",
+                             const char *without = "");
 
-Result check(const Bytes &capture, uint32_t limit);
-Result measure(const Bytes &capture, uint32_t limit, linkcap_sizes &sizes);
-Result same(const Bytes &first, const Bytes &second, uint32_t limit);
-Result same_ignoring_numbers(const Bytes &first, const Bytes &second, uint32_t limit);
-Result normalize(const Bytes &capture, uint32_t limit);
-// Calls linkcap_normalize with a buffer of `capacity` bytes, which is too small and has to stay unchanged.
-uint64_t get_required_capacity(const Bytes &capture, uint32_t limit, size_t capacity);
-Result lines(const Bytes &capture, uint32_t limit, const LineChoice &choice);
-// Calls linkcap_show_selected with the flags and, as `without`, these names.
-Result selected_lines(const Bytes &capture, uint32_t limit, uint32_t flags, const char *names);
-Reason why(const Bytes &capture, uint32_t limit);
-Piece normalize_some(const Bytes &piece, bool is_last, uint32_t limit, size_t capacity);
-Piece show_some(const Bytes &piece, bool is_last, uint32_t limit, const LineChoice &choice, size_t capacity);
-// Calls linkcap_show_selected_some with the flags, for a piece at an offset of a capture.
-Piece show_selected_some(const Bytes &piece, bool is_last, uint32_t limit, uint64_t offset, uint32_t flags, size_t capacity);
-Message next_message(const Bytes &capture, uint32_t limit, uint64_t offset);
-Quirks quirks(const Bytes &capture, uint32_t limit);
-Bytes fault_text(const linkcap_fault &fault);
-Bytes quirk_text(const linkcap_quirk &quirk);
+Result check(const Bytes &capture, const linkcap_options &options, linkcap_sizes &sizes);
+Result same(const Bytes &first, const Bytes &second, const linkcap_options &options);
+// Calls linkcap_write with a buffer of `capacity` bytes, of which those after what is written have to stay unchanged.
+Piece write_piece(const Bytes &piece, uint64_t offset, bool is_last, const linkcap_options &options, size_t capacity);
+// Calls linkcap_write over a whole capture, as long as there is too little space.
+Result write_all(const Bytes &capture, const linkcap_options &options);
+// Calls linkcap_why for a piece at an offset of a capture.
+Reason why(const Bytes &piece, uint64_t offset, const linkcap_options &options);
+Message next_message(const Bytes &capture, const linkcap_options &options, uint64_t offset);
+Quirks quirks(const Bytes &capture, const linkcap_options &options);
+Bytes words(const linkcap_finding &finding);

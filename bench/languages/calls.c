@@ -42,34 +42,29 @@ static uint32_t walk(void) {
     return 0;
 }
 
+static const struct linkcap_options texts, lines = {.form = LINKCAP_LINES};
+
 static uint32_t check(void) {
-    struct linkcap_fault fault;
-    return linkcap_check((uint8_t *)capture.bytes, capture.size, LINKCAP_DEFAULT_LIMIT, &fault);
-}
-
-static uint32_t normalize(void) {
-    struct linkcap_fault fault;
-    uint64_t written;
-    return linkcap_normalize((uint8_t *)capture.bytes, capture.size, LINKCAP_DEFAULT_LIMIT, out, capacity, &written, &fault);
-}
-
-static uint32_t normalize_some(void) {
-    struct linkcap_fault fault;
-    struct linkcap_progress progress;
-    return linkcap_normalize_some((uint8_t *)capture.bytes, capture.size, true, LINKCAP_DEFAULT_LIMIT, out, capacity, &progress,
-                                  &fault);
+    struct linkcap_sizes sizes;
+    struct linkcap_finding fault;
+    return linkcap_check((uint8_t *)capture.bytes, capture.size, &texts, &sizes, &fault);
 }
 
 static uint32_t same(void) {
-    struct linkcap_fault fault;
-    return linkcap_same((uint8_t *)capture.bytes, capture.size, (uint8_t *)capture.bytes, capture.size, LINKCAP_DEFAULT_LIMIT, &fault);
+    struct linkcap_finding fault;
+    return linkcap_same((uint8_t *)capture.bytes, capture.size, (uint8_t *)capture.bytes, capture.size, &texts, &fault);
 }
 
-static uint32_t show(void) {
-    struct linkcap_fault fault;
-    uint64_t written;
-    return linkcap_show((uint8_t *)capture.bytes, capture.size, LINKCAP_DEFAULT_LIMIT, out, capacity, &written, &fault);
+static uint32_t write_all(const struct linkcap_options *options) {
+    struct linkcap_piece piece = {(uint8_t *)capture.bytes, capture.size, 0, 1, 0};
+    struct linkcap_progress progress;
+    struct linkcap_finding fault;
+    return linkcap_write(options, &piece, out, capacity, &progress, &fault);
 }
+
+static uint32_t normalize(void) { return write_all(&texts); }
+
+static uint32_t show(void) { return write_all(&lines); }
 
 static void measure(const char *name, uint32_t (*call)(void), double seconds) {
     double best = 0;
@@ -97,7 +92,6 @@ int main(int argc, char **argv) {
         return 2;
     measure("check", check, seconds);
     measure("normalize", normalize, seconds);
-    measure("pieces", normalize_some, seconds);
     measure("same", same, seconds);
     measure("show", show, seconds);
     measure("libmnl", walk, seconds);

@@ -24,7 +24,7 @@ install -m 644 "$here/../../man/linkcap.3" "$to/share/man/man3"
 for call in $(grep -oE '\blinkcap_[a-z_]+\(' "$here/linkcap.h" | tr -d '(' | sort -u); do
     ln -sf linkcap.3 "$to/share/man/man3/$call.3"
 done
-version=$(sed -n 's/^#define LINKCAP_VERSION //p' "$here/linkcap.h")
+version=$(sed -nE 's/^## ([0-9.]+) .*/\1/p' "$here/../../CHANGELOG.md" | head -n 1)
 for name in linkcap linkcap-static; do
     sed -e "s|@PREFIX@|$prefix|" -e "s|@VERSION@|$version|" "$here/$name.pc.in" > "$to/lib/pkgconfig/$name.pc"
 done

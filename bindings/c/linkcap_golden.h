@@ -23,17 +23,8 @@
 
 #include <linkcap.h>
 
-/* What linkcap_golden_with compares. Zeros, and null, are the defaults: all lines, without sequence and port numbers. */
-struct linkcap_golden_options {
-    bool numbers;        /* compare sequence and port numbers, which change from run to run, too */
-    const char *only;    /* as of linkcap_show_selected: only messages of these types, as "newlink,dellink" */
-    const char *link;    /* only messages about this link, by name, alternative name or index */
-    const char *without; /* no attributes of these names or groups, as "IFLA_ADDRESS,counters"; the file's head names them */
-    uint32_t limit;      /* the greatest length that a message may have; 0 for LINKCAP_DEFAULT_LIMIT */
-};
-
 /*
- * Compares a capture's lines with those of a file, or writes the file.
+ * Compares the lines that options select of a capture, whatever their form, with those of a file, or writes the file.
  *
  * LINKCAP_OK           they are equal, or the file is written.
  * LINKCAP_DIFFERENT    they differ.
@@ -43,12 +34,12 @@ struct linkcap_golden_options {
  * LINKCAP_NONE         the capture is empty, or has no message that is selected: the test has captured nothing.
  */
 static inline enum linkcap_status linkcap_golden_with(const uint8_t *capture, size_t length, const char *path,
-                                                      const struct linkcap_golden_options *options);
+                                                      const struct linkcap_options *options);
 
-/* The same, with the default options. */
+/* The same, of all lines without sequence and port numbers, which change from run to run. */
 static inline enum linkcap_status linkcap_golden(const uint8_t *capture, size_t length, const char *path)
 {
-    struct linkcap_golden_options options = {false, NULL, NULL, NULL, 0};
+    struct linkcap_options options = {{NULL, 0}, {NULL, 0}, {NULL, 0}, 0, LINKCAP_WITHOUT_NUMBERS, LINKCAP_LINES, 0};
     return linkcap_golden_with(capture, length, path, &options);
 }
 
@@ -112,76 +103,64 @@ static inline size_t linkcap_golden_line(const char *text, size_t length)
 /* ---- the lines of a capture */
 
 /* Reports a fault, with the reason if a body is refused. */
-static inline void linkcap_golden_report_fault(const uint8_t *capture, size_t length, uint32_t limit,
-                                               const struct linkcap_fault *fault)
+static inline void linkcap_golden_report_fault(const uint8_t *capture, size_t length, const struct linkcap_options *options,
+                                               const struct linkcap_finding *fault)
 {
-    uint8_t words[LINKCAP_FAULT_TEXT], *reason = NULL;
+    struct linkcap_piece piece = {capture, length, 0, 1, 0};
+    uint8_t words[LINKCAP_WORDS_ROOM], *reason = NULL;
     uint64_t written = 0, offset = 0;
-    linkcap_fault_text(fault, words, sizeof words, &written);
-    fprintf(stderr, "linkcap: %.*s", (int)written, (const char *)words);
-    if (linkcap_why(capture, length, limit, NULL, 0, &written, &offset) == LINKCAP_NO_ROOM)
+    if (linkcap_words(fault, words, sizeof words, &written) == LINKCAP_OK)
+        fprintf(stderr, "linkcap: %.*s", (int)written, (const char *)words);
+    if (linkcap_why(options, &piece, NULL, 0, &written, &offset) == LINKCAP_NO_ROOM)
         reason = (uint8_t *)malloc((size_t)written);
-    if (reason && linkcap_why(capture, length, limit, reason, (size_t)written, &written, &offset) == LINKCAP_OK)
+    if (reason && linkcap_why(options, &piece, reason, (size_t)written, &written, &offset) == LINKCAP_OK)
         fprintf(stderr, ": %.*s", (int)written, (const char *)reason);
     fputc('\n', stderr);
     free(reason);
 }
 
 /* Reports options that the library doesn't accept. */
-static inline void linkcap_golden_report_options(const char *only, const char *without, uint32_t limit)
+static inline void linkcap_golden_report_options(const struct linkcap_options *options)
 {
-    size_t room = strlen(only) + strlen(without);
+    size_t room = options->only.length + options->without.length;
     uint8_t *word = (uint8_t *)malloc(room + 1);
     uint64_t written = 0;
-    if (limit < LINKCAP_MIN_LIMIT)
+    if (options->limit && options->limit < LINKCAP_MIN_LIMIT)
         fprintf(stderr, "linkcap: limit under %d\n", LINKCAP_MIN_LIMIT);
-    else if (word && linkcap_unknown_word((const uint8_t *)only, strlen(only), (const uint8_t *)without, strlen(without),
-                                          word, room, &written) == LINKCAP_OK)
+    else if (word && linkcap_unknown_word(options, word, room, &written) == LINKCAP_OK)
         fprintf(stderr, "linkcap: no type, attribute or group is called \"%.*s\"\n", (int)written, (const char *)word);
     else
         fputs("linkcap: more than 32 types or names, or a list that isn't UTF-8\n", stderr);
     free(word);
 }
 
-/* Reports a status of linkcap_show_selected, and returns it. */
-static inline enum linkcap_status linkcap_golden_report(uint32_t status, const uint8_t *capture, size_t length,
-                                                        const char *only, const char *without, uint32_t limit,
-                                                        const struct linkcap_fault *fault)
-{
-    if (status == LINKCAP_FAULT)
-        linkcap_golden_report_fault(capture, length, limit, fault);
-    else if (status == LINKCAP_WRONG)
-        linkcap_golden_report_options(only, without, limit);
-    else
-        linkcap_golden_no_memory();
-    return (enum linkcap_status)status;
-}
-
-/* Makes the lines that options select, without some attributes. A status other than LINKCAP_OK is reported. */
+/* Makes the lines that options select. A status other than LINKCAP_OK is reported. */
 static inline enum linkcap_status linkcap_golden_lines(const uint8_t *capture, size_t length,
-                                                       const struct linkcap_golden_options *options, const char *without,
-                                                       struct linkcap_golden_text *lines)
+                                                       const struct linkcap_options *options, struct linkcap_golden_text *lines)
 {
-    const char *only = options->only ? options->only : "", *link = options->link ? options->link : "";
-    uint32_t limit = options->limit ? options->limit : LINKCAP_DEFAULT_LIMIT, status;
-    uint32_t flags = options->numbers ? 0 : LINKCAP_WITHOUT_NUMBERS;
-    struct linkcap_fault fault = {0, 0, 0};
-    uint64_t written = length;
-    do {
-        size_t room = (size_t)written;
-        if (!linkcap_golden_reserve(lines, written))
+    struct linkcap_piece piece = {capture, length, 0, 1, 0};
+    struct linkcap_progress progress = {0, 0, length};
+    struct linkcap_finding fault = {0, 0, 0};
+    enum linkcap_status status = LINKCAP_NO_ROOM;
+    size_t room = 0;
+    for (lines->length = 0; status == LINKCAP_NO_ROOM; lines->length += (size_t)progress.written) {
+        if (progress.wanted > SIZE_MAX / 2 - room || !linkcap_golden_reserve(lines, room += room + (size_t)progress.wanted))
             return linkcap_golden_no_memory();
-        status = linkcap_show_selected(capture, length, limit, flags, (const uint8_t *)only, strlen(only), (const uint8_t *)link,
-                                       strlen(link), (const uint8_t *)without, strlen(without), (uint8_t *)lines->bytes, room,
-                                       &written, &fault);
-    } while (status == LINKCAP_NO_ROOM);
-    if (status != LINKCAP_OK)
-        return linkcap_golden_report(status, capture, length, only, without, limit, &fault);
-    lines->length = (size_t)written;
-    if (written > 0)
-        return LINKCAP_OK;
-    fputs("linkcap: the capture is empty, or has no message that is selected\n", stderr);
-    return LINKCAP_NONE;
+        status = linkcap_write(options, &piece, (uint8_t *)lines->bytes + lines->length, room - lines->length, &progress, &fault);
+        if (progress.used > 0) /* else the capture may be null */
+            piece.bytes += progress.used;
+        piece.length -= (size_t)progress.used;
+        piece.offset += progress.used;
+    }
+    if (status == LINKCAP_FAULT)
+        linkcap_golden_report_fault(capture, length, options, &fault);
+    else if (status == LINKCAP_WRONG)
+        linkcap_golden_report_options(options);
+    else if (status == LINKCAP_NO_MEMORY)
+        return linkcap_golden_no_memory();
+    else if (lines->length == 0)
+        fputs("linkcap: the capture is empty, or has no message that is selected\n", stderr);
+    return status == LINKCAP_OK && lines->length == 0 ? LINKCAP_NONE : status;
 }
 
 /* ---- the file */
@@ -212,13 +191,13 @@ static inline enum linkcap_status linkcap_golden_read(const char *path, struct l
 }
 
 /* Writes a file. A failure is reported. */
-static inline enum linkcap_status linkcap_golden_write(const char *path, const char *without,
+static inline enum linkcap_status linkcap_golden_write(const char *path, const struct linkcap_text *without,
                                                        const struct linkcap_golden_text *lines)
 {
     FILE *file = fopen(path, "wb");
     bool is_written = file && fprintf(file, LINKCAP_GOLDEN_FORMAT "%lu\n", (unsigned long)linkcap_format()) > 0;
-    if (is_written && *without)
-        is_written = fprintf(file, LINKCAP_GOLDEN_LEFT_OUT " %s\n", without) > 0;
+    if (is_written && without->length)
+        is_written = fprintf(file, LINKCAP_GOLDEN_LEFT_OUT " %.*s\n", (int)without->length, without->bytes) > 0;
     is_written = is_written && fwrite(lines->bytes, 1, lines->length, file) == lines->length;
     is_written = file && fclose(file) == 0 && is_written;
     if (!is_written)
@@ -273,14 +252,15 @@ static inline bool linkcap_golden_take(struct linkcap_golden_head *head, const c
 }
 
 /* Reads the head of a file, whose bytes a null byte follows. `without` is what options leave out. Whether there was memory. */
-static inline bool linkcap_golden_read_head(const struct linkcap_golden_text *file, const char *without,
+static inline bool linkcap_golden_read_head(const struct linkcap_golden_text *file, const struct linkcap_text *without,
                                             struct linkcap_golden_head *head)
 {
     size_t line = linkcap_golden_line(file->bytes, file->length);
-    head->without = (char *)calloc(1, file->length + strlen(without) + 2);
+    head->without = (char *)calloc(1, file->length + without->length + 2);
     if (!head->without)
         return false;
-    linkcap_golden_join(head->without, without, strlen(without));
+    if (without->length > 0)
+        linkcap_golden_join(head->without, without->bytes, without->length);
     while (line > 0 && linkcap_golden_take(head, file->bytes + head->length, line)) {
         head->length += line;
         line = linkcap_golden_line(file->bytes + head->length, file->length - head->length);
@@ -444,22 +424,23 @@ static inline enum linkcap_status linkcap_golden_report_difference(const char *p
 
 /* Compares lines, which are those of a capture without what options leave out, with those of a file that was read. */
 static inline enum linkcap_status linkcap_golden_compare(const uint8_t *capture, size_t length, const char *path,
-                                                         const struct linkcap_golden_options *options,
+                                                         const struct linkcap_options *options,
                                                          const struct linkcap_golden_text *file,
                                                          struct linkcap_golden_text *lines)
 {
     struct linkcap_golden_head head = {0, 0, false, NULL};
-    enum linkcap_status status = LINKCAP_OK;
-    if (!linkcap_golden_read_head(file, options->without ? options->without : "", &head))
+    struct linkcap_options all = *options;
+    enum linkcap_status status = LINKCAP_WRONG;
+    if (!linkcap_golden_read_head(file, &options->without, &head))
         return linkcap_golden_no_memory();
-    if (head.varies) {
+    all.without.bytes = head.without;
+    all.without.length = strlen(head.without);
+    if (head.varies)
         fprintf(stderr,
                 "linkcap: %s is of linkgold --effect, and leaves out what varies between two runs: compare it by linkgold\n",
                 path);
-        status = LINKCAP_WRONG;
-    } else {
-        status = linkcap_golden_lines(capture, length, options, head.without, lines);
-    }
+    else
+        status = linkcap_golden_lines(capture, length, &all, lines);
     struct linkcap_golden_text rest = {file->bytes + head.length, file->length - head.length};
     if (status == LINKCAP_OK && (rest.length != lines->length || memcmp(rest.bytes, lines->bytes, rest.length) != 0))
         status = linkcap_golden_report_difference(path, head.version, &rest, lines);
@@ -468,16 +449,18 @@ static inline enum linkcap_status linkcap_golden_compare(const uint8_t *capture,
 }
 
 static inline enum linkcap_status linkcap_golden_with(const uint8_t *capture, size_t length, const char *path,
-                                                      const struct linkcap_golden_options *options)
+                                                      const struct linkcap_options *options)
 {
-    const char *update = getenv(LINKCAP_GOLDEN_UPDATE), *without = options->without ? options->without : "";
+    const char *update = getenv(LINKCAP_GOLDEN_UPDATE);
     struct linkcap_golden_text lines = {NULL, 0}, file = {NULL, 0};
-    enum linkcap_status status = linkcap_golden_lines(capture, length, options, without, &lines);
+    struct linkcap_options selection = *options;
+    selection.form = LINKCAP_LINES;
+    enum linkcap_status status = linkcap_golden_lines(capture, length, &selection, &lines);
     bool is_update = update && *update && strcmp(update, "0") != 0;
     if (status == LINKCAP_OK && is_update)
-        status = linkcap_golden_write(path, without, &lines);
+        status = linkcap_golden_write(path, &options->without, &lines);
     else if (status == LINKCAP_OK && (status = linkcap_golden_read(path, &file)) == LINKCAP_OK)
-        status = linkcap_golden_compare(capture, length, path, options, &file, &lines);
+        status = linkcap_golden_compare(capture, length, path, &selection, &file, &lines);
     free(file.bytes);
     free(lines.bytes);
     return status;

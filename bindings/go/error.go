@@ -2,7 +2,7 @@
 
 package linkcap
 
-// #include <linkcap.h>
+// #include "calls.h"
 import "C"
 
 import (
@@ -63,12 +63,20 @@ func (e *Error) Error() string {
 func (e *Error) Unwrap() error { return e.Kind }
 
 func (e *Error) words() string {
-	var text [C.LINKCAP_FAULT_TEXT]byte
-	var written C.uint64_t
-	fault := C.struct_linkcap_fault{kind: C.uint32_t(e.Kind), side: C.uint32_t(e.Side), offset: C.uint64_t(e.Offset)}
-	status := C.linkcap_fault_text(&fault, (*C.uint8_t)(unsafe.Pointer(&text[0])), C.size_t(len(text)), &written)
-	if status != C.LINKCAP_OK {
+	words := wordsOf(C.struct_linkcap_finding{kind: C.uint32_t(e.Kind), side: C.uint32_t(e.Side), offset: C.uint64_t(e.Offset)})
+	if words == "" {
 		return fmt.Sprintf("%v at %d", e.Kind, e.Offset)
+	}
+	return words
+}
+
+// wordsOf returns the words of a fault or a quirk, with its offset; none if it is neither.
+func wordsOf(finding C.struct_linkcap_finding) string {
+	var text [C.LINKCAP_WORDS_ROOM]byte
+	var written C.uint64_t
+	status := C.linkcap_words(&finding, (*C.uint8_t)(unsafe.Pointer(&text[0])), C.size_t(len(text)), &written)
+	if status != C.LINKCAP_OK {
+		return ""
 	}
 	return string(text[:written])
 }
@@ -77,48 +85,41 @@ func (e *Error) words() string {
 var (
 	// ErrLimit is returned for a limit under 16.
 	ErrLimit = errors.New("linkcap: limit under 16")
-	// ErrTooMany is returned for a selection of more than 32 types, or without more than 32 attributes.
+	// ErrTooMany is returned for options of more than 32 types, or without more than 32 attributes.
 	ErrTooMany = errors.New("linkcap: more than 32 types or attributes")
 	// ErrMemory is returned if the library ran out of memory, or a result is longer than a slice can be. If Go has no memory for
 	// a result, it ends the process, as everywhere.
 	ErrMemory = errors.New("linkcap: out of memory")
 )
 
-// An UnknownNameError is the name in Selection.Without that no attribute and no group has.
+// An UnknownNameError is the name in options that no type of messages, no attribute and no group has.
 type UnknownNameError string
 
 // Error returns the words of the error.
 func (e UnknownNameError) Error() string {
-	return fmt.Sprintf("linkcap: no attribute or group is called %q", string(e))
+	return fmt.Sprintf("linkcap: no type, attribute or group is called %q", string(e))
 }
 
-// listError returns the error for lists that the library doesn't read.
-func listError(without []byte) error {
-	for _, name := range bytes.Split(without, []byte(",")) {
-		if !utf8.Valid(name) {
-			return UnknownNameError(name)
+// listError returns the error for lists that the library doesn't read, since they aren't UTF-8 or are too long.
+func listError(lists ...[]byte) error {
+	for _, list := range lists {
+		for _, name := range bytes.Split(list, []byte(",")) {
+			if !utf8.Valid(name) {
+				return UnknownNameError(name)
+			}
 		}
 	}
-	name := make([]byte, len(without))
-	var written C.uint64_t
-	status := C.linkcap_unknown_word(nil, 0, address(without), C.size_t(len(without)), address(name), C.size_t(len(name)), &written)
-	if status != C.LINKCAP_OK {
-		return ErrTooMany
-	}
-	return UnknownNameError(name[:written])
+	return ErrTooMany
 }
 
-// failure returns the error for a status that isn't a success. The fault is that of the given capture.
-func failure(status C.uint32_t, fault C.struct_linkcap_fault, capture, written []byte, limit Limit) error {
-	switch status {
-	case C.LINKCAP_WRONG:
-		return ErrLimit
-	case C.LINKCAP_FAULT:
-		e := &Error{Kind: Kind(fault.kind), Side: int(fault.side), Offset: uint64(fault.offset), Written: written}
-		if e.Kind == Refused {
-			e.Why, _ = limit.Why(capture)
-		}
-		return e
+// failure returns the error for a status that isn't a success. The fault is that of the given piece.
+func (l Limit) failure(status C.uint32_t, fault C.struct_linkcap_finding, p piece) error {
+	if status != C.LINKCAP_FAULT {
+		return ErrMemory
 	}
-	return ErrMemory
+	e := &Error{Kind: Kind(fault.kind), Side: int(fault.side), Offset: uint64(fault.offset)}
+	if e.Kind == Refused {
+		e.Why, _ = l.whyIn(p.from(int(e.Offset - p.offset)))
+	}
+	return e
 }

@@ -58,13 +58,14 @@ func ExampleWhy() {
 }
 
 func ExampleMessages() {
-	messages, _ := linkcap.Messages(capture)
-	for _, message := range messages {
-		fmt.Println(message.Offset, len(message.Bytes), message.Type)
-	}
+	// With Go 1.23 or later: for message, err := range linkcap.Messages(capture)
+	linkcap.Messages(capture)(func(message linkcap.Message, err error) bool {
+		fmt.Println(message.Offset, len(message.Bytes), message.Type, err)
+		return true
+	})
 	// Output:
-	// 0 20 1
-	// 20 17 20
+	// 0 20 1 <nil>
+	// 20 17 20 <nil>
 }
 
 func ExampleMeasure() {
@@ -82,7 +83,7 @@ func ExampleQuirks() {
 }
 
 func ExampleNewLineReader() {
-	lines, err := io.ReadAll(linkcap.NewLineReader(bytes.NewReader(capture), linkcap.LineOptions{Only: []uint16{1}}))
+	lines, err := io.ReadAll(linkcap.NewLineReader(bytes.NewReader(capture), linkcap.LineOptions{Only: "noop"}))
 	fmt.Print(string(lines), err)
 	// Output:
 	// NLMSG_NOOP flags 0x0 seq 1 port 0

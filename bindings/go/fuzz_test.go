@@ -45,7 +45,7 @@ func checkLegal(t *testing.T, capture, text []byte) {
 		t.Fatalf("a text of %d bytes for %d", len(text), len(capture))
 	}
 	sizes, err := linkcap.Measure(capture)
-	messages, messagesErr := linkcap.Messages(capture)
+	messages, messagesErr := collect(linkcap.Messages(capture))
 	if err != nil || messagesErr != nil || sizes.TextLen != uint64(len(text)) || sizes.Frames != uint64(len(messages)) {
 		t.Fatal(sizes, len(messages), err, messagesErr)
 	}

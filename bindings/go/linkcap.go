@@ -2,14 +2,12 @@
 
 package linkcap
 
-// #include <linkcap.h>
+// #include "calls.h"
 import "C"
 
 import (
 	"fmt"
 	"math"
-	"strconv"
-	"strings"
 	"unsafe"
 )
 
@@ -29,6 +27,9 @@ func init() {
 	}
 }
 
+// isValid reports whether messages may have this limit; of 0 the library would make its default.
+func (l Limit) isValid() bool { return l >= C.LINKCAP_MIN_LIMIT }
+
 // Sizes are those of a legal capture.
 type Sizes struct {
 	Frames     uint64 // its messages
@@ -36,27 +37,14 @@ type Sizes struct {
 	TextLen    uint64 // the length of its normal text in bytes, at most 2^64 - 1
 }
 
-// LineOptions select lines of a capture. The zero value selects all.
+// LineOptions select lines of a capture, as the options of the program linkshow do. The zero value selects all up to the first
+// fault.
 type LineOptions struct {
 	// WithoutNumbers leaves out sequence and port numbers, which change from run to run.
 	WithoutNumbers bool
-	// Only has the types of the messages that are shown, as unix.RTM_NEWLINK; if it is empty, all are.
-	Only []uint16
-}
-
-// types returns a pointer to the types, which is null if there are none.
-func (o *LineOptions) types() *C.uint16_t {
-	if len(o.Only) == 0 {
-		return nil
-	}
-	return (*C.uint16_t)(unsafe.Pointer(&o.Only[0]))
-}
-
-// A Selection selects lines of a capture, as the options of the program linkshow do. The zero value selects all up to the
-// first fault.
-type Selection struct {
-	// Of LineOptions, Only has at most 32 types.
-	LineOptions
+	// Only has the types of the messages that are shown, at most 32 with commas between them: names as newlink, or numbers; all
+	// are shown if it is empty.
+	Only string
 	// Link is the name, alternative name or index of the link that messages have to be about; about any if it is empty.
 	Link string
 	// Without has attributes that are left out, by the kernel's names with commas between them, at most 32; and the groups
@@ -71,30 +59,68 @@ type Selection struct {
 }
 
 // flags returns the flags for the library.
-func (s *Selection) flags() C.uint32_t {
+func (o *LineOptions) flags() C.uint32_t {
 	var flags C.uint32_t
-	if s.WithoutNumbers {
+	if o.WithoutNumbers {
 		flags |= C.LINKCAP_WITHOUT_NUMBERS
 	}
-	if s.Offsets {
+	if o.Offsets {
 		flags |= C.LINKCAP_OFFSETS
 	}
-	if s.KeepGoing {
+	if o.KeepGoing {
 		flags |= C.LINKCAP_KEEP_GOING
-	}
-	if s.JSON {
-		flags |= C.LINKCAP_JSON
 	}
 	return flags
 }
 
-// typeList returns the list of types for the library.
-func (s *Selection) typeList() []byte {
-	words := make([]string, len(s.Only))
-	for i, number := range s.Only {
-		words[i] = strconv.Itoa(int(number))
+// options are those of a call: numbers, and the bytes of the texts.
+type options struct {
+	numbers C.struct_linkcap_go_options
+	texts   []byte
+}
+
+// forText returns the options by which normal text is written.
+func (l Limit) forText() options {
+	return options{numbers: C.struct_linkcap_go_options{limit: C.uint32_t(l), form: C.LINKCAP_TEXT}}
+}
+
+// forLines returns the options by which lines are written.
+func (l Limit) forLines(o LineOptions) options {
+	form := C.uint32_t(C.LINKCAP_LINES)
+	if o.JSON {
+		form = C.LINKCAP_JSON
 	}
-	return []byte(strings.Join(words, ","))
+	return options{
+		C.struct_linkcap_go_options{limit: C.uint32_t(l), form: form, flags: o.flags(), only: C.size_t(len(o.Only)),
+			link: C.size_t(len(o.Link)), without: C.size_t(len(o.Without))},
+		[]byte(o.Only + o.Link + o.Without),
+	}
+}
+
+// check returns nil if the options are valid.
+func (o *options) check() error {
+	if !Limit(o.numbers.limit).isValid() {
+		return ErrLimit
+	}
+	word := make([]byte, len(o.texts))
+	var written C.uint64_t
+	status := C.linkcap_go_unknown_word(o.numbers, chars(o.texts), address(word), C.size_t(len(word)), &written)
+	switch status {
+	case C.LINKCAP_NONE:
+		return nil
+	case C.LINKCAP_OK:
+		return UnknownNameError(word[:written])
+	}
+	only, link := int(o.numbers.only), int(o.numbers.link)
+	return listError(o.texts[:only], o.texts[only+link:])
+}
+
+// expansion returns how many times as long as its capture an output mostly is, at most.
+func (o *options) expansion() int {
+	if o.numbers.form == C.LINKCAP_TEXT {
+		return 1
+	}
+	return 4
 }
 
 // A Refusal says which attribute made a body invalid, why, and at which offset.
@@ -109,16 +135,6 @@ type Refusal struct {
 // String returns the words.
 func (r *Refusal) String() string { return r.Words }
 
-// shift returns the refusal with an offset that is greater by start.
-func (r *Refusal) shift(start uint64) *Refusal {
-	if r == nil || !r.HasOffset {
-		return r
-	}
-	offset := r.Offset + start
-	words := strings.TrimSuffix(r.Words, fmt.Sprintf(" at %d", r.Offset))
-	return &Refusal{fmt.Sprintf("%s at %d", words, offset), offset, true}
-}
-
 // address returns a pointer to the bytes, which is null if there are none.
 func address(bytes []byte) *C.uint8_t {
 	if len(bytes) == 0 {
@@ -127,23 +143,25 @@ func address(bytes []byte) *C.uint8_t {
 	return (*C.uint8_t)(unsafe.Pointer(&bytes[0]))
 }
 
+// chars returns a pointer to the bytes of a text, which is null if there are none.
+func chars(bytes []byte) *C.char { return (*C.char)(unsafe.Pointer(address(bytes))) }
+
 // Check returns nil if a capture is legal, else its first fault.
 func (l Limit) Check(capture []byte) error {
-	var fault C.struct_linkcap_fault
-	status := C.linkcap_check(address(capture), C.size_t(len(capture)), C.uint32_t(l), &fault)
-	if status == C.LINKCAP_OK {
-		return nil
-	}
-	return failure(status, fault, capture, nil, l)
+	_, err := l.Measure(capture)
+	return err
 }
 
 // Measure returns the sizes of a legal capture, else its first fault.
 func (l Limit) Measure(capture []byte) (Sizes, error) {
-	var fault C.struct_linkcap_fault
+	if !l.isValid() {
+		return Sizes{}, ErrLimit
+	}
+	var fault C.struct_linkcap_finding
 	var sizes C.struct_linkcap_sizes
-	status := C.linkcap_measure(address(capture), C.size_t(len(capture)), C.uint32_t(l), &sizes, &fault)
+	status := C.linkcap_go_check(address(capture), C.size_t(len(capture)), C.uint32_t(l), &sizes, &fault)
 	if status != C.LINKCAP_OK {
-		return Sizes{}, failure(status, fault, capture, nil, l)
+		return Sizes{}, l.failure(status, fault, piece{capture, 0, true})
 	}
 	length := uint64(sizes.text_low)
 	if sizes.text_high != 0 {
@@ -154,24 +172,22 @@ func (l Limit) Measure(capture []byte) (Sizes, error) {
 
 // Same reports whether two legal captures mean the same, which is if and only if their normal texts are equal. Else it
 // returns the first fault of the first one, or of the second if the first is legal.
-func (l Limit) Same(first, second []byte) (bool, error) {
-	var fault C.struct_linkcap_fault
-	status := C.linkcap_same(address(first), C.size_t(len(first)), address(second), C.size_t(len(second)), C.uint32_t(l), &fault)
-	return l.interpretComparison(status, fault, first, second)
-}
+func (l Limit) Same(first, second []byte) (bool, error) { return l.same(first, second, 0) }
 
 // SameIgnoringNumbers reports whether two legal captures mean the same after zeroing the sequence and port number of each
 // message, and those of the request's header that an NLMSG_ERROR repeats, which change from run to run. Its errors are
 // those of Same.
 func (l Limit) SameIgnoringNumbers(first, second []byte) (bool, error) {
-	var fault C.struct_linkcap_fault
-	status := C.linkcap_same_ignoring_numbers(address(first), C.size_t(len(first)), address(second), C.size_t(len(second)),
-		C.uint32_t(l), &fault)
-	return l.interpretComparison(status, fault, first, second)
+	return l.same(first, second, C.LINKCAP_WITHOUT_NUMBERS)
 }
 
-// interpretComparison returns the result that the status of a comparison represents.
-func (l Limit) interpretComparison(status C.uint32_t, fault C.struct_linkcap_fault, first, second []byte) (bool, error) {
+func (l Limit) same(first, second []byte, flags C.uint32_t) (bool, error) {
+	if !l.isValid() {
+		return false, ErrLimit
+	}
+	var fault C.struct_linkcap_finding
+	status := C.linkcap_go_same(address(first), C.size_t(len(first)), address(second), C.size_t(len(second)), C.uint32_t(l), flags,
+		&fault)
 	switch status {
 	case C.LINKCAP_OK:
 		return true, nil
@@ -182,54 +198,15 @@ func (l Limit) interpretComparison(status C.uint32_t, fault C.struct_linkcap_fau
 	if fault.side == 2 {
 		capture = second
 	}
-	return false, failure(status, fault, capture, nil, l)
-}
-
-// writer is a call that writes to a buffer, and returns a status.
-type writer func(out *C.uint8_t, capacity C.size_t, written *C.uint64_t, fault *C.struct_linkcap_fault) C.uint32_t
-
-// appendWritten appends the output of a call, also that before a fault. It reserves `capacity` bytes first, and more if the
-// call needs more.
-func (l Limit) appendWritten(dst, capture []byte, capacity int, call writer) ([]byte, error) {
-	for {
-		dst = reserve(dst, capacity)
-		free := dst[len(dst):cap(dst)]
-		var written C.uint64_t
-		var fault C.struct_linkcap_fault
-		status := call(address(free), C.size_t(len(free)), &written, &fault)
-		switch status {
-		case C.LINKCAP_OK:
-			return dst[:len(dst)+int(written)], nil
-		case C.LINKCAP_FAULT:
-			extended := dst[:len(dst)+int(written)]
-			return extended, failure(status, fault, capture, append([]byte(nil), extended[len(dst):]...), l)
-		case C.LINKCAP_NO_ROOM:
-			if uint64(written) > math.MaxInt/2 {
-				return dst, ErrMemory
-			}
-			capacity = int(written)
-		default:
-			return dst, failure(status, fault, capture, nil, l)
-		}
-	}
-}
-
-// reserve returns the same bytes with a spare capacity of at least `capacity` bytes.
-func reserve(dst []byte, capacity int) []byte {
-	if cap(dst)-len(dst) >= capacity {
-		return dst
-	}
-	grown := make([]byte, len(dst), len(dst)+capacity)
-	copy(grown, dst)
-	return grown
+	return false, l.failure(status, fault, piece{capture, 0, true})
 }
 
 // AppendNormal appends a legal capture's normal text to dst. If the capture has a fault, the text before it is appended.
 func (l Limit) AppendNormal(dst, capture []byte) ([]byte, error) {
-	return l.appendWritten(dst, capture, len(capture)+16,
-		func(out *C.uint8_t, capacity C.size_t, written *C.uint64_t, fault *C.struct_linkcap_fault) C.uint32_t {
-			return C.linkcap_normalize(address(capture), C.size_t(len(capture)), C.uint32_t(l), out, capacity, written, fault)
-		})
+	if !l.isValid() {
+		return dst, ErrLimit
+	}
+	return appendAll(l.forText(), dst, capture)
 }
 
 // Normalize returns a legal capture's normal text. Else it returns nil and the first fault, whose Written has the text
@@ -242,35 +219,15 @@ func (l Limit) Normalize(capture []byte) ([]byte, error) {
 	return text, nil
 }
 
-// Lines returns a legal capture's lines, as the program linkshow writes them. Else it returns the first fault, whose
-// Written has the lines before it.
-func (l Limit) Lines(capture []byte, options LineOptions) (string, error) {
-	types := options.types()
-	lines, err := l.appendWritten(nil, capture, 4*len(capture)+256,
-		func(out *C.uint8_t, capacity C.size_t, written *C.uint64_t, fault *C.struct_linkcap_fault) C.uint32_t {
-			return C.linkcap_show_with(address(capture), C.size_t(len(capture)), C.uint32_t(l), C.bool(options.WithoutNumbers),
-				types, C.size_t(len(options.Only)), out, capacity, written, fault)
-		})
-	if err != nil {
+// Lines returns the lines of a legal capture that options select, as the program linkshow writes them. Else it returns the first
+// fault, whose Written has the lines before it, or with KeepGoing all lines up to a fault of a header. Options that aren't valid
+// have an [UnknownNameError], or [ErrTooMany].
+func (l Limit) Lines(capture []byte, o LineOptions) (string, error) {
+	options := l.forLines(o)
+	if err := options.check(); err != nil {
 		return "", err
 	}
-	return string(lines), nil
-}
-
-// SelectedLines returns a legal capture's lines that a selection has. Else it returns the first fault, whose Written has
-// the lines before it, or with KeepGoing all lines up to a fault of a header. A selection that isn't valid has an
-// [UnknownNameError], or [ErrTooMany].
-func (l Limit) SelectedLines(capture []byte, selection Selection) (string, error) {
-	types, link, without := selection.typeList(), []byte(selection.Link), []byte(selection.Without)
-	lines, err := l.appendWritten(nil, capture, 4*len(capture)+256,
-		func(out *C.uint8_t, capacity C.size_t, written *C.uint64_t, fault *C.struct_linkcap_fault) C.uint32_t {
-			return C.linkcap_show_selected(address(capture), C.size_t(len(capture)), C.uint32_t(l), selection.flags(),
-				address(types), C.size_t(len(types)), address(link), C.size_t(len(link)), address(without),
-				C.size_t(len(without)), out, capacity, written, fault)
-		})
-	if err == ErrLimit && l >= C.LINKCAP_MIN_LIMIT {
-		return "", listError(without)
-	}
+	lines, err := appendAll(options, nil, capture)
 	if err != nil {
 		return "", err
 	}
@@ -279,11 +236,19 @@ func (l Limit) SelectedLines(capture []byte, selection Selection) (string, error
 
 // Why returns the refusal of a capture's first fault if this is of the kind [Refused]; else nil.
 func (l Limit) Why(capture []byte) (*Refusal, error) {
+	if !l.isValid() {
+		return nil, ErrLimit
+	}
+	return l.whyIn(piece{capture, 0, true})
+}
+
+// whyIn returns the refusal of the first fault of a piece, if this is of the kind [Refused]; else nil.
+func (l Limit) whyIn(p piece) (*Refusal, error) {
 	words := make([]byte, 512)
 	for {
 		var written, offset C.uint64_t
-		status := C.linkcap_why(address(capture), C.size_t(len(capture)), C.uint32_t(l), address(words), C.size_t(len(words)),
-			&written, &offset)
+		status := C.linkcap_go_why(C.uint32_t(l), address(p.bytes), C.size_t(len(p.bytes)), C.uint64_t(p.offset), address(words),
+			C.size_t(len(words)), &written, &offset)
 		switch status {
 		case C.LINKCAP_NONE:
 			return nil, nil
@@ -296,7 +261,7 @@ func (l Limit) Why(capture []byte) (*Refusal, error) {
 		case C.LINKCAP_NO_ROOM:
 			words = make([]byte, written)
 		default:
-			return nil, failure(status, C.struct_linkcap_fault{}, capture, nil, l)
+			return nil, ErrMemory
 		}
 	}
 }
@@ -322,17 +287,12 @@ func Quirks(capture []byte) ([]Quirk, error) { return DefaultLimit.Quirks(captur
 func Normalize(capture []byte) ([]byte, error) { return DefaultLimit.Normalize(capture) }
 
 // Lines is DefaultLimit.Lines.
-func Lines(capture []byte, options LineOptions) (string, error) {
-	return DefaultLimit.Lines(capture, options)
-}
-
-// SelectedLines is DefaultLimit.SelectedLines.
-func SelectedLines(capture []byte, selection Selection) (string, error) {
-	return DefaultLimit.SelectedLines(capture, selection)
-}
+func Lines(capture []byte, o LineOptions) (string, error) { return DefaultLimit.Lines(capture, o) }
 
 // Why is DefaultLimit.Why.
 func Why(capture []byte) (*Refusal, error) { return DefaultLimit.Why(capture) }
 
 // Messages is DefaultLimit.Messages.
-func Messages(capture []byte) ([]Message, error) { return DefaultLimit.Messages(capture) }
+func Messages(capture []byte) func(yield func(Message, error) bool) {
+	return DefaultLimit.Messages(capture)
+}

@@ -103,37 +103,37 @@ func TestFaults(t *testing.T) {
 	}
 }
 
-// TestSelectedLines compares lines with those of the independent implementation.
-func TestSelectedLines(t *testing.T) {
+// TestLineOptions compares lines with those of the independent implementation.
+func TestLineOptions(t *testing.T) {
 	request := []byte("\x28\x00\x00\x00\x12\x00\x01\x00\x01\x00\x00\x00" + strings.Repeat("\x00", 20) + "\x07\x00\x03\x00lo\x00\x00")
 	both := append(append([]byte(nil), refusedRequest...), request...)
-	for want, selection := range map[string]linkcap.Selection{
+	for want, options := range map[string]linkcap.LineOptions{
 		`RTM_NEWLINK flags 0x0 offset 0
   refused: IFLA_MTU: a payload of 3 bytes
   body 000000000000000000000000000000000700040001020300
 RTM_GETLINK flags 0x1 (REQUEST) offset 40
   ifinfomsg family 0 (AF_UNSPEC) type 0 (netrom) index 0 flags 0x0 change 0x0
   IFLA_IFNAME "lo"
-`: {LineOptions: linkcap.LineOptions{WithoutNumbers: true}, Offsets: true, KeepGoing: true},
+`: {WithoutNumbers: true, Offsets: true, KeepGoing: true},
 		`RTM_GETLINK flags 0x1 (REQUEST) seq 1 port 0
   ifinfomsg family 0 (AF_UNSPEC) type 0 (netrom) flags 0x0 change 0x0
   IFLA_IFNAME "lo"
-`: {LineOptions: linkcap.LineOptions{Only: []uint16{18, 77}}, Link: "lo", Without: "indexes", KeepGoing: true},
+`: {Only: "getlink,77", Link: "lo", Without: "indexes", KeepGoing: true},
 		`{"type": "RTM_NEWLINK", "flags": {"value": 0, "flags": []}, "offset": 0, "refused": "IFLA_MTU: a payload of 3 bytes", "body": "000000000000000000000000000000000700040001020300", "attributes": []}
 {"type": "RTM_GETLINK", "flags": {"value": 1, "flags": ["REQUEST"]}, "offset": 40, "header": {"struct": "ifinfomsg", "family": {"value": 0, "text": "AF_UNSPEC"}, "type": {"value": 0, "text": "netrom"}, "index": 0, "flags": {"value": 0, "flags": []}, "change": {"value": 0, "flags": []}}, "attributes": [{"name": "IFLA_IFNAME", "value": "lo", "quoted": true}]}
-`: {LineOptions: linkcap.LineOptions{WithoutNumbers: true}, Offsets: true, KeepGoing: true, JSON: true},
+`: {WithoutNumbers: true, Offsets: true, KeepGoing: true, JSON: true},
 		"": {Offsets: true},
 	} {
-		lines, err := linkcap.SelectedLines(both, selection)
+		lines, err := linkcap.Lines(both, options)
 		fault := requireFault(t, err)
 		if lines != "" || string(fault.Written) != want || fault.Kind != linkcap.Refused || fault.Offset != 0 {
-			t.Errorf("%+v: %q, %v, %s", selection, lines, fault, fault.Written)
+			t.Errorf("%+v: %q, %v, %s", options, lines, fault, fault.Written)
 		}
 		for _, size := range []int{1, 7, 16, 4096} {
-			got, err := io.ReadAll(linkcap.NewSelectedLineReader(&chunks{both, size}, selection))
+			got, err := io.ReadAll(linkcap.NewLineReader(&chunks{both, size}, options))
 			inPieces := requireFault(t, err)
 			if string(got) != want || inPieces.Error() != fault.Error() || inPieces.Offset != 0 {
-				t.Errorf("%+v in pieces of %d: %q, %v", selection, size, got, err)
+				t.Errorf("%+v in pieces of %d: %q, %v", options, size, got, err)
 			}
 		}
 	}
@@ -141,31 +141,34 @@ RTM_GETLINK flags 0x1 (REQUEST) offset 40
 		want := readFile(t, "samples/"+name+".lines")
 		for _, size := range []int{1, 7, 16, 4096} {
 			source := &chunks{readSample(t, name), size}
-			got, err := io.ReadAll(linkcap.NewSelectedLineReader(source, linkcap.Selection{KeepGoing: true}))
+			got, err := io.ReadAll(linkcap.NewLineReader(source, linkcap.LineOptions{KeepGoing: true}))
 			if err != nil || !bytes.Equal(got, want) {
 				t.Errorf("%s in pieces of %d: %v", name, size, err)
 			}
 		}
 	}
-	if lines, err := linkcap.SelectedLines(request, linkcap.Selection{Link: "1"}); lines != "" || err != nil {
+	if lines, err := linkcap.Lines(request, linkcap.LineOptions{Link: "1"}); lines != "" || err != nil {
 		t.Error(lines, err)
 	}
 	// The last one isn't UTF-8.
 	for _, unknown := range []string{"mtu", "\xff"} {
-		selection := linkcap.Selection{Without: "counters," + unknown}
-		_, err := linkcap.SelectedLines(request, selection)
-		_, readErr := io.ReadAll(linkcap.NewSelectedLineReader(bytes.NewReader(request), selection))
+		options := linkcap.LineOptions{Without: "counters," + unknown}
+		_, err := linkcap.Lines(request, options)
+		_, readErr := io.ReadAll(linkcap.NewLineReader(bytes.NewReader(request), options))
 		for _, err := range []error{err, readErr} {
 			if name := linkcap.UnknownNameError(""); !errors.As(err, &name) || string(name) != unknown {
 				t.Error(err)
 			}
 		}
 	}
-	many := linkcap.LineOptions{Only: make([]uint16, 33)}
-	if _, err := linkcap.SelectedLines(request, linkcap.Selection{LineOptions: many}); err != linkcap.ErrTooMany {
+	if _, err := linkcap.Lines(request, linkcap.LineOptions{Only: "newlink,links", Without: "mtu"}); err != linkcap.UnknownNameError("links") {
 		t.Error(err)
 	}
-	if _, err := linkcap.Limit(15).SelectedLines(request, linkcap.Selection{}); err != linkcap.ErrLimit {
+	many := linkcap.LineOptions{Only: strings.Repeat("18,", 32) + "18"}
+	if _, err := linkcap.Lines(request, many); err != linkcap.ErrTooMany {
+		t.Error(err)
+	}
+	if _, err := linkcap.Limit(15).Lines(request, linkcap.LineOptions{}); err != linkcap.ErrLimit {
 		t.Error(err)
 	}
 }
@@ -199,7 +202,7 @@ func TestLimits(t *testing.T) {
 		_, normalErr := limit.Normalize(nil)
 		_, linesErr := limit.Lines(nil, linkcap.LineOptions{})
 		_, whyErr := limit.Why(nil)
-		_, messagesErr := limit.Messages(nil)
+		_, messagesErr := collect(limit.Messages(nil))
 		_, readErr := io.ReadAll(limit.NewReader(bytes.NewReader(nil)))
 		_, unnumberedErr := limit.SameIgnoringNumbers(nil, nil)
 		_, quirksErr := limit.Quirks(nil)
@@ -224,7 +227,7 @@ func TestEmpty(t *testing.T) {
 		lines, linesErr := linkcap.Lines(empty, linkcap.LineOptions{})
 		same, sameErr := linkcap.Same(empty, nil)
 		why, whyErr := linkcap.Why(empty)
-		messages, messagesErr := linkcap.Messages(empty)
+		messages, messagesErr := collect(linkcap.Messages(empty))
 		got, readErr := io.ReadAll(linkcap.NewReader(bytes.NewReader(empty)))
 		if len(text) != 0 || lines != "" || !same || why != nil || len(messages) != 0 || len(got) != 0 {
 			t.Error(text, lines, same, why, messages, got)
@@ -295,9 +298,23 @@ func TestAppendNormal(t *testing.T) {
 	}
 }
 
+// collect returns the messages of an iterator, and the fault after them.
+func collect(all func(yield func(linkcap.Message, error) bool)) (messages []linkcap.Message, err error) {
+	all(func(message linkcap.Message, fault error) bool {
+		if fault != nil {
+			err = fault
+			return true // nothing may come after it
+		}
+		messages = append(messages, message)
+		return true
+	})
+	return messages, err
+}
+
 func TestMessages(t *testing.T) {
 	capture := readSample(t, "lo-request")
-	messages, err := linkcap.Messages(append(append([]byte(nil), capture...), capture...))
+	twice := append(append([]byte(nil), capture...), capture...)
+	messages, err := collect(linkcap.Messages(twice))
 	if err != nil || len(messages) != 2 {
 		t.Fatal(err, len(messages))
 	}
@@ -308,8 +325,15 @@ func TestMessages(t *testing.T) {
 			t.Errorf("%v, want %v", m, want)
 		}
 	}
-	if _, err := linkcap.Messages(capture[:47]); !errors.Is(err, linkcap.Cut) {
-		t.Error(err)
+	messages, err = collect(linkcap.Messages(twice[:95]))
+	var fault *linkcap.Error
+	if len(messages) != 1 || !errors.Is(err, linkcap.Cut) || !errors.As(err, &fault) || fault.Offset != 48 {
+		t.Error(len(messages), err)
+	}
+	count := 0
+	linkcap.Messages(twice)(func(linkcap.Message, error) bool { count++; return false })
+	if count != 1 {
+		t.Errorf("%d messages after a stop", count)
 	}
 }
 

@@ -2,6 +2,9 @@
 
 package linkcap
 
+// #include "calls.h"
+import "C"
+
 import "encoding/binary"
 
 const headerLen = 16
@@ -16,24 +19,44 @@ type Message struct {
 	PortNumber     uint32
 }
 
-// Messages returns a legal capture's messages, else its first fault.
-func (l Limit) Messages(capture []byte) ([]Message, error) {
-	if err := l.Check(capture); err != nil {
-		return nil, err
+// Messages returns an iterator over a capture's messages, which it reads one after the other. After the last one before a fault it
+// yields the fault. With Go 1.23 or later:
+//
+//	for message, err := range linkcap.Messages(capture) {
+func (l Limit) Messages(capture []byte) func(yield func(Message, error) bool) {
+	return func(yield func(Message, error) bool) {
+		if !l.isValid() {
+			yield(Message{}, ErrLimit)
+			return
+		}
+		for offset := 0; ; {
+			var found C.struct_linkcap_message
+			var fault C.struct_linkcap_finding
+			status := C.linkcap_go_next_message(address(capture), C.size_t(len(capture)), C.uint32_t(l), C.uint64_t(offset), &found,
+				&fault)
+			if status == C.LINKCAP_NONE {
+				return
+			}
+			if status != C.LINKCAP_OK {
+				yield(Message{}, l.failure(status, fault, piece{capture, 0, true}))
+				return
+			}
+			if !yield(newMessage(offset, capture[offset:][:found.length:found.length]), nil) {
+				return
+			}
+			offset = int(found.next)
+		}
 	}
-	var messages []Message
-	for offset := 0; offset+headerLen <= len(capture); {
-		header := capture[offset:]
-		length := int(binary.LittleEndian.Uint32(header))
-		messages = append(messages, Message{
-			Offset:         offset,
-			Bytes:          header[:length:length],
-			Type:           binary.LittleEndian.Uint16(header[4:]),
-			Flags:          binary.LittleEndian.Uint16(header[6:]),
-			SequenceNumber: binary.LittleEndian.Uint32(header[8:]),
-			PortNumber:     binary.LittleEndian.Uint32(header[12:]),
-		})
-		offset += (length + 3) &^ 3
+}
+
+// newMessage returns the message at an offset, with these bytes.
+func newMessage(offset int, bytes []byte) Message {
+	return Message{
+		Offset:         offset,
+		Bytes:          bytes,
+		Type:           binary.LittleEndian.Uint16(bytes[4:]),
+		Flags:          binary.LittleEndian.Uint16(bytes[6:]),
+		SequenceNumber: binary.LittleEndian.Uint32(bytes[8:]),
+		PortNumber:     binary.LittleEndian.Uint32(bytes[12:]),
 	}
-	return messages, nil
 }

@@ -2,13 +2,12 @@
 
 package linkcap
 
-// #include <linkcap.h>
+// #include "calls.h"
 import "C"
 
 import (
 	"fmt"
 	"math"
-	"unsafe"
 )
 
 // A QuirkKind is a kind of encoding that some kernels treat differently from its normal text: a row of linkcap's
@@ -39,38 +38,38 @@ type Quirk struct {
 
 // String returns the words of the quirk and its offset, as "flag with a payload at 76".
 func (q Quirk) String() string {
-	var text [C.LINKCAP_FAULT_TEXT]byte
-	var written C.uint64_t
-	quirk := C.struct_linkcap_quirk{offset: C.uint64_t(q.Offset), kind: C.uint32_t(q.Kind)}
-	status := C.linkcap_quirk_text(&quirk, (*C.uint8_t)(unsafe.Pointer(&text[0])), C.size_t(len(text)), &written)
-	if status != C.LINKCAP_OK {
+	words := wordsOf(C.struct_linkcap_finding{kind: C.uint32_t(q.Kind), offset: C.uint64_t(q.Offset)})
+	if words == "" {
 		return fmt.Sprintf("quirk of kind %d at %d", uint32(q.Kind), q.Offset)
 	}
-	return string(text[:written])
+	return words
 }
 
 // Quirks returns each encoding of a legal capture that some kernels treat differently from its normal text, in the order of
 // the bytes; else the first fault. A normal text has none.
 func (l Limit) Quirks(capture []byte) ([]Quirk, error) {
-	buffer := make([]C.struct_linkcap_quirk, 16)
+	if !l.isValid() {
+		return nil, ErrLimit
+	}
+	buffer := make([]C.struct_linkcap_finding, 16)
 	for {
 		var count C.uint64_t
-		var fault C.struct_linkcap_fault
-		status := C.linkcap_quirks(address(capture), C.size_t(len(capture)), C.uint32_t(l), &buffer[0], C.size_t(len(buffer)),
+		var fault C.struct_linkcap_finding
+		status := C.linkcap_go_quirks(address(capture), C.size_t(len(capture)), C.uint32_t(l), &buffer[0], C.size_t(len(buffer)),
 			&count, &fault)
 		switch {
 		case status == C.LINKCAP_OK:
 			return convertQuirks(buffer[:count]), nil
 		case status != C.LINKCAP_NO_ROOM:
-			return nil, failure(status, fault, capture, nil, l)
-		case count > math.MaxInt/2/C.sizeof_struct_linkcap_quirk:
+			return nil, l.failure(status, fault, piece{capture, 0, true})
+		case count > math.MaxInt/2/C.sizeof_struct_linkcap_finding:
 			return nil, ErrMemory
 		}
-		buffer = make([]C.struct_linkcap_quirk, count)
+		buffer = make([]C.struct_linkcap_finding, count)
 	}
 }
 
-func convertQuirks(rows []C.struct_linkcap_quirk) []Quirk {
+func convertQuirks(rows []C.struct_linkcap_finding) []Quirk {
 	quirks := make([]Quirk, len(rows))
 	for i, quirk := range rows {
 		quirks[i] = Quirk{QuirkKind(quirk.kind), uint64(quirk.offset)}

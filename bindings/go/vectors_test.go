@@ -128,14 +128,14 @@ func TestNormVectors(t *testing.T) {
 func checkOtherCalls(t *testing.T, v vector, want error) {
 	t.Helper()
 	_, measureErr := v.limit.Measure(v.captures[0])
-	messages, messagesErr := v.limit.Messages(v.captures[0])
+	messages, messagesErr := collect(v.limit.Messages(v.captures[0]))
 	for _, err := range []error{v.limit.Check(v.captures[0]), measureErr, messagesErr} {
 		if fmt.Sprint(err) != fmt.Sprint(want) {
 			t.Errorf("%x: %v, want %v", v.captures[0], err, want)
 		}
 	}
 	sizes, _ := v.limit.Measure(v.captures[0])
-	if uint64(len(messages)) != sizes.Frames {
+	if want == nil && uint64(len(messages)) != sizes.Frames {
 		t.Errorf("%x: %d messages, want %d", v.captures[0], len(messages), sizes.Frames)
 	}
 }
@@ -260,13 +260,5 @@ func parseOptions(t *testing.T, choice string) linkcap.LineOptions {
 	if choice == "" || choice == "without-numbers" {
 		return linkcap.LineOptions{WithoutNumbers: choice != ""}
 	}
-	var options linkcap.LineOptions
-	for _, digits := range strings.Split(choice, ",") {
-		kind, err := strconv.ParseUint(digits, 10, 16)
-		if err != nil {
-			t.Fatal(err)
-		}
-		options.Only = append(options.Only, uint16(kind))
-	}
-	return options
+	return linkcap.LineOptions{Only: choice}
 }

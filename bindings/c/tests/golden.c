@@ -69,13 +69,13 @@ static const char *end_report(void)
 
 /* Compares the lines of a capture, and checks the status and a part of the report. */
 static void expect(enum linkcap_status status, const char *part, const uint8_t *capture, size_t length, const char *name,
-                   const struct linkcap_golden_options *options)
+                   const struct linkcap_options *options)
 {
     char golden[4096];
-    struct linkcap_golden_options none = {0};
     snprintf(golden, sizeof golden, "%s/%s", folder, name);
     begin_report();
-    enum linkcap_status found = linkcap_golden_with(capture, length, golden, options ? options : &none);
+    enum linkcap_status found =
+        options ? linkcap_golden_with(capture, length, golden, options) : linkcap_golden(capture, length, golden);
     const char *report = end_report();
     if (found != status || !strstr(report, part) || (status == LINKCAP_OK && *report)) {
         printf("status %d, expected %d; report '%s', expected '%s'\n", (int)found, (int)status, report, part);
@@ -173,11 +173,10 @@ static void test_heads(void)
 static void test_options(void)
 {
     uint8_t capture[SIZE];
-    struct linkcap_golden_options numbers = {true, NULL, NULL, NULL, 0}, links = {false, "dellink", NULL, NULL, 0};
-    struct linkcap_golden_options without = {false, "newlink", NULL, "counters,IFLA_MTU", 0};
-    struct linkcap_golden_options about_v0 = {false, NULL, "v0", NULL, 0};
-    struct linkcap_golden_options unknown = {false, "newlnk", NULL, NULL, 0}, limit = {false, NULL, NULL, NULL, 47};
-    struct linkcap_golden_options no_limit = {false, NULL, NULL, NULL, 15};
+    struct linkcap_options numbers = {.flags = 0}, links = {.only = {"dellink", 7}}, unknown = {.only = {"newlnk", 6}};
+    struct linkcap_options without = {
+        .flags = LINKCAP_WITHOUT_NUMBERS, .only = {"newlink", 7}, .without = {"counters,IFLA_MTU", 17}};
+    struct linkcap_options about_v0 = {.link = {"v0", 2}}, limit = {.limit = 47}, no_limit = {.limit = 15};
     make(1, capture);
     write_file("a.lines", "RTM_NEWLINK flags 0x5 (REQUEST | ACK) seq 1 port 0\n" HEADER_OF_A_LINK MTU_1281 PROMISCUITY);
     expect(LINKCAP_OK, "", capture, SIZE, "a.lines", &numbers);
@@ -205,7 +204,7 @@ static void test_faults(void)
 static void test_lines_of_linkshow(void)
 {
     static uint8_t capture[1 << 16];
-    struct linkcap_golden_options numbers = {true, NULL, NULL, NULL, 0};
+    struct linkcap_options numbers = {.flags = 0};
     FILE *file = fopen("samples/notify-vrf.bin", "rb");
     assert(file);
     size_t length = fread(capture, 1, sizeof capture, file);
@@ -218,7 +217,7 @@ static void test_lines_of_linkshow(void)
 static void test_updates(void)
 {
     uint8_t capture[SIZE];
-    struct linkcap_golden_options without = {true, NULL, NULL, "counters,IFLA_MTU", 0};
+    struct linkcap_options without = {.without = {"counters,IFLA_MTU", 17}};
     make(1, capture);
     setenv("LINKCAP_UPDATE", "0", 1);
     expect(LINKCAP_WRONG, "no golden file", capture, SIZE, "new.lines", NULL);

@@ -32,6 +32,30 @@ const probes = "probes"
 
 var leftOutLine = regexp.MustCompile(`^# leaves out( what varies)?: ?([^\r\n]*)\r?\n`)
 
+// GoldenOptions choose what GoldenWith compares. The zero value chooses what Golden compares.
+type GoldenOptions struct {
+	// Numbers compares sequence and port numbers, which change from run to run, too.
+	Numbers bool
+	// Only, Link and Without select lines, as those of linkcap.LineOptions. The file's head has the names of Without.
+	Only, Link, Without string
+	// Replace puts fixed names in place of random names of links and hardware addresses: each word is REGEX=NAME, as for linkgold
+	// --replace.
+	Replace []string
+	// Limit is the greatest length in bytes that a message may have; of 0 it is linkcap.DefaultLimit.
+	Limit linkcap.Limit
+}
+
+// lines returns the lines that the options select of a capture, without further attributes, and with fixed names.
+func (o *GoldenOptions) lines(capture []byte, without string, names *replacement) (string, error) {
+	limit := o.Limit
+	if limit == 0 {
+		limit = linkcap.DefaultLimit
+	}
+	lines, err := limit.Lines(capture,
+		linkcap.LineOptions{WithoutNumbers: !o.Numbers, Only: o.Only, Link: o.Link, Without: without})
+	return names.apply(lines), err
+}
+
 // Golden compares a capture's lines with those of a file, without sequence and port numbers, and fails with a diff if
 // they differ. It stops the test at a fault, at an empty capture, and if the file can't be read or written.
 //
@@ -39,50 +63,34 @@ var leftOutLine = regexp.MustCompile(`^# leaves out( what varies)?: ?([^\r\n]*)\
 // after it say that linkgold left out is left out of the capture's lines.
 func Golden(t testing.TB, capture []byte, path string) {
 	t.Helper()
-	GoldenLines(t, capture, path, linkcap.LineOptions{WithoutNumbers: true})
+	GoldenWith(t, capture, path, GoldenOptions{})
 }
 
-// GoldenLines is Golden with lines of the caller's choice.
-func GoldenLines(t testing.TB, capture []byte, path string, options linkcap.LineOptions) {
+// GoldenWith is Golden with options. It stops the test if they aren't valid.
+func GoldenWith(t testing.TB, capture []byte, path string, options GoldenOptions) {
 	t.Helper()
-	GoldenReplacing(t, capture, path, options)
-}
-
-// GoldenReplacing is GoldenLines with fixed names in place of random names of links and hardware addresses: each word is
-// REGEX=NAME, as for linkgold --replace. It stops the test at a malformed word.
-func GoldenReplacing(t testing.TB, capture []byte, path string, options linkcap.LineOptions, words ...string) {
-	t.Helper()
-	GoldenSelected(t, capture, path, linkcap.Selection{LineOptions: options}, words...)
-}
-
-// GoldenSelected is GoldenReplacing with the lines that a selection has. The file's head has the names of Without. Offsets,
-// KeepGoing and JSON of the selection don't count.
-func GoldenSelected(t testing.TB, capture []byte, path string, selection linkcap.Selection, words ...string) {
-	t.Helper()
-	selection.Offsets, selection.KeepGoing, selection.JSON = false, false, false
-	names, err := newReplacement(words)
+	names, err := newReplacement(options.Replace)
 	if err != nil {
 		t.Fatalf("linkcap: %v", err)
 	}
-	lines, err := linkcap.SelectedLines(capture, selection)
+	lines, err := options.lines(capture, options.Without, names)
 	if err != nil {
 		t.Fatalf("linkcap: %v", err)
 	}
-	lines = names.apply(lines)
 	if lines == "" {
 		t.Fatalf("linkcap: the capture is empty, or has no message that is selected")
 	}
 	if *update {
-		if err := write(path, head(selection.Without)+lines); err != nil {
+		if err := write(path, head(options.Without)+lines); err != nil {
 			t.Fatalf("linkcap: %v", err)
 		}
 		return
 	}
-	compare(t, capture, path, selection, names, lines)
+	compare(t, capture, path, options, names, lines)
 }
 
-// compare compares lines with those of a golden file: those of a selection or, if the file's head leaves out more, without that.
-func compare(t testing.TB, capture []byte, path string, selection linkcap.Selection, names *replacement, lines string) {
+// compare compares lines with those of a golden file: those of the options or, if the file's head leaves out more, without that.
+func compare(t testing.TB, capture []byte, path string, options GoldenOptions, names *replacement, lines string) {
 	t.Helper()
 	text, err := os.ReadFile(path)
 	if errors.Is(err, fs.ErrNotExist) {
@@ -96,11 +104,10 @@ func compare(t testing.TB, capture []byte, path string, selection linkcap.Select
 		t.Fatalf("linkcap: %s is of linkgold --effect, and leaves out what varies between two runs: compare it by linkgold", path)
 	}
 	if golden.without != "" {
-		selection.Without = joinNames([]string{golden.without, selection.Without})
-		if lines, err = linkcap.SelectedLines(capture, selection); err != nil {
+		without := joinNames([]string{golden.without, options.Without})
+		if lines, err = options.lines(capture, without, names); err != nil {
 			t.Fatalf("linkcap: %s: %v", path, err)
 		}
-		lines = names.apply(lines)
 	}
 	if golden.lines != lines {
 		t.Errorf("linkcap: %s", describeDifference(path, golden.version, golden.lines, lines))

@@ -6,8 +6,6 @@ import (
 	"path/filepath"
 	"strings"
 	"testing"
-
-	"linkcap.invalid/linkcap"
 )
 
 // A fakeTest is a test that records its failure.
@@ -92,7 +90,7 @@ func TestLinesOfLinkshow(t *testing.T) {
 		if err != nil {
 			t.Fatal(err)
 		}
-		GoldenLines(t, capture, path+".lines", linkcap.LineOptions{})
+		GoldenWith(t, capture, path+".lines", GoldenOptions{Numbers: true})
 		if f := runGolden(capture, path+".lines"); f.message == "" {
 			t.Errorf("%s: lines without numbers are those with numbers", name)
 		}
@@ -177,11 +175,11 @@ func TestWhatAHeadLeavesOut(t *testing.T) {
 	}
 }
 
-func TestGoldenSelected(t *testing.T) {
+func TestGoldenWith(t *testing.T) {
 	path := filepath.Join(t.TempDir(), "a.lines")
-	selection := linkcap.Selection{LineOptions: linkcap.LineOptions{WithoutNumbers: true}, Without: "IFLA_MTU,counters", Offsets: true}
+	options := GoldenOptions{Without: "IFLA_MTU,counters"}
 	*update = true
-	GoldenSelected(t, makeLink(1), path, selection)
+	GoldenWith(t, makeLink(1), path, options)
 	*update = false
 	text, err := os.ReadFile(path)
 	const start = "# linkcap lines, format 4\n# leaves out: IFLA_MTU, counters\nRTM_NEWLINK flags 0x5 (REQUEST | ACK)\n"
@@ -189,18 +187,20 @@ func TestGoldenSelected(t *testing.T) {
 		t.Errorf("%v %q", err, text)
 	}
 	Golden(t, makeLink(2), path)
-	GoldenSelected(t, makeLink(2), path, selection)
+	GoldenWith(t, makeLink(2), path, options)
 	for _, c := range []struct {
-		selection linkcap.Selection
-		message   string
+		options GoldenOptions
+		message string
 	}{
-		{linkcap.Selection{Link: "v0"}, "has no message that is selected"},
-		{linkcap.Selection{Without: "IFLA_NAM"}, `no attribute or group is called "IFLA_NAM"`},
-		{linkcap.Selection{Without: "IFLA_MTU"}, "+RTM_NEWLINK flags 0x5 (REQUEST | ACK) seq 2305 port 0"},
+		{GoldenOptions{Link: "v0"}, "has no message that is selected"},
+		{GoldenOptions{Only: "getlink"}, "has no message that is selected"},
+		{GoldenOptions{Limit: 16}, "frame over the limit at 0"},
+		{GoldenOptions{Without: "IFLA_NAM"}, `no type, attribute or group is called "IFLA_NAM"`},
+		{GoldenOptions{Without: "IFLA_MTU", Numbers: true}, "+RTM_NEWLINK flags 0x5 (REQUEST | ACK) seq 2305 port 0"},
 	} {
-		f := runFake(func(t testing.TB) { GoldenSelected(t, makeLink(1), path, c.selection) })
+		f := runFake(func(t testing.TB) { GoldenWith(t, makeLink(1), path, c.options) })
 		if !strings.Contains(f.message, c.message) {
-			t.Errorf("%+v: %q", c.selection, f.message)
+			t.Errorf("%+v: %q", c.options, f.message)
 		}
 	}
 }

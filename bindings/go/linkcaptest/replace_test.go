@@ -3,8 +3,6 @@ package linkcaptest
 import (
 	"strings"
 	"testing"
-
-	"linkcap.invalid/linkcap"
 )
 
 func TestNamesAreReplaced(t *testing.T) {
@@ -39,11 +37,11 @@ func TestMalformedReplacements(t *testing.T) {
 	}
 }
 
-func TestGoldenReplacing(t *testing.T) {
+func TestReplace(t *testing.T) {
 	path := writeGolden(t, makeLink(1))
 	run := func(word string) *fakeTest {
 		return runFake(func(t testing.TB) {
-			GoldenReplacing(t, makeLink(1), path, linkcap.LineOptions{WithoutNumbers: true}, word)
+			GoldenWith(t, makeLink(1), path, GoldenOptions{Replace: []string{word}})
 		})
 	}
 	if f := run("none=N"); f.message != "" {

@@ -14,7 +14,6 @@ import (
 	"github.com/vishvananda/netlink/nl"
 	"golang.org/x/sys/unix"
 
-	"linkcap.invalid/linkcap"
 	"linkcap.invalid/linkcap/linkcaptest"
 )
 
@@ -114,8 +113,8 @@ func TestLinkAdd(t *testing.T) {
 	for name := range links {
 		t.Run(name, func(t *testing.T) {
 			capture := linkcaptest.Record(t, exec.Command(os.Args[0], "-add="+name))
-			options := linkcap.LineOptions{WithoutNumbers: true, Only: []uint16{unix.RTM_NEWLINK}}
-			linkcaptest.GoldenLines(t, capture, filepath.Join("testdata", "linkadd-"+name+".lines"), options)
+			options := linkcaptest.GoldenOptions{Only: "newlink"}
+			linkcaptest.GoldenWith(t, capture, filepath.Join("testdata", "linkadd-"+name+".lines"), options)
 		})
 	}
 }

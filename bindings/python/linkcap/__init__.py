@@ -14,18 +14,18 @@ Calls are allowed
   "spawn".
 
 The package calls the library liblinkcap.so: the one in this package if there is one, otherwise the one in the folder that
-LINKCAP_LIB_DIR names, otherwise the one that the loader finds. LIBRARY_PATH is its name. docs/other-languages.md of linkcap
+LINKCAP_LIB_DIR names, otherwise the one that the loader finds. LIBRARY_PATH is its name. docs/languages.md of linkcap
 is the page for callers. `python -m linkcap` normalises, compares and shows files.
 """
-from ._calls import DEFAULT_LIMIT, Measure, Message, Quirk, QuirkKind, check, lines, measure, messages, normalize, quirks, same
-from ._calls import to_json, why
+from ._calls import Measure, Message, Quirk, QuirkKind, check, lines, measure, messages, normalize, quirks, same, to_json, why
 from ._fault import Fault, Kind, Refusal
 from ._golden import golden
 from ._native import FORMAT, LIBRARY_PATH, Capture
+from ._options import DEFAULT_LIMIT
 from ._reader import LineReader, Reader
 from ._record import RecordError, Recording, record
 
-__version__ = "2.0"
+__version__ = "0.1.0"
 
 __all__ = ["DEFAULT_LIMIT", "FORMAT", "LIBRARY_PATH", "Capture", "Fault", "Kind", "LineReader", "Measure", "Message", "Quirk",
            "QuirkKind", "Reader", "RecordError", "Recording", "Refusal", "check", "golden", "lines", "measure", "messages", "normalize",

@@ -1,13 +1,10 @@
 """Faults of captures, and why a body is refused."""
 import contextlib
-import ctypes
 import enum
 from typing import Any, NamedTuple, Optional, Tuple
 
 from . import _native
-
-#: the words for a limit that is none
-LIMIT_RANGE = f"a limit is a number from {_native.MIN_LIMIT} to 4294967295"
+from ._options import Options
 
 
 class Kind(enum.IntEnum):
@@ -54,57 +51,55 @@ class Fault(Exception):
     def __init__(self, kind: int, offset: int, side: Optional[int] = None, written: bytes = b"",
                  why: Optional[Refusal] = None) -> None:
         self.kind, self.offset, self.side, self.written, self.why = Kind(kind), offset, side, written, why
-        self.words = _words(kind, offset, side or 0)
+        self.words = words_of(_native.FindingStruct(kind, side or 0, offset))
         super().__init__(f"{self.words}: {why.words}" if why else self.words)
 
     def __reduce__(self) -> Tuple[Any, ...]:
         return Fault, (int(self.kind), self.offset, self.side, self.written, self.why)
 
 
-def _words(kind: int, offset: int, side: int) -> str:
-    out, size = _native.Output(_native.FAULT_TEXT), ctypes.c_uint64()
-    fault = _native.FaultStruct(kind, side, offset)
-    call = _native.call("linkcap_fault_text")
-    if call(_native.address_of(fault), out.at, out.capacity, _native.address_of(size)) != _native.OK:
-        raise ValueError("no fault of a capture")
+def words_of(finding: _native.FindingStruct) -> str:
+    """The words of a fault or a quirk, with its offset. Raises ValueError if it is neither."""
+    out, size = _native.Output(_native.WORDS_ROOM), _native.Count()
+    status = _native.library.linkcap_words(_native.address_of(finding), out.at, out.capacity, _native.address_of(size))
+    if status != _native.OK:
+        raise ValueError("no fault or quirk of a capture")
     return out.take(size.value).decode("ascii")
 
 
-def refusal(at: int, length: int, limit: int, start: int = 0) -> Optional[Refusal]:
-    """Why a body is refused, if that is the first fault of the bytes at an address; else None. The bytes begin `start` bytes
-    after the capture's start."""
-    call, size, piece_offset = _native.call("linkcap_why"), ctypes.c_uint64(), ctypes.c_uint64()
+def refusal(options: Options, piece: _native.PieceStruct) -> Optional[Refusal]:
+    """Why a body is refused, if that is the first fault of a piece; else None. Raises MemoryError if there is no memory for the
+    words."""
+    size, offset = _native.Count(), _native.Count()
     capacity, status = 512, _native.NO_ROOM
     while status == _native.NO_ROOM:
         out = _native.Output(capacity)
-        status = call(at, length, limit, out.at, out.capacity, _native.address_of(size), _native.address_of(piece_offset))
+        status = _native.library.linkcap_why(options.at, _native.address_of(piece), out.at, out.capacity,
+                                             _native.address_of(size), _native.address_of(offset))
         capacity = size.value
     if status == _native.NO_MEMORY:
         raise MemoryError("no memory for the words of a refusal")
     if status != _native.OK:
         return None
-    words = out.take(size.value).decode("ascii")
-    if piece_offset.value == (1 << 64) - 1:
-        return Refusal(words, None)
-    end, offset = f" at {piece_offset.value}", piece_offset.value + start
-    return Refusal(f"{words[:-len(end)]} at {offset}", offset)
+    return Refusal(out.take(size.value).decode("ascii"), None if offset.value == (1 << 64) - 1 else offset.value)
 
 
-def first_fault(fault: _native.FaultStruct, at: int, length: int, limit: int, start: int = 0, written: bytes = b"") -> Fault:
-    """The first fault of the bytes at an address, which begin `start` bytes after the capture's start, with its reason."""
-    offset = fault.offset
+def first_fault(fault: _native.FindingStruct, options: Options, piece: _native.PieceStruct, written: bytes = b"") -> Fault:
+    """The first fault of a piece, with its reason."""
     reason = None
     if fault.kind == Kind.REFUSED:
+        start = fault.offset - piece.offset
+        rest = _native.PieceStruct(piece.bytes + start, piece.length - start, fault.offset, piece.last, 0)
         with contextlib.suppress(MemoryError):
-            reason = refusal(at + offset, length - offset, limit, start + offset)
-    return Fault(fault.kind, start + offset, fault.side or None, written, reason)
+            reason = refusal(options, rest)
+    return Fault(fault.kind, fault.offset, fault.side or None, written, reason)
 
 
-def failure(status: int, fault: _native.FaultStruct, at: int, length: int, limit: int, start: int = 0,
+def failure(status: int, fault: _native.FindingStruct, options: Options, piece: _native.PieceStruct,
             written: bytes = b"") -> Exception:
-    """The exception for a status that isn't a success, over the bytes at an address."""
+    """The exception for a status that isn't a success, over a piece."""
     if status == _native.NO_MEMORY:
         return MemoryError("no memory for the capture's text")
     if status != _native.FAULT:
-        return ValueError(LIMIT_RANGE)
-    return first_fault(fault, at, length, limit, start, written)
+        return ValueError("the capture ends 2^64 bytes or more after its start")
+    return first_fault(fault, options, piece, written)

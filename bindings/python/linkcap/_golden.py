@@ -4,8 +4,9 @@ import os
 from typing import Iterable, List, Optional, SupportsIndex, Tuple, Union
 
 from . import lines_filter, lines_golden, lines_record
-from ._calls import DEFAULT_LIMIT, lines
+from ._calls import lines
 from ._native import FORMAT, Capture
+from ._options import DEFAULT_LIMIT
 from ._record import Recording
 from ._types import MessageType
 from .lines_replace import Replacement

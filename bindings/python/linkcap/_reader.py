@@ -1,12 +1,12 @@
 """Captures that come in pieces."""
 import ctypes
-from typing import Any, Dict, Generic, Iterable, Iterator, List, Optional, Protocol, SupportsIndex, Tuple, TypeVar, Union
+from typing import Dict, Generic, Iterable, Iterator, Optional, Protocol, SupportsIndex, TypeVar, Union
 
-from . import _native
-from ._calls import DEFAULT_LIMIT, Selection, checked_limit
-from ._fault import Fault, failure, first_fault
-from ._native import BorrowedBytes, Capture, address_of
+from ._fault import Fault
+from ._native import BorrowedBytes, Capture
+from ._options import DEFAULT_LIMIT, Options, selected, with_limit
 from ._types import MessageType
+from ._writing import Written, write
 
 _HEADER = 16
 
@@ -34,20 +34,14 @@ class _Pieces(Generic[ResultT]):
     `finish`, each call raises ValueError. A piece of a wrong type changes nothing.
     """
 
-    _call: str
-
-    def __init__(self, limit: SupportsIndex = DEFAULT_LIMIT) -> None:
-        self._limit = checked_limit(limit)
+    def __init__(self, options: Options) -> None:
+        self._options = options
         self._rest = bytearray()
         self._start = 0  # of the rest, in bytes from the capture's start
         self._least_length = _HEADER  # with a shorter rest no call writes anything
         self._has_ended = False
         self._kept: Optional[Fault] = None  # the first fault, if messages after it are written too
         self._running: Dict[str, _Call] = {}  # the call that runs, if one does
-
-    def _arguments(self, offset: int) -> Tuple[Any, ...]:
-        """The arguments of the call between the limit and the buffer, for bytes at an offset of the capture."""
-        return ()
 
     def _result(self, output: bytes) -> ResultT:
         """The result of `feed` and `finish`, from the bytes that were written."""
@@ -77,7 +71,7 @@ class _Pieces(Generic[ResultT]):
         try:
             self._begin(call)
             with BorrowedBytes(self._rest) as rest:
-                text = self._write(rest.at, rest.length, True)[1]
+                text = self._write(rest, True).output
             if self._kept:
                 self._kept.written = text
                 raise self._kept
@@ -123,18 +117,18 @@ class _Pieces(Generic[ResultT]):
 
     def _feed(self, piece: BorrowedBytes) -> bytes:
         if not self._rest:
-            used, text = self._write(piece.at, piece.length, False)
-            self._rest += ctypes.string_at(piece.at + used, piece.length - used)
-            self._advance(used)
-            return text
+            written = self._write(piece, False)
+            self._rest += ctypes.string_at(piece.at + written.used, piece.length - written.used)
+            self._advance(written.used)
+            return written.output
         self._rest += ctypes.string_at(piece.at, piece.length)
         if len(self._rest) < self._least_length:
             return b""
         with BorrowedBytes(self._rest) as rest:
-            used, text = self._write(rest.at, rest.length, False)
-        del self._rest[:used]
-        self._advance(used)
-        return text
+            written = self._write(rest, False)
+        del self._rest[:written.used]
+        self._advance(written.used)
+        return written.output
 
     def _advance(self, used: int) -> None:
         """Counts the bytes that were used, and sets the least length of the rest: a header's, or the length in the header."""
@@ -142,30 +136,11 @@ class _Pieces(Generic[ResultT]):
         has_header = len(self._rest) >= _HEADER
         self._least_length = int.from_bytes(self._rest[:4], "little") if has_header else _HEADER
 
-    def _write(self, at: int, length: int, is_last: bool) -> Tuple[int, bytes]:
-        """Writes the complete messages of the bytes at an address. Returns the number of their bytes, and the output."""
-        call, progress, fault = _native.call(self._call), _native.ProgressStruct(), _native.FaultStruct()
-        texts: List[bytes] = []
-        used, capacity, status = 0, length + 256, _native.NO_ROOM
-        while status == _native.NO_ROOM:
-            out = _native.Output(capacity)
-            status = call(at + used, length - used, is_last, self._limit, *self._arguments(self._start + used), out.at,
-                          out.capacity, address_of(progress), address_of(fault))
-            texts.append(out.take(progress.written))
-            if status == _native.FAULT and fault.offset < progress.used:
-                # The message with the fault is written, and those after it are to be.
-                self._kept = self._kept or first_fault(fault, at + used, length - used, self._limit, self._start + used)
-                status = _native.NO_ROOM
-            used += progress.used
-            capacity = max(progress.wanted, length - used + 256)
-        text = b"".join(texts)
-        if status == _native.FAULT and self._kept:
-            self._kept.written = text
-            raise self._kept
-        if status != _native.OK:
-            fault.offset = 0  # the fault is in the message after the used bytes
-            raise failure(status, fault, at + used, length - used, self._limit, self._start + used, text)
-        return used, text
+    def _write(self, piece: BorrowedBytes, is_last: bool) -> Written:
+        """Writes the complete messages of bytes that begin where those that were used end."""
+        written = write(self._options, piece.at, piece.length, self._start, is_last, self._kept)
+        self._kept = written.kept
+        return written
 
 
 class Reader(_Pieces[bytes]):
@@ -176,7 +151,8 @@ class Reader(_Pieces[bytes]):
     `finish`, each call raises ValueError. A piece of a wrong type changes nothing.
     """
 
-    _call = "linkcap_normalize_some"
+    def __init__(self, limit: SupportsIndex = DEFAULT_LIMIT) -> None:
+        super().__init__(with_limit(limit))
 
     def _result(self, output: bytes) -> bytes:
         return output
@@ -197,13 +173,7 @@ class LineReader(_Pieces[str]):
     def __init__(self, limit: SupportsIndex = DEFAULT_LIMIT, *, numbers: bool = True,
                  only: Optional[Iterable[MessageType]] = None, link: Union[str, int, None] = None, without: Iterable[str] = (),
                  offsets: bool = False, keep_going: bool = False, json: bool = False) -> None:
-        super().__init__(limit)
-        self._selection = Selection(numbers, only, link, without, offsets, keep_going, json)
-        self._call = "linkcap_show_some" if self._selection.is_plain else "linkcap_show_selected_some"
-
-    def _arguments(self, offset: int) -> Tuple[Any, ...]:
-        selected = self._selection.arguments
-        return selected if self._selection.is_plain else (offset, *selected)
+        super().__init__(selected(limit, numbers, only, link, without, offsets, keep_going, json))
 
     def _result(self, output: bytes) -> str:
         return output.decode("ascii")

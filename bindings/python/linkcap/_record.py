@@ -24,7 +24,7 @@ class Recording(bytes):
     """A capture, as bytes, with what its record knows of each message: the names of links, the namespace, and the kernel's
     reply. `golden` shows these; a slice of it is bytes alone."""
 
-    #: the entries of the record by the offsets of their messages, as docs/capturing.md of linkcap describes them
+    #: the entries of the record by the offsets of their messages, as docs/recording.md of linkcap describes them
     entries: Dict[int, Dict[str, Any]]
 
     @classmethod

@@ -1,4 +1,5 @@
 """A pytest fixture for golden files of lines, and the option that writes them."""
+import os
 from typing import Any, Callable
 
 import pytest
@@ -18,6 +19,6 @@ def linkcap_golden(request: pytest.FixtureRequest) -> Callable[..., None]:
     def compare(capture: Capture, name: str, **options: Any) -> None:
         __tracebackhide__ = True
         options.setdefault("update", request.config.getoption("--linkcap-update"))
-        golden(capture, request.path.parent / name, **options)
+        golden(capture, os.path.relpath(request.path.parent / name), **options)
 
     return compare

@@ -234,7 +234,7 @@ class Program(unittest.TestCase):
             self.assertEqual(self.run_program(*arguments).returncode, 3, arguments)
         self.assertEqual(self.run_program("norm", os.path.join(TOP, "missing")).returncode, 2)
         version = self.run_program("--version").stdout.decode()
-        self.assertTrue(version.startswith(f"linkcap {linkcap.__version__} (interface 2, lines 4), library "), version)
+        self.assertTrue(version.startswith(f"linkcap {linkcap.__version__} (interface 3, lines 4), library "), version)
         self.assertIn(linkcap.LIBRARY_PATH, version)
 
 

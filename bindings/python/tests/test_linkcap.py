@@ -10,7 +10,7 @@ import threading
 import time
 import tracemalloc
 import unittest
-from typing import Any, Callable, Dict, List, Optional, Tuple
+from typing import Any, Callable, Dict, List, Optional, SupportsIndex, Tuple
 
 import linkcap
 from linkcap import lines_json
@@ -65,13 +65,18 @@ def normalize_pieces(capture: bytes, limit: int, size: int) -> Result:
     return b"".join(texts), None
 
 
+def all_messages(capture: bytes, limit: SupportsIndex) -> List[linkcap.Message]:
+    return list(linkcap.messages(capture, limit))
+
+
 def norm_line(capture: bytes, limit: int, text: bytes, fault: Optional[linkcap.Fault]) -> str:
     if fault is None:
         linkcap.check(capture, limit)
         numbers = linkcap.measure(capture, limit)
-        assert len(linkcap.messages(capture, limit)) == numbers.frames
+        assert len(all_messages(capture, limit)) == numbers.frames
         return f"{text.hex()} {numbers.frames} {numbers.attributes} {numbers.text_len}"
-    for call in (linkcap.check, linkcap.measure, linkcap.messages):
+    calls: Tuple[Callable[[bytes, int], object], ...] = (linkcap.check, linkcap.measure, all_messages)
+    for call in calls:
         try:
             call(capture, limit)
             raise AssertionError("a call that doesn't raise the fault")
@@ -226,7 +231,7 @@ class Edges(unittest.TestCase):
             self.assertEqual(linkcap.normalize(nothing), b"")
             self.assertEqual(linkcap.lines(nothing), "")
             self.assertEqual(linkcap.measure(nothing), (0, 0, 0))
-            self.assertEqual(linkcap.messages(nothing), [])
+            self.assertEqual(list(linkcap.messages(nothing)), [])
             self.assertTrue(linkcap.same(nothing, b""))
         self.assertEqual(linkcap.Reader().finish(), b"")
 
@@ -253,7 +258,7 @@ class Edges(unittest.TestCase):
             def __index__(self) -> int:
                 return 19
 
-        calls: Tuple[Call, ...] = (linkcap.normalize, linkcap.check, linkcap.measure, linkcap.lines, linkcap.messages)
+        calls: Tuple[Call, ...] = (linkcap.normalize, linkcap.check, linkcap.measure, linkcap.lines, all_messages)
         for call in calls:
             with self.assertRaises(linkcap.Fault):
                 call(DONE, Limit())
@@ -290,7 +295,7 @@ class Edges(unittest.TestCase):
             file.flush()
             with mmap.mmap(file.fileno(), 0, access=mmap.ACCESS_READ) as mapping:
                 self.assertEqual(linkcap.normalize(mapping), text)
-                self.assertEqual(linkcap.messages(mapping), linkcap.messages(capture))
+                self.assertEqual(list(linkcap.messages(mapping)), list(linkcap.messages(capture)))
         others: Tuple[linkcap.Capture, ...] = (
             bytearray(capture), memoryview(capture), array.array("I", capture), memoryview(capture).cast("I"))
         for other in others:
@@ -483,13 +488,13 @@ class Messages(unittest.TestCase):
         capture = sample("lo-request.bin")
         # the numbers that samples/lo-request.lines has
         message = linkcap.Message(0, 48, 18, 0x301, 1526271540, 0)
-        self.assertEqual(linkcap.messages(capture), [message])
-        self.assertEqual(linkcap.messages(capture * 3), [message._replace(offset=offset) for offset in (0, 48, 96)])
-        self.assertEqual(linkcap.messages(DONE), [linkcap.Message(0, 16, 3, 2, 0, 0)])
+        self.assertEqual(list(linkcap.messages(capture)), [message])
+        self.assertEqual(list(linkcap.messages(capture * 3)), [message._replace(offset=offset) for offset in (0, 48, 96)])
+        self.assertEqual(list(linkcap.messages(DONE)), [linkcap.Message(0, 16, 3, 2, 0, 0)])
 
     def test_parts_are_captures(self) -> None:
         capture = sample("get-veth.bin")
-        messages = linkcap.messages(capture)
+        messages = list(linkcap.messages(capture))
         self.assertGreater(len(messages), 1)
         texts = [linkcap.normalize(memoryview(capture)[one.offset:one.offset + one.length]) for one in messages]
         self.assertEqual(b"".join(texts), linkcap.normalize(capture))

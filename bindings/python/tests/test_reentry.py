@@ -53,7 +53,7 @@ def calls(capture: bytes, other: bytes) -> List[Call]:
         lambda: linkcap.same(capture, capture),
         lambda: linkcap.lines(capture),
         lambda: linkcap.lines(capture, numbers=False, only=["newlink", "getlink"]),
-        lambda: linkcap.messages(capture),
+        lambda: list(linkcap.messages(capture)),
         lambda: linkcap.why(REFUSED + capture),
         lambda: fault_of(capture + capture[:20]),
         lambda: fault_of(REFUSED + capture),

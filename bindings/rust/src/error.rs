@@ -1,7 +1,8 @@
 //! Faults of captures, and other errors.
 
-use crate::writing::collect_words;
-use crate::{ffi, why, Refusal};
+use crate::options::Options;
+use crate::writing::{why_in, words_of, Piece};
+use crate::{ffi, Refusal};
 use std::{fmt, io};
 
 /// A kind of fault, numbered as in linkcap.h.
@@ -56,26 +57,19 @@ pub enum Error {
     Memory,
     /// The limit is under 16.
     Limit,
-    /// A selection names no attribute or group by this word.
+    /// No type of messages, no attribute and no group has this name, which options have.
     UnknownName(String),
-    /// A selection has more than 32 types or names.
+    /// Options have more than 32 types or names.
     TooMany,
     /// The reader has returned an error before.
     Failed,
 }
 
 impl Error {
-    /// Returns the error of a status for `bytes`, which begin `start` bytes after the capture's start.
-    pub(crate) fn from_status(status: u32, fault: &ffi::Fault, bytes: &[u8], start: u64, limit: u32, written: Vec<u8>) -> Error {
+    /// Returns the error of a call for a whole capture, which had a fault or no memory.
+    pub(crate) fn from_status(status: u32, fault: &ffi::Finding, capture: &[u8], options: &Options<'_>) -> Error {
         match status {
-            ffi::FAULT => Error::Fault(Fault {
-                kind: decode_kind(fault.kind),
-                side: [None, Some(Side::First), Some(Side::Second)][fault.side as usize],
-                offset: start + fault.offset,
-                written,
-                why: find_refusal(fault, bytes, start, limit),
-            }),
-            ffi::WRONG => Error::Limit,
+            ffi::FAULT => Error::Fault(Fault::found(fault, Piece::whole(capture), options)),
             _ => Error::Memory,
         }
     }
@@ -125,15 +119,6 @@ impl Error {
     }
 }
 
-/// Returns why a body is refused, with an offset from the capture's start.
-fn find_refusal(fault: &ffi::Fault, bytes: &[u8], start: u64, limit: u32) -> Option<Refusal> {
-    if fault.kind != Kind::Refused as u32 {
-        return None;
-    }
-    let message = bytes.get(usize::try_from(fault.offset).ok()?..)?;
-    Some(why(message, limit).ok()??.shift(start + fault.offset))
-}
-
 fn decode_kind(number: u32) -> Kind {
     match number {
         1 => Kind::Cut,
@@ -148,16 +133,27 @@ fn decode_kind(number: u32) -> Kind {
 }
 
 impl Fault {
+    /// Returns the first fault of a piece, with its reason.
+    pub(crate) fn found(fault: &ffi::Finding, piece: Piece<'_>, options: &Options<'_>) -> Fault {
+        let kind = decode_kind(fault.kind);
+        let why = || why_in(options, piece.skip(usize::try_from(fault.offset - piece.offset).ok()?)).ok()?;
+        Fault {
+            kind,
+            side: [None, Some(Side::First), Some(Side::Second)][fault.side as usize],
+            offset: fault.offset,
+            written: Vec::new(),
+            why: if kind == Kind::Refused { why() } else { None },
+        }
+    }
+
     /// Returns its words without the reason, as `refused body at 48`.
     #[must_use]
     pub fn words(&self) -> String {
-        let fault = ffi::Fault {
+        words_of(&ffi::Finding {
             kind: self.kind as u32,
             side: self.side.map_or(0, |side| side as u32),
             offset: self.offset,
-        };
-        // Safety: the buffer has the capacity that is given.
-        collect_words(|out, capacity, length| unsafe { ffi::linkcap_fault_text(&fault, out, capacity, length) })
+        })
     }
 }
 
@@ -176,7 +172,7 @@ impl fmt::Display for Error {
             Error::Fault(fault) => fault.fmt(f),
             Error::Memory => f.pad("no memory"),
             Error::Limit => f.pad("limit under 16"),
-            Error::UnknownName(name) => f.pad(&format!("no attribute or group is called {name:?}")),
+            Error::UnknownName(name) => f.pad(&format!("no type, attribute or group is called {name:?}")),
             Error::TooMany => f.pad("more than 32 types or names"),
             Error::Failed => f.pad("failed before"),
         }

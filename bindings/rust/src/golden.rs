@@ -1,7 +1,7 @@
 //! Golden files of lines, for tests.
 
 use crate::diff::unified_diff;
-use crate::{format, lines_selected, LineOptions, Selection, DEFAULT_LIMIT};
+use crate::{format, lines_with, LineOptions, DEFAULT_LIMIT};
 use std::path::Path;
 use std::{env, fs, io};
 
@@ -19,18 +19,18 @@ const PROBES: &str = "probes";
 /// What [`golden_with`] compares: by default all lines, but without sequence and port numbers.
 ///
 /// ```
-/// let options = linkcap::GoldenOptions { only: &[16], without: "IFLA_ADDRESS", ..linkcap::GoldenOptions::default() };
+/// let options = linkcap::GoldenOptions { only: "newlink", without: "IFLA_ADDRESS", ..linkcap::GoldenOptions::default() };
 /// assert!(!options.numbers);
 /// ```
 #[derive(Clone, Copy, Debug, PartialEq, Eq)]
 pub struct GoldenOptions<'a> {
     /// Compare sequence and port numbers, which change from run to run, too.
     pub numbers: bool,
-    /// Compare only messages of these types, as 16 for `RTM_NEWLINK`, at most 32; all if it is empty.
-    pub only: &'a [u16],
+    /// Compare only messages of these types, as [`LineOptions::only`] names them; all if it is empty.
+    pub only: &'a str,
     /// Compare only messages about this link, by name, alternative name or index; about any if it is empty.
     pub link: &'a str,
-    /// Leave out attributes, as [`Selection::without`] does. The file's head names them.
+    /// Leave out attributes, as [`LineOptions::without`] does. The file's head names them.
     pub without: &'a str,
     /// The greatest length in bytes that a message, read or written, may have.
     pub limit: u32,
@@ -38,7 +38,7 @@ pub struct GoldenOptions<'a> {
 
 impl Default for GoldenOptions<'_> {
     fn default() -> Self {
-        GoldenOptions { numbers: false, only: &[], link: "", without: "", limit: DEFAULT_LIMIT }
+        GoldenOptions { numbers: false, only: "", link: "", without: "", limit: DEFAULT_LIMIT }
     }
 }
 
@@ -92,9 +92,9 @@ fn is_updating() -> bool {
 
 /// Returns the lines that options select, without further attributes; or the words of an error.
 fn select_lines(capture: &[u8], options: GoldenOptions<'_>, without: &str) -> Result<String, String> {
-    let lines = LineOptions { without_numbers: !options.numbers, only: options.only };
-    let selection = Selection { lines, link: options.link, without, ..Selection::default() };
-    let text = lines_selected(capture, options.limit, selection).map_err(|error| error.to_string())?;
+    let GoldenOptions { numbers, only, link, .. } = options;
+    let lines = LineOptions { without_numbers: !numbers, only, link, without, ..LineOptions::default() };
+    let text = lines_with(capture, options.limit, lines).map_err(|error| error.to_string())?;
     if text.is_empty() {
         return Err("the capture is empty, or has no message that is selected".to_string());
     }

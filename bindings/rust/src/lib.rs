@@ -31,19 +31,21 @@ mod ffi;
 mod golden;
 mod messages;
 mod normal_reader;
+mod options;
 mod quirks;
 mod reader;
-mod selection;
 mod writing;
 
 pub use error::{Error, Fault, Kind, Side};
 pub use golden::{golden, golden_with, GoldenOptions};
 pub use messages::{messages, Message, Messages};
 pub use normal_reader::NormalReader;
+pub use options::LineOptions;
 pub use quirks::{quirks, Quirk, QuirkKind};
 pub use reader::{LineReader, Reader};
-pub use selection::{lines_selected, Selection};
-pub use writing::{lines, lines_with, normalize, why, LineOptions, Refusal};
+pub use writing::{lines, lines_with, normalize, why, Refusal};
+
+use options::Options;
 
 /// The limit that the program takes if none is given: 1 MiB.
 pub const DEFAULT_LIMIT: u32 = ffi::DEFAULT_LIMIT;
@@ -88,12 +90,7 @@ pub fn format() -> u32 {
 /// assert_eq!(error.fault().map(|fault| fault.kind), Some(Kind::Cut));
 /// ```
 pub fn check(capture: &[u8], limit: u32) -> Result<(), Error> {
-    let mut fault = ffi::Fault::default();
-    // Safety: the pointer has the length that is given.
-    match unsafe { ffi::linkcap_check(capture.as_ptr(), capture.len(), limit, &mut fault) } {
-        ffi::OK => Ok(()),
-        status => Err(Error::from_status(status, &fault, capture, 0, limit, Vec::new())),
-    }
+    measure(capture, limit).map(|_| ())
 }
 
 /// Returns the sizes of a legal capture. It allocates nothing.
@@ -110,15 +107,17 @@ pub fn check(capture: &[u8], limit: u32) -> Result<(), Error> {
 /// # Ok::<(), linkcap::Error>(())
 /// ```
 pub fn measure(capture: &[u8], limit: u32) -> Result<Measure, Error> {
-    let (mut sizes, mut fault) = (ffi::Sizes::default(), ffi::Fault::default());
+    let options = Options::new(limit)?;
+    let (mut sizes, mut fault) = (ffi::Sizes::default(), ffi::Finding::default());
+    let (at, length) = (capture.as_ptr(), capture.len());
     // Safety: the pointer has the length that is given.
-    match unsafe { ffi::linkcap_measure(capture.as_ptr(), capture.len(), limit, &mut sizes, &mut fault) } {
+    match unsafe { ffi::linkcap_check(at, length, &options.as_ffi(), &mut sizes, &mut fault) } {
         ffi::OK => Ok(Measure {
             frames: sizes.frames,
             attributes: sizes.attributes,
             text_len: u128::from(sizes.text_low) | u128::from(sizes.text_high) << 64,
         }),
-        status => Err(Error::from_status(status, &fault, capture, 0, limit, Vec::new())),
+        status => Err(Error::from_status(status, &fault, capture, &options)),
     }
 }
 
@@ -139,7 +138,7 @@ pub fn measure(capture: &[u8], limit: u32) -> Result<Measure, Error> {
 /// # Ok::<(), linkcap::Error>(())
 /// ```
 pub fn same(first: &[u8], second: &[u8], limit: u32) -> Result<bool, Error> {
-    compare(ffi::linkcap_same, first, second, limit)
+    compare(&Options::new(limit)?, first, second)
 }
 
 /// Returns whether two legal captures mean the same after zeroing the sequence and port number of each message, and those of
@@ -158,20 +157,16 @@ pub fn same(first: &[u8], second: &[u8], limit: u32) -> Result<bool, Error> {
 /// # Ok::<(), linkcap::Error>(())
 /// ```
 pub fn same_ignoring_numbers(first: &[u8], second: &[u8], limit: u32) -> Result<bool, Error> {
-    compare(ffi::linkcap_same_ignoring_numbers, first, second, limit)
+    compare(&Options::without_numbers(limit)?, first, second)
 }
 
-type Comparison = unsafe extern "C" fn(*const u8, usize, *const u8, usize, u32, &mut ffi::Fault) -> u32;
-
-fn compare(call: Comparison, first: &[u8], second: &[u8], limit: u32) -> Result<bool, Error> {
-    let mut fault = ffi::Fault::default();
+fn compare(options: &Options<'_>, first: &[u8], second: &[u8]) -> Result<bool, Error> {
+    let mut fault = ffi::Finding::default();
+    let (at, length, other, other_length) = (first.as_ptr(), first.len(), second.as_ptr(), second.len());
     // Safety: the pointers have the lengths that are given.
-    match unsafe { call(first.as_ptr(), first.len(), second.as_ptr(), second.len(), limit, &mut fault) } {
+    match unsafe { ffi::linkcap_same(at, length, other, other_length, &options.as_ffi(), &mut fault) } {
         ffi::OK => Ok(true),
         ffi::DIFFERENT => Ok(false),
-        status => {
-            let capture = if fault.side == 2 { second } else { first };
-            Err(Error::from_status(status, &fault, capture, 0, limit, Vec::new()))
-        }
+        status => Err(Error::from_status(status, &fault, if fault.side == 2 { second } else { first }, options)),
     }
 }

@@ -1,10 +1,10 @@
 //! The messages of a capture.
 
-use crate::{check, Error};
+use crate::options::Options;
+use crate::writing::to_length;
+use crate::{ffi, Error};
 
-const HEADER: usize = 16;
-
-/// A message of a legal capture, and its header.
+/// A legal message of a capture, and its header.
 #[derive(Clone, Copy, Debug, PartialEq, Eq)]
 #[non_exhaustive]
 pub struct Message<'a> {
@@ -19,30 +19,35 @@ pub struct Message<'a> {
     pub port_number: u32,
 }
 
-/// The messages of a legal capture, in order.
+/// The messages of a capture, in order: each as an `Ok`, and then the first fault, if there is one, as an `Err`.
 #[derive(Clone, Debug)]
 pub struct Messages<'a> {
     capture: &'a [u8],
+    options: Options<'static>,
+    /// The start of the next message; the capture's length after the last one and after a fault.
     offset: usize,
 }
 
-/// Returns the messages of a legal capture.
+/// Returns the messages of a capture, which are read one after the other. It allocates nothing.
 ///
 /// # Errors
 ///
-/// [`Error::Fault`] with the capture's first fault, or [`Error::Limit`].
+/// [`Error::Limit`]. Each item is an `Ok` with a message, or an `Err` with the capture's first fault, which is the last item.
 ///
 /// ```
 /// use linkcap::{messages, DEFAULT_LIMIT};
 ///
 /// let capture = b"\x11\0\0\0\x14\0\0\0\x02\0\0\0\0\0\0\0a\0\0\0\x10\0\0\0\x01\0\0\0\x01\0\0\0\0\0\0\0";
-/// let found: Vec<_> = messages(capture, DEFAULT_LIMIT)?.map(|one| (one.offset, one.bytes.len(), one.message_type)).collect();
+/// let mut found = Vec::new();
+/// for message in messages(capture, DEFAULT_LIMIT)? {
+///     let message = message?;
+///     found.push((message.offset, message.bytes.len(), message.message_type));
+/// }
 /// assert_eq!(found, [(0, 17, 20), (20, 16, 1)]);
 /// # Ok::<(), linkcap::Error>(())
 /// ```
 pub fn messages(capture: &[u8], limit: u32) -> Result<Messages<'_>, Error> {
-    check(capture, limit)?;
-    Ok(Messages { capture, offset: 0 })
+    Ok(Messages { capture, options: Options::new(limit)?, offset: 0 })
 }
 
 /// Returns the number in two bytes of a header, little-endian.
@@ -55,24 +60,39 @@ fn read_u32(header: &[u8], at: usize) -> u32 {
     u32::from(read_u16(header, at)) | u32::from(read_u16(header, at + 2)) << 16
 }
 
-impl<'a> Iterator for Messages<'a> {
-    type Item = Message<'a>;
-
-    fn next(&mut self) -> Option<Message<'a>> {
-        // The capture is legal: each header is whole, and so is the message, whose length it has.
-        let rest = self.capture.get(self.offset..)?;
-        let header = rest.get(..HEADER)?;
-        let bytes = rest.get(..read_u32(header, 0) as usize)?;
-        let offset = self.offset;
-        self.offset = offset + (bytes.len() + 3) / 4 * 4;
-        Some(Message {
+impl<'a> Messages<'a> {
+    /// Reads the next message; `None` if there is none.
+    fn read(&mut self) -> Result<Option<Message<'a>>, Error> {
+        let (mut found, mut fault) = (ffi::Message::default(), ffi::Finding::default());
+        let (at, length, offset) = (self.capture.as_ptr(), self.capture.len(), self.offset);
+        // Safety: the pointer has the length that is given.
+        match unsafe { ffi::linkcap_next_message(at, length, &self.options.as_ffi(), offset as u64, &mut found, &mut fault) } {
+            ffi::OK => {}
+            ffi::NONE => return Ok(None),
+            status => return Err(Error::from_status(status, &fault, self.capture, &self.options)),
+        }
+        self.offset = to_length(found.next)?;
+        let bytes = &self.capture[offset..][..found.length as usize];
+        Ok(Some(Message {
             offset,
             bytes,
-            message_type: read_u16(header, 4),
-            flags: read_u16(header, 6),
-            sequence_number: read_u32(header, 8),
-            port_number: read_u32(header, 12),
-        })
+            message_type: read_u16(bytes, 4),
+            flags: read_u16(bytes, 6),
+            sequence_number: read_u32(bytes, 8),
+            port_number: read_u32(bytes, 12),
+        }))
+    }
+}
+
+impl<'a> Iterator for Messages<'a> {
+    type Item = Result<Message<'a>, Error>;
+
+    fn next(&mut self) -> Option<Result<Message<'a>, Error>> {
+        let item = self.read().transpose();
+        if matches!(item, Some(Err(_))) {
+            self.offset = self.capture.len();
+        }
+        item
     }
 }
 

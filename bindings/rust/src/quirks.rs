@@ -1,6 +1,7 @@
 //! Encodings that some kernels treat differently from their normal texts.
 
-use crate::writing::{collect_words, to_length};
+use crate::options::Options;
+use crate::writing::{to_length, words_of};
 use crate::{ffi, Error};
 use std::fmt;
 
@@ -9,7 +10,7 @@ use std::fmt;
 #[non_exhaustive]
 pub enum QuirkKind {
     /// `IFLA_PROTINFO` with the nested bit, under `AF_BRIDGE`.
-    NestedPortSettings = 1,
+    NestedPortSettings = 101,
     /// `IFLA_INET_CONF` not of 132 bytes.
     ResizedSettings,
     /// `IFLA_GRE_PMTUDISC` over 1.
@@ -46,17 +47,17 @@ pub struct Quirk {
 
 fn decode_kind(number: u32) -> QuirkKind {
     match number {
-        1 => QuirkKind::NestedPortSettings,
-        2 => QuirkKind::ResizedSettings,
-        3 => QuirkKind::PathDiscoveryOverOne,
-        4 => QuirkKind::LaterPeer,
-        5 => QuirkKind::LongAlias,
-        6 => QuirkKind::NameWithoutNul,
-        7 => QuirkKind::FlagWithPayload,
-        8 => QuirkKind::BooleanOverOne,
-        9 => QuirkKind::StrayNestedBit,
-        10 => QuirkKind::ForeignFunction,
-        11 => QuirkKind::HeaderByte,
+        101 => QuirkKind::NestedPortSettings,
+        102 => QuirkKind::ResizedSettings,
+        103 => QuirkKind::PathDiscoveryOverOne,
+        104 => QuirkKind::LaterPeer,
+        105 => QuirkKind::LongAlias,
+        106 => QuirkKind::NameWithoutNul,
+        107 => QuirkKind::FlagWithPayload,
+        108 => QuirkKind::BooleanOverOne,
+        109 => QuirkKind::StrayNestedBit,
+        110 => QuirkKind::ForeignFunction,
+        111 => QuirkKind::HeaderByte,
         // There is no other one.
         _ => QuirkKind::ShortMap,
     }
@@ -64,9 +65,7 @@ fn decode_kind(number: u32) -> QuirkKind {
 
 impl fmt::Display for Quirk {
     fn fmt(&self, f: &mut fmt::Formatter<'_>) -> fmt::Result {
-        let quirk = ffi::Quirk { offset: self.offset, kind: self.kind as u32 };
-        // Safety: the buffer has the capacity that is given.
-        f.pad(&collect_words(|out, capacity, length| unsafe { ffi::linkcap_quirk_text(&quirk, out, capacity, length) }))
+        f.pad(&words_of(&ffi::Finding { kind: self.kind as u32, side: 0, offset: self.offset }))
     }
 }
 
@@ -88,21 +87,22 @@ impl fmt::Display for Quirk {
 /// # Ok::<(), linkcap::Error>(())
 /// ```
 pub fn quirks(capture: &[u8], limit: u32) -> Result<Vec<Quirk>, Error> {
-    let mut array: Vec<ffi::Quirk> = Vec::new();
+    let options = Options::new(limit)?;
+    let mut array: Vec<ffi::Finding> = Vec::new();
     let mut required = 16;
     loop {
-        let (mut number, mut fault) = (0, ffi::Fault::default());
+        let (mut number, mut fault) = (0, ffi::Finding::default());
         array.try_reserve(required).map_err(|_| Error::Memory)?;
-        array.resize(required, ffi::Quirk::default());
+        array.resize(required, ffi::Finding::default());
         let (from, length, to, capacity) = (capture.as_ptr(), capture.len(), array.as_mut_ptr(), array.len());
         // Safety: both pointers have the lengths that are given, and don't overlap.
-        match unsafe { ffi::linkcap_quirks(from, length, limit, to, capacity, &mut number, &mut fault) } {
+        match unsafe { ffi::linkcap_quirks(from, length, &options.as_ffi(), to, capacity, &mut number, &mut fault) } {
             ffi::OK => {
-                let quirk = |row: &ffi::Quirk| Quirk { kind: decode_kind(row.kind), offset: row.offset };
+                let quirk = |row: &ffi::Finding| Quirk { kind: decode_kind(row.kind), offset: row.offset };
                 return Ok(array.iter().take(to_length(number)?).map(quirk).collect());
             }
             ffi::NO_ROOM => required = to_length(number)?,
-            status => return Err(Error::from_status(status, &fault, capture, 0, limit, Vec::new())),
+            status => return Err(Error::from_status(status, &fault, capture, &options)),
         }
     }
 }

@@ -1,6 +1,8 @@
-//! Calls that write texts, lines and words.
+//! Calls that write normal text, lines and words.
 
-use crate::{ffi, Error};
+use crate::error::Fault;
+use crate::options::Options;
+use crate::{ffi, Error, LineOptions};
 
 /// Reserves capacity for `additional` bytes after those of a vector.
 pub(crate) fn reserve(out: &mut Vec<u8>, additional: usize) -> Result<(), Error> {
@@ -12,44 +14,95 @@ pub(crate) fn to_length(number: u64) -> Result<usize, Error> {
     usize::try_from(number).map_err(|_| Error::Memory)
 }
 
-/// Returns the words that a call writes.
-pub(crate) fn collect_words(call: impl FnOnce(*mut u8, usize, &mut u64) -> u32) -> String {
-    let (mut words, mut length) = ([0u8; ffi::FAULT_TEXT], 0u64);
-    if call(words.as_mut_ptr(), words.len(), &mut length) != ffi::OK {
+/// Returns text of the library, which is ASCII, as a string.
+pub(crate) fn into_string(text: Vec<u8>) -> String {
+    String::from_utf8(text).unwrap_or_default()
+}
+
+/// Returns the words of a fault or a quirk.
+pub(crate) fn words_of(finding: &ffi::Finding) -> String {
+    let (mut words, mut length) = ([0u8; ffi::WORDS_ROOM], 0u64);
+    // Safety: the buffer has the capacity that is given.
+    if unsafe { ffi::linkcap_words(finding, words.as_mut_ptr(), words.len(), &mut length) } != ffi::OK {
         return String::new();
     }
     let words = usize::try_from(length).ok().and_then(|length| words.get(..length)).unwrap_or_default();
     into_string(words.to_vec())
 }
 
-/// Returns the bytes that a call for a capture writes to a buffer, which has a capacity of `capacity` bytes at first.
-pub(crate) fn write(
-    capture: &[u8],
-    limit: u32,
-    mut call: impl FnMut(*mut u8, usize, &mut u64, &mut ffi::Fault) -> u32,
-    mut capacity: usize,
-) -> Result<Vec<u8>, Error> {
-    let mut out: Vec<u8> = Vec::new();
-    loop {
-        let (mut written, mut fault) = (0, ffi::Fault::default());
-        reserve(&mut out, capacity)?;
-        let free = out.spare_capacity_mut();
-        let status = call(free.as_mut_ptr().cast(), free.len(), &mut written, &mut fault);
-        match status {
-            ffi::NO_ROOM => capacity = to_length(written)?,
-            ffi::OK | ffi::FAULT => {
-                // Safety: the call has written this many bytes.
-                unsafe { out.set_len(to_length(written)?) };
-                return if status == ffi::OK { Ok(out) } else { Err(Error::from_status(status, &fault, capture, 0, limit, out)) };
-            }
-            _ => return Err(Error::from_status(status, &fault, capture, 0, limit, Vec::new())),
+/// A piece of a capture.
+#[derive(Clone, Copy, Debug)]
+pub(crate) struct Piece<'a> {
+    pub bytes: &'a [u8],
+    /// Its offset in the capture.
+    pub offset: u64,
+    pub is_last: bool,
+}
+
+impl<'a> Piece<'a> {
+    /// Returns a whole capture.
+    pub fn whole(bytes: &'a [u8]) -> Piece<'a> {
+        Piece { bytes, offset: 0, is_last: true }
+    }
+
+    /// Returns the piece from a number of bytes on.
+    pub fn skip(self, used: usize) -> Piece<'a> {
+        Piece { bytes: &self.bytes[used..], offset: self.offset + used as u64, ..self }
+    }
+
+    /// Returns the piece for the library.
+    fn to_ffi(self) -> ffi::Piece {
+        ffi::Piece {
+            bytes: self.bytes.as_ptr(),
+            length: self.bytes.len(),
+            offset: self.offset,
+            last: self.is_last.into(),
+            reserved: 0,
         }
     }
 }
 
-/// Returns text of the library, which is ASCII, as a string.
-pub(crate) fn into_string(text: Vec<u8>) -> String {
-    String::from_utf8(text).unwrap_or_default()
+/// Appends the output for the whole messages of a piece, and returns the number of its bytes that were used. `kept` gets the
+/// first fault, if messages after it are written too.
+pub(crate) fn write(options: &Options<'_>, piece: Piece<'_>, out: &mut Vec<u8>, kept: &mut Option<Error>) -> Result<usize, Error> {
+    let mut used = 0;
+    let mut wanted = 0;
+    loop {
+        let rest = piece.skip(used);
+        let (mut progress, mut fault) = (ffi::Progress::default(), ffi::Finding::default());
+        reserve(out, rest.bytes.len().saturating_mul(options.expansion()).max(wanted))?;
+        let free = out.spare_capacity_mut();
+        let (to, capacity) = (free.as_mut_ptr().cast(), free.len());
+        // Safety: the pointers have the lengths that are given, and `out` doesn't overlap the others.
+        let status = unsafe { ffi::linkcap_write(&options.as_ffi(), &rest.to_ffi(), to, capacity, &mut progress, &mut fault) };
+        // Safety: this many bytes after the vector's are written.
+        unsafe { out.set_len(out.len() + to_length(progress.written)?) };
+        used += to_length(progress.used)?;
+        match status {
+            ffi::OK => return Ok(used),
+            ffi::NO_ROOM => wanted = to_length(progress.wanted)?,
+            ffi::FAULT => {
+                let first = kept.take().unwrap_or_else(|| Error::Fault(Fault::found(&fault, rest, options)));
+                if fault.offset == rest.offset + progress.used {
+                    return Err(first);
+                }
+                // The message with the fault is written, and those after it are to be.
+                *kept = Some(first);
+            }
+            _ => return Err(Error::Memory),
+        }
+    }
+}
+
+/// Returns the output for a whole capture.
+fn write_all(options: &Options<'_>, capture: &[u8]) -> Result<Vec<u8>, Error> {
+    let (mut out, mut kept) = (Vec::new(), None);
+    let outcome = write(options, Piece::whole(capture), &mut out, &mut kept);
+    match kept.map_or(outcome.map(|_| ()), Err) {
+        Ok(()) => Ok(out),
+        Err(Error::Fault(fault)) => Err(Error::Fault(Fault { written: out, ..fault })),
+        Err(error) => Err(error),
+    }
 }
 
 /// Returns the normal text of a legal capture.
@@ -68,20 +121,7 @@ pub(crate) fn into_string(text: Vec<u8>) -> String {
 /// # Ok::<(), linkcap::Error>(())
 /// ```
 pub fn normalize(capture: &[u8], limit: u32) -> Result<Vec<u8>, Error> {
-    // Safety: both pointers have the lengths that are given, and don't overlap.
-    let call = |out, capacity, written: &mut u64, fault: &mut ffi::Fault| unsafe {
-        ffi::linkcap_normalize(capture.as_ptr(), capture.len(), limit, out, capacity, written, fault)
-    };
-    write(capture, limit, call, capture.len() + 16)
-}
-
-/// Selects lines of a capture.
-#[derive(Clone, Copy, Debug, Default, PartialEq, Eq)]
-pub struct LineOptions<'a> {
-    /// Leave out sequence and port numbers, which change from run to run.
-    pub without_numbers: bool,
-    /// Show only messages of these types, as 16 for `RTM_NEWLINK`; all if it is empty.
-    pub only: &'a [u16],
+    write_all(&Options::new(limit)?, capture)
 }
 
 /// Returns the lines of a legal capture, as `linkshow` writes them.
@@ -100,19 +140,28 @@ pub fn lines(capture: &[u8], limit: u32) -> Result<String, Error> {
     lines_with(capture, limit, LineOptions::default())
 }
 
-/// Returns the lines of a legal capture that the options select.
+/// Returns the lines of a legal capture that options select.
 ///
 /// # Errors
 ///
-/// Those of [`lines`].
+/// [`Error::Fault`] with the capture's first fault, whose `written` are the lines before it, or with `keep_going` all lines
+/// up to a fault of a header; [`Error::UnknownName`] or [`Error::TooMany`] for options that aren't valid; [`Error::Limit`],
+/// or [`Error::Memory`].
+///
+/// ```
+/// use linkcap::{lines_with, LineOptions, DEFAULT_LIMIT};
+///
+/// let noop = b"\x10\0\0\0\x01\0\0\0\x01\0\0\0\0\0\0\0";
+/// let options = LineOptions { without: "numbers", offsets: true, ..LineOptions::default() };
+/// assert_eq!(lines_with(noop, DEFAULT_LIMIT, options)?, "NLMSG_NOOP flags 0x0 offset 0\n");
+///
+/// let options = LineOptions { without: "numbers", json: true, ..LineOptions::default() };
+/// let object = r#"{"type": "NLMSG_NOOP", "flags": {"value": 0, "flags": []}, "attributes": []}"#;
+/// assert_eq!(lines_with(noop, DEFAULT_LIMIT, options)?.trim_end(), object);
+/// # Ok::<(), linkcap::Error>(())
+/// ```
 pub fn lines_with(capture: &[u8], limit: u32, options: LineOptions<'_>) -> Result<String, Error> {
-    let LineOptions { without_numbers, only } = options;
-    let (at, length) = (capture.as_ptr(), capture.len());
-    // Safety: the pointers have the lengths that are given, and `out` doesn't overlap the others.
-    let call = |out, capacity, written: &mut u64, fault: &mut ffi::Fault| unsafe {
-        ffi::linkcap_show_with(at, length, limit, without_numbers, only.as_ptr(), only.len(), out, capacity, written, fault)
-    };
-    write(capture, limit, call, length.saturating_mul(4)).map(into_string)
+    write_all(&Options::of_lines(limit, options)?, capture).map(into_string)
 }
 
 /// Why a body is refused. It is displayed as its words.
@@ -125,23 +174,32 @@ pub struct Refusal {
     pub offset: Option<u64>,
 }
 
-impl Refusal {
-    /// Returns the refusal with an offset that is greater by `start`.
-    pub(crate) fn shift(self, start: u64) -> Refusal {
-        let Refusal { words, offset } = self;
-        let prefix = offset.and_then(|offset| words.strip_suffix(&format!(" at {offset}")));
-        match (prefix, offset) {
-            (Some(prefix), Some(offset)) => {
-                Refusal { words: format!("{prefix} at {}", start + offset), offset: Some(start + offset) }
-            }
-            _ => Refusal { words, offset },
-        }
-    }
-}
-
 impl std::fmt::Display for Refusal {
     fn fmt(&self, f: &mut std::fmt::Formatter<'_>) -> std::fmt::Result {
         f.pad(&self.words)
+    }
+}
+
+/// Returns why a body is refused, if that is the first fault of a piece; else `None`.
+pub(crate) fn why_in(options: &Options<'_>, piece: Piece<'_>) -> Result<Option<Refusal>, Error> {
+    let mut words = Vec::new();
+    let mut capacity = 256;
+    loop {
+        let (mut written, mut offset) = (0, 0);
+        reserve(&mut words, capacity)?;
+        let free = words.spare_capacity_mut();
+        let (to, room) = (free.as_mut_ptr().cast(), free.len());
+        // Safety: the pointers have the lengths that are given, and don't overlap.
+        match unsafe { ffi::linkcap_why(&options.as_ffi(), &piece.to_ffi(), to, room, &mut written, &mut offset) } {
+            ffi::NO_ROOM => capacity = to_length(written)?,
+            ffi::NONE => return Ok(None),
+            ffi::OK => {
+                // Safety: the call has written this many bytes.
+                unsafe { words.set_len(to_length(written)?) };
+                return Ok(Some(Refusal { words: into_string(words), offset: (offset != u64::MAX).then_some(offset) }));
+            }
+            _ => return Err(Error::Memory),
+        }
     }
 }
 
@@ -160,15 +218,5 @@ impl std::fmt::Display for Refusal {
 /// # Ok::<(), linkcap::Error>(())
 /// ```
 pub fn why(capture: &[u8], limit: u32) -> Result<Option<Refusal>, Error> {
-    let mut offset = 0;
-    // Safety: both pointers have the lengths that are given, and don't overlap.
-    let call = |out, capacity, written: &mut u64, _: &mut ffi::Fault| unsafe {
-        match ffi::linkcap_why(capture.as_ptr(), capture.len(), limit, out, capacity, written, &mut offset) {
-            // It writes no words.
-            ffi::NONE => ffi::OK,
-            status => status,
-        }
-    };
-    let words = write(capture, limit, call, 256).map(into_string)?;
-    Ok((!words.is_empty()).then(|| Refusal { words, offset: (offset != u64::MAX).then_some(offset) }))
+    why_in(&Options::new(limit)?, Piece::whole(capture))
 }

@@ -121,7 +121,7 @@ fn what_a_head_leaves_out() {
         ("# leaves out: numbers, IFLA_MTU, probes", ""),
         ("# leaves out: ifla_mtu\n# leaves out: numbers", ""),
         ("# leaves out: numbers", "+  IFLA_MTU 1281"),
-        ("# leaves out: IFLA_NAM", "no attribute or group is called \"IFLA_NAM\""),
+        ("# leaves out: IFLA_NAM", "no type, attribute or group is called \"IFLA_NAM\""),
         ("# leaves out what varies: RTM_NEWLINK > IFLA_MTU", "compare it by linkgold"),
     ] {
         let found = default_failure(&new_link(1), &folder.file(&format!("{HEAD}{head}\n{lines}")));
@@ -134,14 +134,14 @@ fn options() {
     let folder = Folder::new("options");
     let both = [new_link(1), b"\x10\0\0\0\x01\0\0\0\x02\0\0\0\x03\0\0\0".to_vec()].concat();
     let path = folder.file(&lines_of(1));
-    golden_with(&both, &path, GoldenOptions { only: &[16], ..GoldenOptions::default() });
+    golden_with(&both, &path, GoldenOptions { only: "newlink", ..GoldenOptions::default() });
     assert!(default_failure(&both, &path).ends_with("\n+NLMSG_NOOP flags 0x0\n"));
-    let numbers = GoldenOptions { numbers: true, only: &[1], ..GoldenOptions::default() };
+    let numbers = GoldenOptions { numbers: true, only: "1", ..GoldenOptions::default() };
     golden_with(&both, folder.file("NLMSG_NOOP flags 0x0 seq 2 port 3\n"), numbers);
     let path = folder.file(&(HEAD.to_string() + "# leaves out: IFLA_MTU\n" + &lines_of(1).replace("  IFLA_MTU 1281\n", "")));
     golden_with(new_link(7), &path, GoldenOptions { without: "IFLA_MTU", ..GoldenOptions::default() });
     let unknown = failure(&both, &path, GoldenOptions { without: "IFLA_NAM", ..GoldenOptions::default() });
-    assert_eq!(unknown, "linkcap: no attribute or group is called \"IFLA_NAM\"");
+    assert_eq!(unknown, "linkcap: no type, attribute or group is called \"IFLA_NAM\"");
     let limited = failure(&both, &path, GoldenOptions { limit: 20, ..GoldenOptions::default() });
     assert_eq!(limited, "linkcap: frame over the limit at 0");
 }
@@ -155,7 +155,7 @@ fn faults_and_captures_without_lines() {
     assert_eq!(default_failure(&short, &path), "linkcap: refused body at 0: IFLA_MTU: a payload of 3 bytes at 32");
     let nothing = "linkcap: the capture is empty, or has no message that is selected";
     assert_eq!(default_failure(&[], &path), nothing);
-    assert_eq!(failure(&new_link(1), &path, GoldenOptions { only: &[18], ..GoldenOptions::default() }), nothing);
+    assert_eq!(failure(&new_link(1), &path, GoldenOptions { only: "getlink", ..GoldenOptions::default() }), nothing);
     let about_v0 = GoldenOptions { link: "v0", ..GoldenOptions::default() };
     assert_eq!(failure(&new_link(1), &path, about_v0), nothing);
 }

@@ -1,6 +1,6 @@
 //! Tests the calls with the stored vectors, and edge cases.
 
-use linkcap::{Error, Kind, LineOptions, LineReader, Message, NormalReader, QuirkKind, Reader, Selection, Side, DEFAULT_LIMIT};
+use linkcap::{Error, Kind, LineOptions, LineReader, Message, NormalReader, QuirkKind, Reader, Side, DEFAULT_LIMIT};
 use std::fs;
 use std::io::{self, Read};
 use std::path::Path;
@@ -106,7 +106,7 @@ fn normalize_by_reader(capture: &[u8], limit: u32, size: usize) -> Output {
 }
 
 fn count_messages(capture: &[u8], limit: u32) -> Result<u64, Error> {
-    linkcap::messages(capture, limit).map(|messages| messages.count() as u64)
+    linkcap::messages(capture, limit)?.try_fold(0, |count, message| message.map(|_| count + 1))
 }
 
 fn format_norm(capture: &[u8], limit: u32, (text, error): Output) -> String {
@@ -137,7 +137,7 @@ fn norm() {
 }
 
 fn lines_without_numbers(capture: &[u8], limit: u32) -> Result<String, Error> {
-    linkcap::lines_with(capture, limit, LineOptions { without_numbers: true, only: &[] })
+    linkcap::lines_with(capture, limit, LineOptions { without_numbers: true, ..LineOptions::default() })
 }
 
 #[test]
@@ -160,6 +160,12 @@ fn same() {
     }
 }
 
+/// Returns the options that a stored case has.
+fn choose_lines(choice: &str) -> LineOptions<'_> {
+    let without_numbers = choice == "without-numbers";
+    LineOptions { without_numbers, only: if without_numbers { "" } else { choice }, ..LineOptions::default() }
+}
+
 #[test]
 fn show() {
     let (cases, expected) = read_cases("show");
@@ -167,9 +173,7 @@ fn show() {
     for case in cases {
         let (prefix, capture) = case.rsplit_once(' ').expect("a capture");
         let (limit, choice) = prefix.split_once(' ').unwrap_or((prefix, ""));
-        let (limit, without_numbers) = (limit.parse().expect("a limit"), choice == "without-numbers");
-        let types: Vec<u16> = choice.split(',').filter_map(|word| word.parse().ok()).collect();
-        match linkcap::lines_with(&decode_hex(capture), limit, LineOptions { without_numbers, only: &types }) {
+        match linkcap::lines_with(&decode_hex(capture), limit.parse().expect("a limit"), choose_lines(choice)) {
             Ok(lines) => output += &(lines + "legal\n"),
             Err(error) => {
                 output += std::str::from_utf8(&error.fault().expect("a fault").written).expect("lines");
@@ -191,20 +195,19 @@ fn show_selected() {
         ifinfomsg family 0 (AF_UNSPEC) type 0 (netrom) index 0 flags 0x0 change 0x0\n  IFLA_IFNAME \"lo\"\n";
     let about_lo = "RTM_GETLINK flags 0x1 (REQUEST) seq 1 port 0\n  \
         ifinfomsg family 0 (AF_UNSPEC) type 0 (netrom) flags 0x0 change 0x0\n  IFLA_IFNAME \"lo\"\n";
-    let lines = |without_numbers, only| LineOptions { without_numbers, only };
-    let default = Selection { keep_going: true, ..Selection::default() };
-    for (selection, expected) in [
-        (Selection { lines: lines(true, &[]), offsets: true, ..default }, all),
-        (Selection { lines: lines(false, &[18, 77]), link: "lo", without: "indexes", ..default }, about_lo),
-        (Selection { keep_going: false, ..default }, ""),
+    let default = LineOptions { keep_going: true, ..LineOptions::default() };
+    for (options, expected) in [
+        (LineOptions { without_numbers: true, offsets: true, ..default }, all),
+        (LineOptions { only: "getlink,77", link: "lo", without: "indexes", ..default }, about_lo),
+        (LineOptions { keep_going: false, ..default }, ""),
     ] {
         let capture = [&refused[..], request].concat();
-        let error = linkcap::lines_selected(&capture, DEFAULT_LIMIT, selection).expect_err("a fault");
+        let error = linkcap::lines_with(&capture, DEFAULT_LIMIT, options).expect_err("a fault");
         let fault = error.fault().expect("a fault");
         assert_eq!(std::str::from_utf8(&fault.written), Ok(expected));
         assert_eq!((fault.kind, fault.offset), (Kind::Refused, 0));
         for size in [1, 7, 16, 4096] {
-            let mut reader = LineReader::with_selection(DEFAULT_LIMIT, selection).expect("a selection");
+            let mut reader = LineReader::new(DEFAULT_LIMIT, options).expect("options");
             let mut lines = Vec::new();
             let result = capture.chunks(size).try_for_each(|piece| reader.feed(piece, &mut lines));
             let in_pieces = result.and_then(|()| reader.finish(&mut lines)).expect_err("a fault");
@@ -216,21 +219,23 @@ fn show_selected() {
     for sample in ["samples/req-veth", "samples/get-veth"] {
         let (capture, expected) = (read_file(&format!("{sample}.bin")), read_file(&format!("{sample}.lines")));
         for size in [1, 7, 16, 4096] {
-            let (mut reader, mut lines) = (LineReader::with_selection(DEFAULT_LIMIT, default).expect("a selection"), Vec::new());
+            let (mut reader, mut lines) = (LineReader::new(DEFAULT_LIMIT, default).expect("options"), Vec::new());
             capture.chunks(size).try_for_each(|piece| reader.feed(piece, &mut lines)).expect("a legal capture");
             reader.finish(&mut lines).expect("a legal capture");
             assert!(lines == expected, "{sample} in pieces of {size}");
         }
     }
-    assert_eq!(linkcap::lines_selected(request, DEFAULT_LIMIT, Selection { link: "1", ..default }), Ok(String::new()));
-    let unknown = Selection { without: "counters,mtu", ..default };
-    assert_eq!(linkcap::lines_selected(request, DEFAULT_LIMIT, unknown), Err(Error::UnknownName("mtu".to_string())));
-    assert!(matches!(LineReader::with_selection(DEFAULT_LIMIT, unknown), Err(Error::UnknownName(word)) if word == "mtu"));
-    assert!(matches!(LineReader::with_selection(15, default), Err(Error::Limit)));
-    let types: Vec<u16> = (0..33).collect();
-    let too_many = Selection { lines: lines(false, &types), ..default };
-    assert_eq!(linkcap::lines_selected(request, DEFAULT_LIMIT, too_many), Err(Error::TooMany));
-    assert_eq!(linkcap::lines_selected(request, 15, default), Err(Error::Limit));
+    assert_eq!(linkcap::lines_with(request, DEFAULT_LIMIT, LineOptions { link: "1", ..default }), Ok(String::new()));
+    for (only, without, unknown) in [("", "counters,mtu", "mtu"), ("newlink,links", "mtu", "links"), (",", "", "")] {
+        let options = LineOptions { only, without, ..default };
+        let error = Error::UnknownName(unknown.to_string());
+        assert_eq!(linkcap::lines_with(request, DEFAULT_LIMIT, options), Err(error.clone()));
+        assert_eq!(LineReader::new(DEFAULT_LIMIT, options).expect_err("an unknown word"), error);
+    }
+    assert!(matches!(LineReader::new(15, default), Err(Error::Limit)));
+    let types = vec!["18"; 33].join(",");
+    assert_eq!(linkcap::lines_with(request, DEFAULT_LIMIT, LineOptions { only: &types, ..default }), Err(Error::TooMany));
+    assert_eq!(linkcap::lines_with(request, 15, default), Err(Error::Limit));
 }
 
 /// Compares the lines of each case, shown in pieces.
@@ -241,9 +246,7 @@ fn show_in_pieces() {
     for (i, case) in cases.iter().enumerate() {
         let (prefix, capture) = case.rsplit_once(' ').expect("a capture");
         let (limit, choice) = prefix.split_once(' ').unwrap_or((prefix, ""));
-        let types: Vec<u16> = choice.split(',').filter_map(|word| word.parse().ok()).collect();
-        let options = LineOptions { without_numbers: choice == "without-numbers", only: &types };
-        let mut reader = LineReader::new(limit.parse().expect("a limit"), options).expect("a limit");
+        let mut reader = LineReader::new(limit.parse().expect("a limit"), choose_lines(choice)).expect("a limit");
         let (capture, mut lines) = (decode_hex(capture), Vec::new());
         let result = capture.chunks([1, 7, 100][i % 3]).try_for_each(|piece| reader.feed(piece, &mut lines));
         let end = match result.and_then(|()| reader.finish(&mut lines)) {
@@ -336,11 +339,18 @@ fn fields(message: Message<'_>) -> (usize, &[u8], u16, u16, u32, u32) {
 fn messages() {
     let capture = read_file("samples/lo-request.bin");
     let twice = [&capture[..], &capture[..]].concat();
-    let messages: Vec<_> = linkcap::messages(&twice, DEFAULT_LIMIT).expect("a legal capture").map(fields).collect();
+    let messages = |capture| linkcap::messages(capture, DEFAULT_LIMIT).expect("a limit");
+    let found: Vec<_> = messages(&twice).map(|message| fields(message.expect("a legal message"))).collect();
     // the numbers that samples/lo-request.lines has
     let message = |offset| (offset, &capture[..], 18, 0x301, 1_526_271_540, 0);
-    assert_eq!(messages, [message(0), message(48)]);
-    assert_eq!(linkcap::messages(&[], 16).expect("nothing").next(), None);
+    assert_eq!(found, [message(0), message(48)]);
+    assert_eq!(messages(&[]).next(), None);
+    // The fault comes once, after the message before it.
+    let mut cut = messages(&twice[..95]);
+    assert_eq!(cut.next().map(|message| message.map(fields)), Some(Ok(message(0))));
+    let fault = cut.next().expect("a fault").expect_err("a fault");
+    assert_eq!((fault.kind(), fault.offset()), (Some(Kind::Cut), Some(48)));
+    assert_eq!(cut.next(), None);
 }
 
 #[test]

@@ -1,5 +1,5 @@
-mod Passing
-mod Showing
+mod Forms
+mod Walking
 mod Following
 mod Apart
 mod Bodies

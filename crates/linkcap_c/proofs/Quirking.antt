@@ -8,8 +8,8 @@ use Rattle.link_capture_grammar.specs.declared.fault.CaptureFault.{CaptureFault}
 use Rattle.link_capture_grammar.specs.Captures.{first_fault}
 use Rattle.link_capture_quirks.specs.declared.quirk_at.QuirkAt.{QuirkAt}
 use Rattle.link_capture_quirks.specs.CaptureQuirks.{QuirksLeft, items_left, capture_quirks, quirks_then_fault}
-use Rattle.linkcap_c.specs.declared.quirks.LinkcapQuirk.{LinkcapQuirk}
-use Rattle.linkcap_c.specs.Quirks.{quirk_of, quirks}
+use Rattle.linkcap_c.specs.declared.findings.LinkcapFinding.{LinkcapFinding}
+use Rattle.linkcap_c.specs.Findings.{quirk_of, found_quirks}
 
 abbrev pub Yielded : Type 0
 Yielded = List (Result QuirkAt CaptureFault)
@@ -43,7 +43,7 @@ most = 2 ^ 64 - 1
 -- the number of quirks that were yielded, or the greatest number that can be counted
 pub record Counted (limit : ℕ) (c : List ℕ) (left : Yielded) (count : ℕ) : Type 0 where
   pub fits : count ≤ most
-  pub all : min (count + length (found left)) most ≡ min (length (quirks limit c)) most
+  pub all : min (count + length (found left)) most ≡ min (length (found_quirks limit c)) most
   pub fault : ending left ≡ first_fault limit c
 
 pub counted_none : (limit : ℕ) (c : List ℕ) (s : QuirksLeft) → s.quirks_left ≡ capture_quirks limit c → s.fault ≡ first_fault limit c → Counted limit c (items_left s) 0
@@ -62,12 +62,12 @@ counted_one limit c left rest x count next w e n =
       fault = sym (ap ending e) ∙ w.fault;
     }
 
-pub counted_fault : (limit : ℕ) (c : List ℕ) (left rest : Yielded) (fault : CaptureFault) (count : ℕ) → Counted limit c left count → left ≡ Err fault ∷ rest → (count ≡ min (length (quirks limit c)) most) × (Some fault ≡ first_fault limit c)
+pub counted_fault : (limit : ℕ) (c : List ℕ) (left rest : Yielded) (fault : CaptureFault) (count : ℕ) → Counted limit c left count → left ≡ Err fault ∷ rest → (count ≡ min (length (found_quirks limit c)) most) × (Some fault ≡ first_fault limit c)
 counted_fault limit c left rest fault count w e =
     let size : length (found left) ≡ 0 = ap (λ z. length (found z)) e in
     (omega (arith, w.all, size, w.fits), sym (ap ending e) ∙ w.fault)
 
-pub counted_all : (limit : ℕ) (c : List ℕ) (left : Yielded) (count : ℕ) → Counted limit c left count → left ≡ [] → (count ≡ min (length (quirks limit c)) most) × (None ≡ first_fault limit c)
+pub counted_all : (limit : ℕ) (c : List ℕ) (left : Yielded) (count : ℕ) → Counted limit c left count → left ≡ [] → (count ≡ min (length (found_quirks limit c)) most) × (None ≡ first_fault limit c)
 counted_all limit c left count w e =
     let size : length (found left) ≡ 0 = ap (λ z. length (found z)) e in
     (omega (arith, w.all, size, w.fits), sym (ap ending e) ∙ w.fault)
@@ -79,14 +79,14 @@ put_one done [] x h = absurd (omega (arith, h))
 put_one done (y ∷ rest) x h = set-append_seam done y rest x ∙ sym (append_assoc done (x ∷ []) rest)
 
 -- this number of quirks is written
-pub record Written (limit : ℕ) (c : List ℕ) (init out : List LinkcapQuirk) (left : Yielded) (written : ℕ) : Type 0 where
-  pub done : List LinkcapQuirk
+pub record Written (limit : ℕ) (c : List ℕ) (init out : List LinkcapFinding) (left : Yielded) (written : ℕ) : Type 0 where
+  pub done : List LinkcapFinding
   pub size : length done ≡ written
   pub held : out ≡ done ++ drop written init
-  pub rest : done ++ map quirk_of (found left) ≡ quirks limit c
-  pub room : length (quirks limit c) ≤ length init
+  pub rest : done ++ map quirk_of (found left) ≡ found_quirks limit c
+  pub room : length (found_quirks limit c) ≤ length init
 
-pub written_none : (limit : ℕ) (c : List ℕ) (init : List LinkcapQuirk) (s : QuirksLeft) → s.quirks_left ≡ capture_quirks limit c → length (quirks limit c) ≤ length init → Written limit c init init (items_left s) 0
+pub written_none : (limit : ℕ) (c : List ℕ) (init : List LinkcapFinding) (s : QuirksLeft) → s.quirks_left ≡ capture_quirks limit c → length (found_quirks limit c) ≤ length init → Written limit c init init (items_left s) 0
 written_none limit c init s e h = record {
   done = [];
   size = refl;
@@ -95,8 +95,8 @@ written_none limit c init s e h = record {
   room = h;
 }
 
-module _ (limit : ℕ) (c : List ℕ) (init out : List LinkcapQuirk) (left rest : Yielded) (x : QuirkAt) (written : ℕ) (w : Written limit c init out left written) (e : left ≡ Ok x ∷ rest) where
-  more : w.done ++ quirk_of x ∷ map quirk_of (found rest) ≡ quirks limit c
+module _ (limit : ℕ) (c : List ℕ) (init out : List LinkcapFinding) (left rest : Yielded) (x : QuirkAt) (written : ℕ) (w : Written limit c init out left written) (e : left ≡ Ok x ∷ rest) where
+  more : w.done ++ quirk_of x ∷ map quirk_of (found rest) ≡ found_quirks limit c
   more = sym (ap (λ z. w.done ++ map quirk_of (found z)) e) ∙ w.rest
 
   pub free : written < length init
@@ -119,7 +119,7 @@ module _ (limit : ℕ) (c : List ℕ) (init out : List LinkcapQuirk) (left rest 
         room = w.room;
       }
 
-pub written_all : (limit : ℕ) (c : List ℕ) (init out : List LinkcapQuirk) (left : Yielded) (written : ℕ) → Written limit c init out left written → found left ≡ [] → out ≡ quirks limit c ++ drop (length (quirks limit c)) init
+pub written_all : (limit : ℕ) (c : List ℕ) (init out : List LinkcapFinding) (left : Yielded) (written : ℕ) → Written limit c init out left written → found left ≡ [] → out ≡ found_quirks limit c ++ drop (length (found_quirks limit c)) init
 written_all limit c init out left written w e =
-    let all : w.done ≡ quirks limit c = sym (append-nil w.done) ∙ sym (ap (λ z. w.done ++ map quirk_of z) e) ∙ w.rest in
+    let all : w.done ≡ found_quirks limit c = sym (append-nil w.done) ∙ sym (ap (λ z. w.done ++ map quirk_of z) e) ∙ w.rest in
     w.held ∙ ap (λ n. w.done ++ drop n init) (sym w.size) ∙ ap (λ z. z ++ drop (length z) init) all

@@ -1,5 +1,5 @@
 -- Bodies and captures compared without sequence and port numbers.
-use Rattle.std.specs.Prelude.{ℕ, nat_le, nat_eq, cond, List, length}
+use Rattle.std.specs.Prelude.{ℕ, nat_le, nat_eq, Bool, cond, List, length}
 use Rattle.link_capture_grammar.specs.Same.{SameCapture}
 use Rattle.link_capture_numbers.specs.Cleared.{zeros_at, numbers_cleared}
 
@@ -14,3 +14,7 @@ body_without_numbers t body = cond (nat_eq t 2) (error_cleared body) body
 -- the captures mean the same after zeroing their sequence and port numbers
 abbrev pub SameButNumbers : ℕ → List ℕ → List ℕ → Type 0
 SameButNumbers limit a b = SameCapture limit (numbers_cleared a) (numbers_cleared b)
+
+-- what of a capture, or of its texts, is compared: all, or all but the numbers
+abbrev pub compared_by : Bool → List ℕ → List ℕ
+compared_by without_numbers c = cond without_numbers (numbers_cleared c) c

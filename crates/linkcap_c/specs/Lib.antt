@@ -1,10 +1,9 @@
 pub mod Buffers
-pub mod Pieces
-pub mod Faults
-pub mod Choices
+pub mod Findings
+pub mod Forms
+pub mod Options
 pub mod Statuses
-pub mod Selecting
 pub mod Messages
-pub mod Quirks
+pub mod Pieces
 pub mod Apart
-pub mod SelectedPieces
+pub mod Reasons

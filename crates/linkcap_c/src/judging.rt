@@ -1,13 +1,15 @@
 //! One capture judged and measured.
 
-ghost use Rattle.std.specs.Prelude.{◌≡◌, ◌+◌, ◌*◌, ◌^◌, ◌⊎◌, length};
+ghost use Rattle.std.specs.Prelude.{◌≡◌, ◌≢◌, ◌+◌, ◌*◌, ◌^◌, ◌⊎◌, length};
 ghost use Rattle.link_capture_grammar.specs.Captures.{texts};
 ghost use Rattle.link_capture_grammar.specs.Numbers.{attributes, frames};
-ghost use Rattle.linkcap_c.specs.Statuses.{IsJudgingStatus, Judges, KeepsFault};
+ghost use Rattle.linkcap_c.specs.Options.{AreInvalid, AreValid, limit_of};
+ghost use Rattle.linkcap_c.specs.Statuses.{Judges, KeepsFault};
 
-use crate::faults::{LinkcapFault, of_one};
-use crate::statuses::{FAULT, OK, WRONG, is_limit};
-use link_capture_checks::{check, measure};
+use crate::findings::{LinkcapFinding, of_one};
+use crate::options::{LinkcapOptions, read_limit};
+use crate::statuses::{FAULT, OK, WRONG};
+use link_capture_checks::measure;
 
 /// The sizes of a legal capture.
 #[repr(C)]
@@ -23,46 +25,29 @@ pub struct LinkcapSizes {
     pub text_high: u64,
 }
 
-/// Whether a capture is legal under a limit on the bytes of a message and of its text, or its first fault. Allocates
-/// nothing.
+/// Whether a capture is legal under a limit on the bytes of a message and of its text, and its sizes; or its first
+/// fault. Allocates nothing.
 #[unsafe(no_mangle)]
-pub extern "C" fn linkcap_check(capture: &[u8], limit: u32, fault: &mut LinkcapFault) -> u32
-    ensures judged { Judges limit capture.now result fault.new }
-    ensures kept { KeepsFault result fault.old fault.new }
-    ensures status { IsJudgingStatus result }
-{
-    if !is_limit(limit) {
-        return WRONG;
-    }
-    match check(capture, limit) {
-        Ok(()) => OK,
-        Err(found) => {
-            *fault = of_one(found);
-            FAULT
-        }
-    }
-}
-
-/// The sizes of a legal capture, or its first fault. Allocates nothing.
-#[unsafe(no_mangle)]
-pub extern "C" fn linkcap_measure(
+pub extern "C" fn linkcap_check(
     capture: &[u8],
-    limit: u32,
+    options: &LinkcapOptions<'_>,
     sizes: &mut LinkcapSizes,
-    fault: &mut LinkcapFault,
+    fault: &mut LinkcapFinding,
 ) -> u32
-    ensures judged { Judges limit capture.now result fault.new }
-    ensures frames { result ≡ 0 → sizes.new.frames ≡ frames limit capture.now }
-    ensures attributes { result ≡ 0 → sizes.new.attributes ≡ attributes limit capture.now }
+    ensures judged { Judges (limit_of options.now) capture.now result fault.new }
+    ensures frames { result ≡ 0 → sizes.new.frames ≡ frames (limit_of options.now) capture.now }
+    ensures attributes { result ≡ 0 → sizes.new.attributes ≡ attributes (limit_of options.now) capture.now }
     ensures text { result ≡ 0 → sizes.new.text_low + 2 ^ 64 * sizes.new.text_high
-        ≡ length (texts limit capture.now) }
-    ensures unmeasured { (result ≡ 2) ⊎ (result ≡ 3) → sizes.new ≡ sizes.old }
+        ≡ length (texts (limit_of options.now) capture.now) }
+    ensures unmeasured { result ≢ 0 → sizes.new ≡ sizes.old }
     ensures kept { KeepsFault result fault.old fault.new }
-    ensures status { IsJudgingStatus result }
+    ensures wrong { result ≡ 3 → AreInvalid options.now }
+    ensures valid { result ≢ 3 → AreValid options.now }
+    ensures status { (result ≡ 0) ⊎ (result ≡ 2) ⊎ (result ≡ 3) }
 {
-    if !is_limit(limit) {
+    let Some(limit) = read_limit(options) else {
         return WRONG;
-    }
+    };
     match measure(capture, limit) {
         Ok(found) => {
             *sizes = LinkcapSizes {

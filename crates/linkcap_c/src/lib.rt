@@ -1,21 +1,17 @@
-// The calls for C: captures judged, measured, normalised, compared and shown, their messages and their quirks.
+// The calls for C: captures judged, measured, compared, normalised and shown, their messages and their quirks.
 #![tactic(auto)]
 
 mod buffers;
-mod choices;
 mod comparing;
-mod faults;
+mod findings;
 mod judging;
 mod messages;
 mod numbers;
+mod options;
 mod pieces;
 mod quirks;
 mod refusing;
-mod selected_pieces;
-mod selected_streaming;
-mod selecting;
 mod statuses;
-mod streaming;
 mod texts;
 mod words;
 mod writing;

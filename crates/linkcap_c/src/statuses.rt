@@ -1,7 +1,5 @@
 //! What calls return: the statuses of the program `linkcap`, and three more. `linkcap.h` has the same numbers.
 
-ghost use Rattle.std.specs.Prelude.{◌≤◌, ◌↔◌, IsTrue};
-
 /// The capture is legal; of two, both are legal and mean the same.
 pub const OK: u32 = 0;
 
@@ -11,7 +9,7 @@ pub const DIFFERENT: u32 = 1;
 /// A fault, which is reported with its offset.
 pub const FAULT: u32 = 2;
 
-/// A limit under 16, a fault that is none, or a word that isn't known.
+/// Options, a piece or a finding that isn't valid.
 pub const WRONG: u32 = 3;
 
 /// The buffer is too small.
@@ -22,10 +20,3 @@ pub const NO_MEMORY: u32 = 5;
 
 /// There is nothing to return: no message at the offset, no refused body, or no unknown word.
 pub const NONE: u32 = 6;
-
-/// Whether a run can have this limit.
-pub(crate) fn is_limit(limit: u32) -> bool
-    ensures { IsTrue result ↔ (16 ≤ limit) }
-{
-    limit >= 16
-}

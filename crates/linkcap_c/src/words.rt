@@ -3,7 +3,7 @@
 ghost use Rattle.std.specs.Prelude.{◌≡◌, [], IfErr, IfOk, Ok};
 ghost use Rattle.link_lines.specs.Types.{TakesType};
 ghost use Rattle.link_lines.specs.Without.{TakesWord, exclusion_of, nothing_excluded};
-ghost use Rattle.linkcap_c.specs.Selecting.{IsListError, ReadsNames, ReadsTypes};
+ghost use Rattle.linkcap_c.specs.Options.{IsListError, ReadsNames, ReadsTypes};
 
 use link_lines::{Types, Without, WordError, read_types};
 use std::str;

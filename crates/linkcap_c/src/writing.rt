@@ -1,196 +1,224 @@
 //! Texts and lines written to a caller's buffer.
 
-ghost use Rattle.std.specs.Prelude.{◌≡◌, ◌≢◌, ◌<◌, ◌≤◌, ◌↔◌, ◌⊎◌, length, drop};
-ghost use Rattle.link_capture_grammar.specs.Captures.{texts};
+ghost use Rattle.std.specs.Prelude.{◌≡◌, ◌≢◌, ◌+◌, ◌-◌, ◌^◌, ◌<◌, ◌≤◌, ◌++◌, ◌⊎◌, List, [], IsTrue, true, false};
+ghost use Rattle.std.specs.Prelude.{ℕ, length, take, drop, Some};
+ghost use Rattle.link_capture_grammar.specs.Captures.{first_fault};
+ghost use Rattle.link_capture_grammar.specs.declared.fault.FaultKind.{FaultKind};
 ghost use Rattle.link_capture_reader.specs.NormalTexts.{HasNormalText};
+ghost use Rattle.link_lines.specs.Captures.{Choice, lines};
+ghost use Rattle.link_lines.specs.MessageLaws.{plain};
+ghost use Rattle.link_lines.specs.MessageLines.{shown};
 ghost use Rattle.link_lines.specs.Meanings.{DependsOnMeaning};
-ghost use Rattle.link_lines.specs.Outcomes.{NeedsMemoryAt};
-ghost use Rattle.link_lines.specs.Captures.{everything, lines};
-ghost use Rattle.link_lines.specs.Options.{choice_of};
-ghost use Rattle.linkcap_c.specs.Statuses.{KeepsSize, ReportsWriting, Writes};
-ghost use Rattle.linkcap_c.specs.Buffers.{reported_length};
-ghost use Rattle.linkcap_c.specs.Choices.{asked};
-ghost use Rattle.linkcap_c.specs.Pieces.{IsAccepted};
-ghost use Rattle.linkcap_c.specs.Faults.{fault_of};
+ghost use Rattle.link_lines.specs.Pieces.{goes_past};
+ghost use Rattle.linkcap_c.specs.Buffers.{Holds};
+ghost use Rattle.linkcap_c.specs.Forms.{Form, keeps_going, written_at};
+ghost use Rattle.linkcap_c.specs.Options.{AreInvalid, AreValid, Asks, ChooseOfText, limit_of, output_form};
+ghost use Rattle.linkcap_c.specs.Pieces.{Continues, IsBefore, IsFaulty, IsInvalid, IsLegalTo, IsValid};
+ghost use Rattle.linkcap_c.specs.Pieces.{IsWrittenTo, StopsAfter, StopsWhole, WritesPiece, is_last};
+ghost use Rattle.linkcap_c.specs.Statuses.{KeepsFault};
 
-use crate::buffers::copy_text;
-use crate::choices::line_options;
-use crate::faults::{LinkcapFault, of_one};
-use crate::statuses::{FAULT, NO_MEMORY, NO_ROOM, OK, WRONG, is_limit};
-use link_capture_checks::{measure, normal_len};
+use crate::findings::{LinkcapFinding, of_one};
+use crate::options::{LinkcapOptions, Output, output_by, read_options};
+use crate::pieces::{Progress, Stop, write_messages};
+use crate::statuses::{FAULT, NO_MEMORY, NO_ROOM, OK, WRONG};
 use link_capture_grammar::fault::{CaptureFault, FaultKind};
-use link_capture_grammar::laws::{captures_unfold_by_frames, faults_are_at_frames};
-use link_capture_reader::normalize_bytes;
-use link_lines::{LineOptions, show_bytes};
+use link_capture_grammar::laws::{
+    captures_are_counted, captures_unfold_by_frames, frames_are_independent,
+    joined_captures_are_legal, joined_captures_have_joined_texts,
+    joined_captures_have_the_faults_of_the_second, texts_are_legal, texts_are_normal,
+    texts_are_small, texts_determine_meanings, texts_mean_the_same,
+};
+use link_lines::laws::lines_are_joined;
+use link_lines::message_laws::{
+    lines_of_messages_are_of_texts, messages_unfold, pieces_are_joined,
+};
 use std::alloc::Global;
 
-/// The length of a capture's texts, up to its first fault.
-fn texts_len(bytes: &[u8], limit: u32) -> u128
-    ensures { result ≡ length (texts limit bytes.now) }
+/// A piece of a capture.
+#[repr(C)]
+#[derive(Drop)]
+pub struct LinkcapPiece<'a> {
+    /// The bytes, which are those that the call before left, and more after them.
+    pub bytes: &'a [u8],
+    /// The offset of its first byte in the capture.
+    pub offset: u64,
+    /// Whether no piece follows: 0 if one does.
+    pub last: u32,
+    /// For later versions.
+    pub reserved: u32,
+}
+
+/// How far a call over a piece came.
+#[repr(C)]
+#[derive(Drop)]
+pub struct LinkcapProgress {
+    /// The bytes of the piece of which everything is written.
+    pub used: u64,
+    /// The bytes that were written.
+    pub written: u64,
+    /// If the buffer is too small, the bytes that the next message needs, else 0.
+    pub wanted: u64,
+}
+
+/// Writes a piece that follows others, whatever these are.
+fn write_piece(
+    alloc: Global,
+    piece: &LinkcapPiece<'_>,
+    limit: u32,
+    output: Output<'_>,
+    out: &mut [u8],
+) -> Progress
+    requires { piece.now.offset + length piece.now.bytes.now < 2 ^ 64 }
+    ensures used { IsWrittenTo (output_form output.entry) limit piece.now.offset (is_last piece.now) piece.now.bytes.now
+        result.used result.written }
+    ensures room { result.written ≤ length out.old }
+    ensures written { Holds (written_at (output_form output.entry) limit piece.now.offset
+        (take result.used piece.now.bytes.now)) result.written out.old out.new }
+    ensures legal { IsLegalTo limit (is_last piece.now) piece.now.bytes.now result.at }
+    ensures stops { StopsAfter (output_form output.entry) limit piece.now.offset (is_last piece.now) piece.now.bytes.now
+        result.used result.at (length out.old - result.written) result.stop }
+    // What the pieces write one after the other is what the whole writes.
+    ensures continues { (before : List ℕ) → IsBefore (output_form output.entry) limit piece.now.offset before
+        → Continues (output_form output.entry) limit piece.now.offset (is_last piece.now)
+        (take result.used piece.now.bytes.now) before }
+    // The first fault is the whole's.
+    ensures first { (before more : List ℕ) (kind : FaultKind) → IsBefore Form.Text limit piece.now.offset before
+        → (is_last piece.now ≡ true → more ≡ [])
+        → IsFaulty limit (is_last piece.now) (drop result.at piece.now.bytes.now) kind
+        → first_fault limit (before ++ (piece.now.bytes.now ++ more))
+        ≡ Some (record { kind = kind; offset = piece.now.offset + result.at }) }
+    // And where writing stops, the whole writes no more.
+    ensures ends { (before more : List ℕ) (kind : FaultKind)
+        → IsBefore (output_form output.entry) limit piece.now.offset before → (is_last piece.now ≡ true → more ≡ [])
+        → IsFaulty limit (is_last piece.now) (drop result.used piece.now.bytes.now) kind
+        → goes_past (keeps_going (output_form output.entry)) kind ≡ false
+        → StopsWhole (output_form output.entry) limit piece.now.offset kind result.used piece.now.bytes.now
+        before more }
 {
+    captures_are_counted();
     captures_unfold_by_frames();
-    faults_are_at_frames();
-    match measure(bytes, limit) {
-        Ok(found) => found.text_len,
-        Err(fault) => match normal_len(&bytes[..fault.offset as usize], limit) {
-            Ok(length) => length,
-            Err(_) => 0,
-        },
-    }
-}
-
-/// The status where an allocation for a text failed: `NO_ROOM` if the buffer is too small for the text, whose length
-/// goes to `size`, no more than 2^64 - 1; else `NO_MEMORY`.
-fn lacking_memory(bytes: &[u8], limit: u32, room: usize, size: &mut u64) -> u32
-    ensures room { (result ≡ 4) ↔ (room < length (texts limit bytes.now)) }
-    ensures memory { (result ≡ 4) ⊎ (result ≡ 5) }
-    ensures size { result ≡ 4 → size.new ≡ reported_length (texts limit bytes.now) }
-    ensures kept { result ≡ 5 → size.new ≡ size.old }
-{
-    let wanted = texts_len(bytes, limit);
-    if wanted > room as u128 {
-        *size = wanted.min(u64::MAX as u128) as u64;
-        NO_ROOM
-    } else {
-        NO_MEMORY
-    }
-}
-
-/// Reports a fault along with a status, unless that is `NO_ROOM`.
-pub(crate) fn report(status: u32, found: CaptureFault, fault: &mut LinkcapFault) -> u32
-    ensures status { result ≡ status }
-    ensures reported { status ≢ 4 → fault.new ≡ fault_of 0 found }
-    ensures kept { status ≡ 4 → fault.new ≡ fault.old }
-{
-    if status != NO_ROOM {
-        *fault = of_one(found);
-    }
-    status
-}
-
-/// Writes the normal text of a capture to the start of `out`, or the texts before its first fault. If `out` is too small for
-/// these, it is unchanged, and their length is reported. It is unchanged, too, if an allocation fails.
-#[unsafe(no_mangle)]
-pub extern "C" fn linkcap_normalize(
-    alloc: Global,
-    capture: &[u8],
-    limit: u32,
-    out: &mut [u8],
-    size: &mut u64,
-    fault: &mut LinkcapFault,
-) -> u32
-    ensures reported { ReportsWriting limit capture.now result fault.old fault.new }
-    ensures written { Writes (texts limit capture.now) result size.new out.old out.new }
-    ensures kept_size { KeepsSize result size.old size.new }
-    // A buffer that is too small is reported first.
-    ensures room { 16 ≤ limit
-        → (result ≡ 4) ↔ (length out.old < length (texts limit capture.now)) }
-    ensures wanted { result ≡ 4 → size.new ≡ reported_length (texts limit capture.now) }
-    // Only the text of an accepted frame can run out of memory.
-    ensures cause { result ≡ 5 → IsAccepted limit (drop fault.new.offset capture.now) }
-    // The normal text is legal, canonical, equivalent, and at most 77 times as long.
-    ensures text { 16 ≤ limit → HasNormalText limit capture.now }
-{
-    if !is_limit(limit) {
-        return WRONG;
-    }
-    let mut text = Vec::new(alloc);
-    match normalize_bytes(capture, limit, &mut text) {
-        Ok(()) => copy_text(text.as_slice(), OK, out, size),
-        Err(found) => {
-            let status = if found.kind == FaultKind::Memory {
-                lacking_memory(capture, limit, out.len(), size)
-            } else {
-                copy_text(text.as_slice(), FAULT, out, size)
-            };
-            report(status, found, fault)
-        }
-    }
-}
-
-/// Writes what is shown of a capture, up to its first fault, to the start of `out`.
-fn show_as(
-    alloc: Global,
-    capture: &[u8],
-    limit: u32,
-    options: LineOptions<'_>,
-    out: &mut [u8],
-    size: &mut u64,
-    fault: &mut LinkcapFault,
-) -> u32
-    ensures reported { ReportsWriting limit capture.now result fault.old fault.new }
-    ensures written { Writes (lines (choice_of options.entry) limit capture.now) result size.new out.old out.new }
-    ensures kept_size { KeepsSize result size.old size.new }
-    ensures wanted { result ≡ 4 → size.new ≡ length (lines (choice_of options.entry) limit capture.now) }
-    ensures cause { result ≡ 5 → NeedsMemoryAt limit capture.now fault.new.offset }
-    ensures shown { 16 ≤ limit → DependsOnMeaning (choice_of options.entry) limit capture.now }
-{
-    if !is_limit(limit) {
-        return WRONG;
-    }
-    let mut shown = Vec::new(alloc);
-    match show_bytes(alloc, capture, limit, options, &mut shown) {
-        Ok(()) => copy_text(shown.as_slice(), OK, out, size),
-        Err(found) => {
-            let status = if found.kind == FaultKind::Memory {
-                NO_MEMORY
-            } else {
-                copy_text(shown.as_slice(), FAULT, out, size)
-            };
-            report(status, found, fault)
-        }
-    }
-}
-
-/// Writes the lines of a capture to the start of `out`, or those before its first fault. If `out` is too small for these,
-/// it is unchanged, and their length is reported. It is unchanged, too, if an allocation fails.
-#[unsafe(no_mangle)]
-pub extern "C" fn linkcap_show(
-    alloc: Global,
-    capture: &[u8],
-    limit: u32,
-    out: &mut [u8],
-    size: &mut u64,
-    fault: &mut LinkcapFault,
-) -> u32
-    ensures reported { ReportsWriting limit capture.now result fault.old fault.new }
-    ensures written { Writes (lines everything limit capture.now) result size.new out.old out.new }
-    ensures kept_size { KeepsSize result size.old size.new }
-    ensures wanted { result ≡ 4 → size.new ≡ length (lines everything limit capture.now) }
-    ensures cause { result ≡ 5 → NeedsMemoryAt limit capture.now fault.new.offset }
-    ensures shown { 16 ≤ limit → DependsOnMeaning everything limit capture.now }
-{
-    show_as(
+    frames_are_independent();
+    joined_captures_have_joined_texts();
+    joined_captures_have_the_faults_of_the_second();
+    messages_unfold();
+    pieces_are_joined();
+    write_messages(
         alloc,
-        capture,
+        piece.bytes,
+        piece.offset,
+        piece.last != 0,
         limit,
-        LineOptions::default(),
+        output,
         out,
-        size,
-        fault,
     )
 }
 
-/// Writes lines of a capture as `linkcap_show` does: those of messages of some types alone, where `only` has any, and
-/// without sequence and port numbers where that is asked for.
-#[unsafe(no_mangle)]
-pub extern "C" fn linkcap_show_with(
+/// Writes a piece to the start of `out`, and reports how far that came.
+fn write_some(
     alloc: Global,
-    capture: &[u8],
+    piece: &LinkcapPiece<'_>,
     limit: u32,
-    without_numbers: bool,
-    only: &[u16],
+    output: Output<'_>,
     out: &mut [u8],
-    size: &mut u64,
-    fault: &mut LinkcapFault,
+    progress: &mut LinkcapProgress,
+    fault: &mut LinkcapFinding,
 ) -> u32
-    ensures reported { ReportsWriting limit capture.now result fault.old fault.new }
-    ensures written { Writes (lines (asked without_numbers only.now) limit capture.now) result size.new out.old out.new }
-    ensures kept_size { KeepsSize result size.old size.new }
-    ensures wanted { result ≡ 4 → size.new ≡ length (lines (asked without_numbers only.now) limit capture.now) }
-    ensures cause { result ≡ 5 → NeedsMemoryAt limit capture.now fault.new.offset }
-    ensures shown { 16 ≤ limit → DependsOnMeaning (asked without_numbers only.now) limit capture.now }
+    requires { piece.now.offset + length piece.now.bytes.now < 2 ^ 64 }
+    ensures written { WritesPiece (output_form output.entry) limit piece.now.offset (is_last piece.now)
+        piece.now.bytes.now result progress.new fault.new out.old out.new }
+    ensures kept { KeepsFault result fault.old fault.new }
+    ensures status { (result ≡ 0) ⊎ (result ≡ 2) ⊎ (result ≡ 4) ⊎ (result ≡ 5) }
 {
-    let options = line_options(without_numbers, only);
-    show_as(alloc, capture, limit, options, out, size, fault)
+    pieces_are_joined();
+    let done = write_piece(alloc, piece, limit, output, out);
+    progress.used = done.used as u64;
+    progress.written = done.written as u64;
+    progress.wanted = 0;
+    match done.stop {
+        Stop::Ended => OK,
+        Stop::Fault(kind) => {
+            *fault = of_one(CaptureFault {
+                kind,
+                offset: piece.offset + done.at as u64,
+            });
+            FAULT
+        }
+        Stop::Room(wanted) => {
+            progress.wanted = wanted as u64;
+            NO_ROOM
+        }
+        Stop::Memory => {
+            *fault = of_one(CaptureFault {
+                kind: FaultKind::Memory,
+                offset: piece.offset + done.used as u64,
+            });
+            NO_MEMORY
+        }
+    }
+}
+
+/// The laws of the text and the lines of a capture.
+fn text_is_normal(capture: &[u8], limit: u32)
+    ensures text { HasNormalText limit capture.now }
+    ensures plain { (choice : Choice) → shown (plain choice) limit capture.now ≡ lines choice limit capture.now }
+    ensures meaning { (choice : Choice) → DependsOnMeaning choice limit capture.now }
+{
+    joined_captures_are_legal();
+    joined_captures_have_joined_texts();
+    lines_are_joined();
+    lines_of_messages_are_of_texts();
+    texts_are_legal();
+    texts_are_normal();
+    texts_are_small();
+    texts_determine_meanings();
+    texts_mean_the_same();
+}
+
+/// Whether a piece is valid.
+fn is_valid(piece: &LinkcapPiece<'_>) -> bool
+    ensures valid { IsTrue result → IsValid piece.now }
+    ensures invalid { (result ≡ true → ⊥) → IsInvalid piece.now }
+{
+    piece.reserved == 0 && piece.offset <= u64::MAX - piece.bytes.len() as u64
+}
+
+/// Writes the text, the lines or the JSON of the messages that are whole in a piece of a capture, with their padding,
+/// to the start of `out`, as far as it has capacity; of the last piece the last message may lack padding. The caller
+/// gives the bytes that weren't used again, with more after them. With `KEEP_GOING` a message whose body has the first
+/// fault is written too, and used.
+#[unsafe(no_mangle)]
+pub extern "C" fn linkcap_write(
+    alloc: Global,
+    options: &LinkcapOptions<'_>,
+    piece: &LinkcapPiece<'_>,
+    out: &mut [u8],
+    progress: &mut LinkcapProgress,
+    fault: &mut LinkcapFinding,
+) -> u32
+    ensures written { result ≢ 3 → (f : Form) × Asks options.now f × WritesPiece f (limit_of options.now)
+        piece.now.offset (is_last piece.now) piece.now.bytes.now result progress.new fault.new out.old out.new }
+    ensures wrong { result ≡ 3 → AreInvalid options.now ⊎ (ChooseOfText options.now ⊎ IsInvalid piece.now) }
+    ensures valid { result ≢ 3 → AreValid options.now × IsValid piece.now }
+    ensures kept { KeepsFault result fault.old fault.new }
+    ensures unwritten { result ≡ 3 → (out.new ≡ out.old) × (progress.new ≡ progress.old) }
+    ensures status { (result ≡ 0) ⊎ ((2 ≤ result) × (result ≤ 5)) }
+    // The normal text is legal, canonical, equivalent, and at most 77 times as long.
+    ensures text { result ≢ 3 → HasNormalText (limit_of options.now) piece.now.bytes.now }
+    // Without other options, the lines are those of the texts, and depend only on the capture's meaning.
+    ensures plain { result ≢ 3 → (choice : Choice) → shown (plain choice) (limit_of options.now) piece.now.bytes.now
+        ≡ lines choice (limit_of options.now) piece.now.bytes.now }
+    ensures meaning { result ≢ 3 → (choice : Choice)
+        → DependsOnMeaning choice (limit_of options.now) piece.now.bytes.now }
+{
+    let Some(read) = read_options(options) else {
+        return WRONG;
+    };
+    let Some(output) = output_by(options, &read) else {
+        return WRONG;
+    };
+    if !is_valid(piece) {
+        return WRONG;
+    }
+    text_is_normal(piece.bytes, read.limit);
+    write_some(alloc, piece, read.limit, output, out, progress, fault)
 }

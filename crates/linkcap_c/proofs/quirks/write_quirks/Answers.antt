@@ -18,6 +18,6 @@ quirks-preserved c =
     record {
       can = tt;
       finite = tt;
-      written = subst (λ q. Written c.args.limit c.args.capture.now c.args.out.now (slice_set c.quirks.out c.quirks.written q) (items_left c.next.new.self) (c.quirks.written + 1)) (sym c.of_placed.ensures)
+      written = subst (λ q. Written c.args.limit c.args.capture.now c.args.out.now (slice_set c.quirks.out c.quirks.written q) (items_left c.next.new.self) (c.quirks.written + 1)) (sym c.of_quirk.ensures)
           (written_one c.args.limit c.args.capture.now c.args.out.now c.quirks.out (items_left c.quirks.left) (items_left c.next.new.self) c.in-Some-Ok.found c.quirks.written c.quirks.invariant.written steps);
     }

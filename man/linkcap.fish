@@ -47,7 +47,7 @@ complete -c linkshow -l keep-going -d "show messages with a fault in their body 
 complete -c linkshow -l json -d "write an object of JSON for each message, a line each"
 complete -c linkshow -l limit -x -d "the greatest length of a message in bytes, from 16 to 4294967295"
 complete -c linkshow -l kernels -d "first note on standard error each encoding that kernels treat differently from its normal text"
-complete -c linkshow -l help -d "this text"
+complete -c linkshow -s h -l help -d "this text"
 complete -c linkshow -l version -d "the version of linkshow, and the format version of its lines"
 complete -c linkdiff -s h -l help -d "show this help message and exit"
 complete -c linkdiff -s q -l quiet -d "prints nothing"

@@ -12,7 +12,7 @@ local -a _linkcap_options_linkshow=(
     --json"[write an object of JSON for each message, a line each]"
     --limit"[the greatest length of a message in bytes, from 16 to 4294967295]:limit:"
     --kernels"[first note on standard error each encoding that kernels treat differently from its normal text]"
-    --help"[this text]"
+    '(-h --help)'{-h,--help}"[this text]"
     --version"[the version of linkshow, and the format version of its lines]"
 )
 local -a _linkcap_options_linkdiff=(

@@ -10,7 +10,7 @@ BINDINGS is the folder `bindings`, by default this repository's. Compared are
 - of each constant its value: in Rust those of ffi.rs, the variants of `Kind` and `QuirkKind`, and the numbers that are decoded to
   them; in Python those of _native.py and the members of `Kind` and `QuirkKind`.
 
-A pointer of C is any pointer to the same type in Rust, and c_void_p in Python. What linkcap.h has and a package doesn't declare
+A pointer of C is any pointer to the same type in Rust, and c_void_p in Python; a status is a number of 32 bits. What linkcap.h has and a package doesn't declare
 has to be in UNUSED, so a new function isn't overlooked. Go repeats nothing: cgo reads linkcap.h. The status is 1 if something
 differs.
 """
@@ -28,17 +28,19 @@ from layers import TOP  # noqa: E402
 RUST, PYTHON = "rust/src", "python"
 #: what a package doesn't declare
 UNUSED = {
-    RUST: {"linkcap_show", "linkcap_next_message", "linkcap_message", "LINKCAP_FORMAT", "LINKCAP_NO_MEMORY", "LINKCAP_MEMORY",
-           "LINKCAP_READ", "LINKCAP_WRITE", "LINKCAP_TOO_LONG", "LINKCAP_FAILED"},
-    PYTHON: {"linkcap_next_message", "linkcap_message", "LINKCAP_FORMAT"},
+    RUST: {"LINKCAP_FORMAT", "LINKCAP_WRONG", "LINKCAP_NO_MEMORY", "LINKCAP_MEMORY", "LINKCAP_READ", "LINKCAP_WRITE",
+           "LINKCAP_TOO_LONG", "LINKCAP_FAILED"},
+    PYTHON: {"LINKCAP_FORMAT"},
 }
 PREFIX = "LINKCAP_"
 COMMENT = re.compile(r"/\*.*?\*/|//[^\n]*", re.DOTALL)
 ENUM = re.compile(r"enum \w+ \{(.*?)\}", re.DOTALL)
 PARAMETER = re.compile(r"(.*[ *])(\w+)")
-RUST_TYPES = {"u8": "uint8_t", "u16": "uint16_t", "u32": "uint32_t", "u64": "uint64_t", "usize": "size_t", "bool": "bool"}
+#: how linkcap.h declares a status
+STATUS = "LINKCAP_STATUS"
+RUST_TYPES = {"c_char": "char", "u8": "uint8_t", "u32": "uint32_t", "u64": "uint64_t", "usize": "size_t"}
 RUST_POINTER = re.compile(r"(\*const |\*mut |&mut |&)(\w+)")
-PYTHON_TYPES = {"uint32_t": ctypes.c_uint32, "uint64_t": ctypes.c_uint64, "size_t": ctypes.c_size_t, "bool": ctypes.c_bool}
+PYTHON_TYPES = {"uint32_t": ctypes.c_uint32, "uint64_t": ctypes.c_uint64, "size_t": ctypes.c_size_t}
 
 
 class Declarations(NamedTuple):
@@ -76,7 +78,7 @@ def parameters_in_c(text):
 
 
 def read_header(text):
-    text = COMMENT.sub("", text)
+    text = COMMENT.sub("", text).replace(STATUS + " linkcap", "uint32_t linkcap")
     functions = {name: [("", result), *parameters_in_c(parameters)]
                  for result, name, parameters in re.findall(r"^(\w+) (linkcap_\w+)\((.*?)\);", text, re.MULTILINE | re.DOTALL)}
     structs = {name: [declared_in_c(field) for field in body.split(";")[:-1]]
@@ -93,7 +95,7 @@ def type_of_rust(text):
     """The type of C that a type of Rust is."""
     pointer = RUST_POINTER.fullmatch(text)
     if not pointer:
-        return RUST_TYPES.get(text, text)
+        return RUST_TYPES.get(text) or struct_type(text)
     constant = "const " if pointer[1] in ("*const ", "&") else ""
     return f"{constant}{RUST_TYPES.get(pointer[2]) or struct_type(pointer[2])}*"
 
@@ -105,7 +107,7 @@ def struct_type(name):
 def declared_in_rust(text):
     """Names and types, from the parameters or the fields of Rust."""
     pairs = [part.strip().split(": ") for part in text.split(",") if part.strip()]
-    return [(name.replace("pub ", ""), type_of_rust(kind)) for name, kind in pairs]
+    return [(name.replace("pub ", "").replace("r#", ""), type_of_rust(kind)) for name, kind in pairs]
 
 
 def constant_name(variant):
@@ -167,16 +169,30 @@ def read_python(folder, header):
         package, native = importlib.import_module("linkcap"), importlib.import_module("linkcap._native")
     functions = {name: [("", function.restype), *(("", kind) for kind in function.argtypes)]
                  for name, function in library.functions.items() if hasattr(function, "argtypes")}
-    structs = {"linkcap_" + name[:-len("Struct")].lower(): value._fields_ for name, value in vars(native).items()
-               if isinstance(value, type) and issubclass(value, ctypes.Structure)}
+    structs = {struct_name(value): [(field, type_of_python(kind)) for field, kind in value._fields_]
+               for value in vars(native).values() if is_struct(value)}
     members = [(kind.name, int(kind)) for kinds in (package.Kind, package.QuirkKind) for kind in kinds]
     numbers = [(name, value) for name, value in vars(native).items()
                if name.isupper() and type(value) is int and name not in ("FORMAT", "NOT_NULL")]
     return Declarations(functions, structs, {PREFIX + name: value for name, value in members + numbers})
 
 
+def is_struct(kind):
+    return isinstance(kind, type) and issubclass(kind, ctypes.Structure)
+
+
+def struct_name(kind):
+    """The name in C of a struct of Python."""
+    return "linkcap_" + kind.__name__[:-len("Struct")].lower()
+
+
+def type_of_python(kind):
+    """A type of ctypes, or the type of C that a struct of Python is."""
+    return "struct " + struct_name(kind) if is_struct(kind) else kind
+
+
 def in_ctypes(kind):
-    return ctypes.c_void_p if kind.endswith("*") else PYTHON_TYPES[kind]
+    return ctypes.c_void_p if kind.endswith("*") else PYTHON_TYPES.get(kind, kind)
 
 
 def for_python(header):

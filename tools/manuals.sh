@@ -51,7 +51,10 @@ for command in run effect dump watch pcap strace cut split; do
     done
 done
 # calls: the prototypes in the input, without white space
-calls() { tr -d ' \n' | grep -oE 'uint32_tlinkcap_[a-z_]+\([^;]*\);' | sort; }
+calls() {
+    tr -d ' \n' | sed 's/LINKCAP_STATUS/enumlinkcap_status/g' \
+        | grep -oE '(uint32_t|enumlinkcap_status)linkcap_[a-z_]+\([^;]*\);' | sort
+}
 warnings=$(man --warnings -E UTF-8 -l -Tutf8 -Z man/linkcap.3 2>&1 > /dev/null)
 [ -z "$warnings" ] || fault "man/linkcap.3: $warnings"
 page=$(man -l man/linkcap.3 | col -bx)
@@ -59,7 +62,7 @@ header=$(sed -E ':a;N;$!ba;s#/\*[^*]*\*+([^/*][^*]*\*+)*/##g' bindings/c/linkcap
 synopsis=$(awk '/^SYNOPSIS/ { inside = 1; next } /^[A-Z]/ { inside = 0 } inside' <<< "$page")
 differ=$(comm -3 <(calls <<< "$header") <(calls <<< "$synopsis"))
 [ -z "$differ" ] || fault "man/linkcap.3 and linkcap.h differ: $differ"
-names=$(grep -oE '\bLINKCAP_[A-Z_]+[A-Z]\b|\bstruct linkcap_[a-z]+ \{' <<< "$header" | sed -E 's/^struct | \{$//g; /^LINKCAP_H$/d')
+names=$(grep -oE '\bLINKCAP_[A-Z_]+[A-Z]\b|\bstruct linkcap_[a-z]+ \{' <<< "$header" | sed -E 's/^struct | \{$//g; /^LINKCAP_(H|STATUS)$/d')
 for name in $(sort -u <<< "$names"); do
     grep -qw -- "$name" <<< "$page" || fault "man/linkcap.3: no $name"
 done

@@ -51,7 +51,7 @@ from layers import TOP
 from manual_examples import ManualExamples
 from page_commands import check_requirements, run_all
 
-PAGES = ["README.md", "CHANGELOG.md", "CONTRIBUTING.md", "docs/*.md", "samples/*.md", "bench/**/*.md", "bindings/**/*.md", "tools/**/*.md"]
+PAGES = ["README.md", "CHANGELOG.md", "CONTRIBUTING.md", "docs/**/*.md", "samples/*.md", "bench/**/*.md", "bindings/**/*.md", "tools/**/*.md"]
 MANUALS = ["man/*.[1-9]"]
 MARK = re.compile(r"\s*<!--\s*(.*?)\s*-->\s*")
 FENCE = re.compile(r"(\s*)(```+)\s*([\w+-]*)\s*")

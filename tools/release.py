@@ -226,15 +226,14 @@ def load_backend():
 
 
 def write_python(release, library, folder):
-    """Writes the wheel, with the library, and the sources. The wheel's version is that of the Python package; `unchecked` is the
-    number of its build."""
+    """Writes the wheel, with the library, and the sources. In the wheel's name, `unchecked` is the number of its build."""
     with tempfile.TemporaryDirectory(prefix="linkcap-wheel-") as work:
         Path(work, "liblinkcap.so").write_bytes(library.content)
         os.environ.update(LINKCAP_LIB_DIR=work, SOURCE_DATE_EPOCH=str(release.epoch))
         wheel, sources = load_backend().build_wheel(str(folder)), load_backend().build_sdist(str(folder))
     if not release.is_checked():
         (folder / wheel).rename(folder / wheel.replace("-py3-", "-0%s-py3-" % UNCHECKED))
-    # Its own name, linkcap-2.0.tar.gz, would look like another version of the archive.
+    # Its own name, linkcap-0.1.0.tar.gz, would look like the archive of the programs.
     (folder / sources).rename(folder / ("linkcap-python-%s.tar.gz" % release.named("-")))
 
 

@@ -1,5 +1,5 @@
 #!/usr/bin/env python3
-"""Writes docs/rows.md, the rows of all tables, from the lists that the interpreter and linkshow are made of.
+"""Writes docs/format/rows.md, the rows of all tables, from the lists that the interpreter and linkshow are made of.
 
     tools/rows.py            writes the page
     tools/rows.py --check    ends with status 1 if the page differs from the lists, or if a comment of the grammar
@@ -16,7 +16,7 @@ import re
 import sys
 
 TOP = os.path.join(os.path.dirname(os.path.abspath(__file__)), "..")
-PAGE = os.path.join(TOP, "docs", "rows.md")
+PAGE = os.path.join(TOP, "docs", "format", "rows.md")
 HEAD = """# The rows of all tables
 
 `tools/rows.py` writes this page from the source: the lists of `link_tables`, and the variants of each type's `enum`. A kind that a table doesn't list is a raw attribute, `Other(DefaultNla)`: any payload is accepted, and all 16 bits of the kind are kept. A table has its type, the prefix of its names and their header, then its kinds with name and variant; after a colon the type, and the [shape](shapes.md) if the type doesn't determine it. Numbers are little-endian unless it says big-endian. [attributes.md](attributes.md) has what a list, ports and a peer are; *written nested* is a kind that is written with the nested bit. A record is a struct of its name, whose docstring has its bytes.
@@ -24,7 +24,7 @@ HEAD = """# The rows of all tables
 # Payloads without a shape
 PAYLOADS = {
     "Peer": "a peer",
-    "LinkInfo": "[link info](link_info.md), not empty",
+    "LinkInfo": "[link info](../rattle/link_info.md), not empty",
 }
 LIST_KINDS = {"Any": "a list", "OfKindOne": "a list of kind 1", "Ports": "ports", "NonEmpty": "a list with an attribute"}
 # The types that determine the shape
@@ -285,7 +285,7 @@ def page():
     return "\n".join(out)
 
 
-RAW_HEAD = """What `linkshow` shows of attributes that normalising keeps as they are, by the table of their list, and in the bodies of messages of other types than links. Rows have the kind, the name and the [format](../tools/oracle/lines.md#raw-attributes); `*` is any other kind, and `[]` a name that is the kind.
+RAW_HEAD = """What `linkshow` shows of attributes that normalising keeps as they are, by the table of their list, and in the bodies of messages of other types than links. Rows have the kind, the name and the [format](../../tools/oracle/lines.md#raw-attributes); `*` is any other kind, and `[]` a name that is the kind.
 """
 
 
@@ -347,7 +347,7 @@ def main():
     if sys.argv[1:] == ["--check"]:
         faults = [*differences("message_lists.rt", "link_message_grammar"), *differences("kinds.rt", "link_info_grammar")]
         if open(PAGE, encoding="utf-8").read() != text:
-            faults.append("docs/rows.md differs from the lists: tools/rows.py writes it")
+            faults.append("docs/format/rows.md differs from the lists: tools/rows.py writes it")
         print("\n".join(faults), end="\n" if faults else "")
         sys.exit(1 if faults else 0)
     with open(PAGE, "w", encoding="utf-8") as file:

@@ -138,7 +138,6 @@ import (
 	"os"
 	"testing"
 
-	"linkcap.invalid/linkcap"
 	"linkcap.invalid/linkcap/linkcaptest"
 )
 
@@ -147,7 +146,7 @@ func golden(t *testing.T, name string) {
 	if err != nil {
 		t.Fatal(err)
 	}
-	linkcaptest.GoldenLines(t, capture, "$sample/req-veth.lines", linkcap.LineOptions{})
+	linkcaptest.GoldenWith(t, capture, "$sample/req-veth.lines", linkcaptest.GoldenOptions{Numbers: true})
 }
 
 func TestEqual(t *testing.T) { golden(t, "req-veth.bin") }

@@ -1,6 +1,6 @@
 #!/usr/bin/env python3
 """Checks the independent implementation: the examples worked by hand (worked.tsv),
-and the laws of docs/normal-text.md and docs/showing.md over the stored captures and
+and the laws of docs/format/normal-text.md and docs/showing.md over the stored captures and
 mutations of them.
 
     tools/oracle/check.py [SEED [COUNT]]

@@ -41,7 +41,7 @@ LEAST_LIMIT = 16
 GREATEST_LIMIT = 4294967295
 
 # --------------------------------------------------------------------------
-# Faults (docs/frames.md)
+# Faults (docs/format/frames.md)
 
 FAULT_KINDS = {
     1: ("Cut", "cut frame"),

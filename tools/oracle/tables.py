@@ -1,7 +1,7 @@
 """Shapes, and the tables of rows.tsv, for linkoracle.py, linkshow.py and values.py.
 
-A row is a shape (docs/shapes.md), a list, a peer, or a choice that depends on
-its context.  A table has a row for each of its kinds (docs/rows.md).
+A row is a shape (docs/format/shapes.md), a list, a peer, or a choice that depends on
+its context.  A table has a row for each of its kinds (docs/format/rows.md).
 """
 import os
 import re
@@ -39,7 +39,7 @@ def p32(n):
 
 
 # --------------------------------------------------------------------------
-# Shapes (docs/shapes.md)
+# Shapes (docs/format/shapes.md)
 
 class Shape:
     """The row of a payload that holds no attributes, as three functions:

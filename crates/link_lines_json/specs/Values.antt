@@ -94,14 +94,18 @@ word_json is_bytes word = cond (not is_bytes && is_number word) word (string wor
 -- The members of a set's bits: its number and the names, under these keys.
 unfoldable pub set_json : List ℕ → List ℕ → TermText → List ℕ
 set_json number flags (word, names) =
-    key number ++ (decimal (hex_value word) ++ (codes ", " ++ (key flags ++ flags_json names)))
+    key number ++ (decimal (hex_value word) ++ (next_key flags ++ flags_json names))
+
+-- A text in quotes and that it was one, or a word.
+abbrev pub text_or_word : Bool → List ℕ → List ℕ
+text_or_word is_bytes word =
+    cond (is_quoted word) (requoted word ++ (next_key (codes "quoted") ++ codes "true")) (word_json is_bytes word)
 
 -- The members of a value, and of the brackets after it.
 unfoldable pub members_json : Bool → TermText → List ℕ
 members_json is_bytes (word, names) =
     cond (is_hex word) (set_json (codes "value") (codes "flags") (word, names))
-    (key (codes "value") ++
-    (cond (is_quoted word) (requoted word ++ (next_key (codes "quoted") ++ codes "true")) (word_json is_bytes word) ++ text_json names))
+    (key (codes "value") ++ (text_or_word is_bytes word ++ text_json names))
 
 -- Whether a value has one member alone.
 abbrev pub is_bare : TermText → Bool

@@ -1,6 +1,7 @@
 //! The entries of lists of attributes as JSON.
 
-ghost use Rattle.std.specs.Prelude.{◌≡◌, ◌∷◌, ◌++◌, false, flat_map, OnOk};
+ghost use Rattle.std.specs.Prelude.{◌≡◌, ◌∷◌, false, flat_map};
+ghost use Rattle.link_lines_values.specs.Appends.{Appends};
 ghost use Rattle.link_lines_json.specs.Strings.{escaped};
 ghost use Rattle.link_lines_json.specs.Attributes.{attribute_json, counted_json, entry_json, first_of, first_payload, is_lower};
 ghost use Rattle.link_lines_json.specs.Attributes.{joined, kind_json, list_json, mask_json, nested_and_payload, nested_payload};
@@ -30,7 +31,7 @@ pub(crate) fn first_of(text: &[u8]) -> &[u8]
 
 /// Appends the bytes of a string for a term as a line has it.
 fn push_term(term: Term<'_>, out: &mut Vec<u8>) -> Result<(), AllocError>
-    ensures ok { OnOk result (out.new.items ≡ out.old.items ++ flat_map escaped (term_words (term_text term.entry))) }
+    ensures { Appends out.old out.new result (flat_map escaped (term_words (term_text term.entry))) }
 {
     push_escaped_text(term.word, out)?;
     if let Some(names) = term.names {
@@ -43,7 +44,7 @@ fn push_term(term: Term<'_>, out: &mut Vec<u8>) -> Result<(), AllocError>
 
 /// Appends a space between terms.
 fn push_space(after: bool, out: &mut Vec<u8>) -> Result<(), AllocError>
-    ensures ok { OnOk result (out.new.items ≡ out.old.items ++ space after) }
+    ensures { Appends out.old out.new result (space after) }
 {
     if after {
         out.extend_from_slice(b" ")
@@ -54,7 +55,7 @@ fn push_space(after: bool, out: &mut Vec<u8>) -> Result<(), AllocError>
 
 /// Appends the bytes of a string for the terms of a text.
 fn push_joined(text: &[u8], out: &mut Vec<u8>) -> Result<(), AllocError>
-    ensures ok { OnOk result (out.new.items ≡ out.old.items ++ joined false (terms text.now)) }
+    ensures { Appends out.old out.new result (joined false (terms text.now)) }
 {
     let mut is_after = false;
     let mut left = text;
@@ -70,7 +71,7 @@ fn push_joined(text: &[u8], out: &mut Vec<u8>) -> Result<(), AllocError>
 /// Appends the terms of a text as one string.
 #[tactic(auto, unfolding(crate::specs::Attributes::terms_string))]
 pub(crate) fn push_terms_string(text: &[u8], out: &mut Vec<u8>) -> Result<(), AllocError>
-    ensures ok { OnOk result (out.new.items ≡ out.old.items ++ terms_string (terms text.now)) }
+    ensures { Appends out.old out.new result (terms_string (terms text.now)) }
 {
     out.extend_from_slice(b"\"")?;
     push_joined(text, out)?;
@@ -80,7 +81,7 @@ pub(crate) fn push_terms_string(text: &[u8], out: &mut Vec<u8>) -> Result<(), Al
 /// Appends the terms of a text as a list.
 #[tactic(auto, unfolding(crate::specs::Attributes::list_json))]
 fn push_list(text: &[u8], out: &mut Vec<u8>) -> Result<(), AllocError>
-    ensures ok { OnOk result (out.new.items ≡ out.old.items ++ list_json (terms text.now)) }
+    ensures { Appends out.old out.new result (list_json (terms text.now)) }
 {
     out.extend_from_slice(b"[")?;
     push_elements(text, out)?;
@@ -90,7 +91,7 @@ fn push_list(text: &[u8], out: &mut Vec<u8>) -> Result<(), AllocError>
 /// Appends the terms of a text as a list of numbers, or as one string.
 #[tactic(auto, unfolding(crate::specs::Attributes::several_json))]
 fn push_several(text: &[u8], out: &mut Vec<u8>) -> Result<(), AllocError>
-    ensures ok { OnOk result (out.new.items ≡ out.old.items ++ several_json (terms text.now)) }
+    ensures { Appends out.old out.new result (several_json (terms text.now)) }
 {
     if are_numbers(text) {
         push_list(text, out)
@@ -102,7 +103,7 @@ fn push_several(text: &[u8], out: &mut Vec<u8>) -> Result<(), AllocError>
 /// Appends the mask of a set's bits, which is the first term of a text.
 #[tactic(auto, unfolding(crate::specs::Attributes::mask_json))]
 fn push_mask(text: &[u8], out: &mut Vec<u8>) -> Result<(), AllocError>
-    ensures ok { OnOk result (out.new.items ≡ out.old.items ++ mask_json (terms text.now)) }
+    ensures { Appends out.old out.new result (mask_json (terms text.now)) }
 {
     match split_term(text) {
         Some((mask, _)) => {
@@ -123,8 +124,7 @@ fn push_value_or_several(
     out: &mut Vec<u8>,
 ) -> Result<(), AllocError>
     requires { terms text.now ≡ term_text term ∷ terms rest.now }
-    ensures ok { OnOk result (out.new.items ≡ out.old.items
-        ++ value_or_several is_bytes (term_text term.entry) (terms rest.now)) }
+    ensures { Appends out.old out.new result (value_or_several is_bytes (term_text term.entry) (terms rest.now)) }
 {
     match split_term(rest) {
         Some((next, behind)) => {
@@ -142,7 +142,7 @@ fn push_value_or_several(
 /// Appends the fields of a record.
 #[tactic(auto, unfolding(crate::specs::Attributes::record_json))]
 fn push_record(text: &[u8], out: &mut Vec<u8>) -> Result<(), AllocError>
-    ensures ok { OnOk result (out.new.items ≡ out.old.items ++ record_json (terms text.now)) }
+    ensures { Appends out.old out.new result (record_json (terms text.now)) }
 {
     push_key(b"value", out)?;
     out.extend_from_slice(b"{")?;
@@ -153,7 +153,7 @@ fn push_record(text: &[u8], out: &mut Vec<u8>) -> Result<(), AllocError>
 /// Appends the fields of a record after the number of them.
 #[tactic(auto, unfolding(crate::specs::Attributes::counted_json))]
 fn push_counted(text: &[u8], out: &mut Vec<u8>) -> Result<(), AllocError>
-    ensures ok { OnOk result (out.new.items ≡ out.old.items ++ counted_json (terms text.now)) }
+    ensures { Appends out.old out.new result (counted_json (terms text.now)) }
 {
     let Some((count, rest)) = split_term(text) else {
         return Ok(());
@@ -174,8 +174,7 @@ fn push_first_payload(
     out: &mut Vec<u8>,
 ) -> Result<(), AllocError>
     requires { terms text.now ≡ term_text term ∷ terms rest.now }
-    ensures ok { OnOk result (out.new.items ≡ out.old.items
-        ++ first_payload name.now (term_text term.entry) (terms rest.now)) }
+    ensures { Appends out.old out.new result (first_payload name.now (term_text term.entry) (terms rest.now)) }
 {
     if term.word == b"bytes".as_slice() {
         push_key(b"bytes", out)?;
@@ -197,7 +196,7 @@ fn push_first_payload(
 /// Appends the payload of an attribute with this name, if it has one.
 #[tactic(auto, unfolding(crate::specs::Attributes::payload_json))]
 fn push_payload(name: &[u8], text: &[u8], out: &mut Vec<u8>) -> Result<(), AllocError>
-    ensures ok { OnOk result (out.new.items ≡ out.old.items ++ payload_json name.now (terms text.now)) }
+    ensures { Appends out.old out.new result (payload_json name.now (terms text.now)) }
 {
     let Some((term, rest)) = split_term(text) else {
         return Ok(());
@@ -209,7 +208,7 @@ fn push_payload(name: &[u8], text: &[u8], out: &mut Vec<u8>) -> Result<(), Alloc
 /// Appends the payload of an attribute with the nested bit.
 #[tactic(auto, unfolding(crate::specs::Attributes::nested_payload))]
 fn push_nested_payload(name: &[u8], text: &[u8], out: &mut Vec<u8>) -> Result<(), AllocError>
-    ensures ok { OnOk result (out.new.items ≡ out.old.items ++ nested_payload name.now (terms text.now)) }
+    ensures { Appends out.old out.new result (nested_payload name.now (terms text.now)) }
 {
     push_next_key(b"nested_bit", out)?;
     out.extend_from_slice(b"true")?;
@@ -219,7 +218,7 @@ fn push_nested_payload(name: &[u8], text: &[u8], out: &mut Vec<u8>) -> Result<()
 /// Appends the nested bit and the payload of an attribute with this name.
 #[tactic(auto, unfolding(crate::specs::Attributes::nested_and_payload))]
 fn push_nested_and_payload(name: &[u8], text: &[u8], out: &mut Vec<u8>) -> Result<(), AllocError>
-    ensures ok { OnOk result (out.new.items ≡ out.old.items ++ nested_and_payload name.now (terms text.now)) }
+    ensures { Appends out.old out.new result (nested_and_payload name.now (terms text.now)) }
 {
     let Some((term, rest)) = split_term(text) else {
         return Ok(());
@@ -233,7 +232,7 @@ fn push_nested_and_payload(name: &[u8], text: &[u8], out: &mut Vec<u8>) -> Resul
 /// Appends an attribute with a name.
 #[tactic(auto, unfolding(crate::specs::Attributes::attribute_json))]
 fn push_attribute(name: &[u8], text: &[u8], out: &mut Vec<u8>) -> Result<(), AllocError>
-    ensures ok { OnOk result (out.new.items ≡ out.old.items ++ attribute_json name.now (terms text.now)) }
+    ensures { Appends out.old out.new result (attribute_json name.now (terms text.now)) }
 {
     push_key(b"name", out)?;
     push_string(name, out)?;
@@ -243,7 +242,7 @@ fn push_attribute(name: &[u8], text: &[u8], out: &mut Vec<u8>) -> Result<(), All
 /// Appends an attribute of a kind without a name.
 #[tactic(auto, unfolding(crate::specs::Attributes::kind_json))]
 fn push_kind(text: &[u8], out: &mut Vec<u8>) -> Result<(), AllocError>
-    ensures ok { OnOk result (out.new.items ≡ out.old.items ++ kind_json (terms text.now)) }
+    ensures { Appends out.old out.new result (kind_json (terms text.now)) }
 {
     let Some((kind, rest)) = split_term(text) else {
         return Ok(());
@@ -267,7 +266,7 @@ pub(crate) fn is_lower(word: &[u8]) -> bool
 /// Appends a struct among attributes.
 #[tactic(auto, unfolding(crate::specs::Attributes::struct_json))]
 fn push_struct(name: &[u8], text: &[u8], out: &mut Vec<u8>) -> Result<(), AllocError>
-    ensures ok { OnOk result (out.new.items ≡ out.old.items ++ struct_json name.now (terms text.now)) }
+    ensures { Appends out.old out.new result (struct_json name.now (terms text.now)) }
 {
     push_key(b"struct", out)?;
     push_string(name, out)?;
@@ -280,7 +279,7 @@ fn push_struct(name: &[u8], text: &[u8], out: &mut Vec<u8>) -> Result<(), AllocE
 /// Appends the members of an entry of a list of attributes.
 #[tactic(auto, unfolding(crate::specs::Attributes::entry_json))]
 pub(crate) fn push_entry(word: &[u8], text: &[u8], out: &mut Vec<u8>) -> Result<(), AllocError>
-    ensures ok { OnOk result (out.new.items ≡ out.old.items ++ entry_json word.now (terms text.now)) }
+    ensures { Appends out.old out.new result (entry_json word.now (terms text.now)) }
 {
     if word == b"kind".as_slice() {
         push_kind(text, out)

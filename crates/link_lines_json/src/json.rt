@@ -1,11 +1,12 @@
 //! A message's lines as an object of JSON.
 
-ghost use Rattle.std.specs.Prelude.{◌≡◌, ◌∷◌, ◌++◌, IfOk, OnOk};
+ghost use Rattle.std.specs.Prelude.{◌≡◌, ◌∷◌, ◌++◌, codes, IfOk};
+ghost use Rattle.link_lines_values.specs.Appends.{Appends};
 ghost use Rattle.link_lines_json.specs.Json.{closing, ending, entry_depth, header_json, is_member, json};
 ghost use Rattle.link_lines_json.specs.Json.{line_json, lines_json, line_terms, member_json, next_entry, numbered_json};
 ghost use Rattle.link_lines_json.specs.Json.{open_after, opening, request_json, sized_json, struct_object};
 ghost use Rattle.link_lines_json.specs.Json.{typed_json, without_newline};
-ghost use Rattle.link_lines_parts.specs.Lines.{after_first_word, lines_of};
+ghost use Rattle.link_lines_parts.specs.Lines.{after_first_word, first_word, lines_of};
 ghost use Rattle.link_lines_json.specs.Tokens.{terms};
 
 use crate::attributes::{first_of, is_lower, push_entry, push_terms_string};
@@ -28,7 +29,7 @@ fn after_first_word(line: &[u8]) -> &[u8]
 /// Appends the number of a message type without a name, and the fields after it.
 #[tactic(auto, unfolding(crate::specs::Json::numbered_json))]
 fn push_numbered(text: &[u8], out: &mut Vec<u8>) -> Result<(), AllocError>
-    ensures ok { OnOk result (out.new.items ≡ out.old.items ++ numbered_json (terms text.now)) }
+    ensures { Appends out.old out.new result (numbered_json (terms text.now)) }
 {
     let Some((number, rest)) = split_term(text) else {
         push_key(b"type", out)?;
@@ -42,7 +43,7 @@ fn push_numbered(text: &[u8], out: &mut Vec<u8>) -> Result<(), AllocError>
 /// Appends the type of a message, by its name or number, and the fields after it.
 #[tactic(auto, unfolding(crate::specs::Json::typed_json))]
 fn push_typed(word: &[u8], text: &[u8], out: &mut Vec<u8>) -> Result<(), AllocError>
-    ensures ok { OnOk result (out.new.items ≡ out.old.items ++ typed_json word.now (terms text.now)) }
+    ensures { Appends out.old out.new result (typed_json word.now (terms text.now)) }
 {
     if word == b"type".as_slice() {
         return push_numbered(text, out);
@@ -55,7 +56,7 @@ fn push_typed(word: &[u8], text: &[u8], out: &mut Vec<u8>) -> Result<(), AllocEr
 /// Appends a request's header of a size, and what a message's line has.
 #[tactic(auto, unfolding(crate::specs::Json::sized_json))]
 fn push_sized(size: &[u8], word: &[u8], text: &[u8], out: &mut Vec<u8>) -> Result<(), AllocError>
-    ensures ok { OnOk result (out.new.items ≡ out.old.items ++ sized_json size.now word.now (terms text.now)) }
+    ensures { Appends out.old out.new result (sized_json size.now word.now (terms text.now)) }
 {
     out.extend_from_slice(b"{")?;
     push_key(b"length", out)?;
@@ -68,7 +69,7 @@ fn push_sized(size: &[u8], word: &[u8], text: &[u8], out: &mut Vec<u8>) -> Resul
 /// Appends the header of a request that an error repeats.
 #[tactic(auto, unfolding(crate::specs::Json::request_json))]
 fn push_request(text: &[u8], out: &mut Vec<u8>) -> Result<(), AllocError>
-    ensures ok { OnOk result (out.new.items ≡ out.old.items ++ request_json (terms text.now)) }
+    ensures { Appends out.old out.new result (request_json (terms text.now)) }
 {
     let Some((_, sized)) = split_term(text) else {
         return out.extend_from_slice(b"{}");
@@ -85,7 +86,7 @@ fn push_request(text: &[u8], out: &mut Vec<u8>) -> Result<(), AllocError>
 /// Appends a struct with its fields.
 #[tactic(auto, unfolding(crate::specs::Json::struct_object))]
 fn push_struct_object(word: &[u8], text: &[u8], out: &mut Vec<u8>) -> Result<(), AllocError>
-    ensures ok { OnOk result (out.new.items ≡ out.old.items ++ struct_object word.now (terms text.now)) }
+    ensures { Appends out.old out.new result (struct_object word.now (terms text.now)) }
 {
     out.extend_from_slice(b"{")?;
     push_key(b"struct", out)?;
@@ -97,7 +98,7 @@ fn push_struct_object(word: &[u8], text: &[u8], out: &mut Vec<u8>) -> Result<(),
 /// Appends the header of a message's body.
 #[tactic(auto, unfolding(crate::specs::Json::header_json))]
 fn push_header(word: &[u8], text: &[u8], out: &mut Vec<u8>) -> Result<(), AllocError>
-    ensures ok { OnOk result (out.new.items ≡ out.old.items ++ header_json word.now (terms text.now)) }
+    ensures { Appends out.old out.new result (header_json word.now (terms text.now)) }
 {
     push_key(b"header", out)?;
     push_struct_object(word, text, out)
@@ -106,7 +107,7 @@ fn push_header(word: &[u8], text: &[u8], out: &mut Vec<u8>) -> Result<(), AllocE
 /// Appends the member that a line is.
 #[tactic(auto, unfolding(crate::specs::Json::member_json))]
 fn push_member(word: &[u8], text: &[u8], out: &mut Vec<u8>) -> Result<(), AllocError>
-    ensures ok { OnOk result (out.new.items ≡ out.old.items ++ member_json word.now (terms text.now)) }
+    ensures { Appends out.old out.new result (member_json word.now (terms text.now)) }
 {
     if word == b"body".as_slice() || word == b"rest".as_slice() {
         push_key(word, out)?;
@@ -129,7 +130,7 @@ fn push_member(word: &[u8], text: &[u8], out: &mut Vec<u8>) -> Result<(), AllocE
 
 /// Appends the ends of lists in entries, and of these entries.
 fn push_closing(count: usize, out: &mut Vec<u8>) -> Result<(), AllocError>
-    ensures ok { OnOk result (out.new.items ≡ out.old.items ++ closing count) }
+    ensures { Appends out.old out.new result (closing count) }
 {
     let mut left = count;
     'lists: while left > 0 {
@@ -142,7 +143,7 @@ fn push_closing(count: usize, out: &mut Vec<u8>) -> Result<(), AllocError>
 /// Appends the end of what is open and the start of an entry at a depth, given how many lists are
 /// open: at least one.
 fn push_next_entry(lists: usize, depth: usize, out: &mut Vec<u8>) -> Result<(), AllocError>
-    ensures ok { OnOk result (out.new.items ≡ out.old.items ++ next_entry lists depth) }
+    ensures { Appends out.old out.new result (next_entry lists depth) }
 {
     if lists < depth {
         push_next_key(b"nested", out)?;
@@ -155,7 +156,7 @@ fn push_next_entry(lists: usize, depth: usize, out: &mut Vec<u8>) -> Result<(), 
 
 /// Appends the start of an entry at a depth, given how many lists are open.
 fn push_opening(lists: usize, depth: usize, out: &mut Vec<u8>) -> Result<(), AllocError>
-    ensures ok { OnOk result (out.new.items ≡ out.old.items ++ opening lists depth) }
+    ensures { Appends out.old out.new result (opening lists depth) }
 {
     if lists > 0 {
         return push_next_entry(lists, depth, out);
@@ -166,7 +167,7 @@ fn push_opening(lists: usize, depth: usize, out: &mut Vec<u8>) -> Result<(), All
 
 /// Appends the end of a message, given how many lists are open.
 fn push_ending(lists: usize, out: &mut Vec<u8>) -> Result<(), AllocError>
-    ensures ok { OnOk result (out.new.items ≡ out.old.items ++ ending lists) }
+    ensures { Appends out.old out.new result (ending lists) }
 {
     if lists == 0 {
         push_next_key(b"attributes", out)?;
@@ -197,18 +198,25 @@ fn is_member(lists: usize, line: &[u8]) -> bool
     lists == 0 && is_lower(word) && word != b"kind".as_slice()
 }
 
+/// Appends the member that a line is, after another one.
+fn push_next_member(word: &[u8], text: &[u8], out: &mut Vec<u8>) -> Result<(), AllocError>
+    ensures { Appends out.old out.new result (codes ", " ++ member_json word.now (terms text.now)) }
+{
+    out.extend_from_slice(b", ")?;
+    push_member(word, text, out)
+}
+
 /// Appends a line, given how many lists the lines before it left open. Returns how many are open
 /// after it.
 #[tactic(auto, unfolding(crate::specs::Json::line_json))]
 fn push_line(lists: usize, line: &[u8], out: &mut Vec<u8>) -> Result<usize, AllocError>
-    ensures ok { OnOk result (out.new.items ≡ out.old.items ++ line_json lists line.now) }
+    ensures appends { Appends out.old out.new result (line_json lists line.now) }
     ensures open { IfOk result (λ after. after ≡ open_after lists line.now) }
 {
     let word = first_word(line);
     let text = after_first_word(line);
     if is_member(lists, line) {
-        out.extend_from_slice(b", ")?;
-        push_member(word, text, out)?;
+        push_next_member(word, text, out)?;
         return Ok(0);
     }
     let depth = entry_depth(lists, level(line));
@@ -219,7 +227,7 @@ fn push_line(lists: usize, line: &[u8], out: &mut Vec<u8>) -> Result<usize, Allo
 
 /// Appends the lines after the first one of a message, and its end.
 fn push_lines(lines: &[u8], out: &mut Vec<u8>) -> Result<(), AllocError>
-    ensures ok { OnOk result (out.new.items ≡ out.old.items ++ lines_json 0 (lines_of lines.now)) }
+    ensures { Appends out.old out.new result (lines_json 0 (lines_of lines.now)) }
 {
     let mut lists = 0;
     let mut left = lines;
@@ -230,21 +238,29 @@ fn push_lines(lines: &[u8], out: &mut Vec<u8>) -> Result<(), AllocError>
     push_ending(lists, out)
 }
 
+/// Appends the start of a message, up to the end of its first line.
+fn push_start(line: &[u8], out: &mut Vec<u8>) -> Result<(), AllocError>
+    ensures { Appends out.old out.new result (123 ∷ typed_json (first_word line.now) (line_terms line.now)) }
+{
+    out.extend_from_slice(b"{")?;
+    push_typed(first_word(line), after_first_word(line), out)
+}
+
 /// Appends the lines of a message as an object of JSON (RFC 8259) in a line of its own; nothing if
 /// there are no lines. Its members are those that the lines show; in a text in quotes each byte
 /// becomes the character of the same number.
 ///
 /// # Errors
 ///
-/// `AllocError` if `out` can't grow; it may then have a part of the object.
+/// `AllocError` if `out` lacked capacity for the object and can't grow; what it held stays, and a
+/// part of the object may follow.
 #[tactic(auto, unfolding(crate::specs::Json::json))]
 pub fn push_json(lines: &[u8], out: &mut Vec<u8>) -> Result<(), AllocError>
-    ensures ok { OnOk result (out.new.items ≡ out.old.items ++ json lines.now) }
+    ensures { Appends out.old out.new result (json lines.now) }
 {
     let Some((first, rest)) = split_line(lines) else {
         return Ok(());
     };
-    out.extend_from_slice(b"{")?;
-    push_typed(first_word(first), after_first_word(first), out)?;
+    push_start(first, out)?;
     push_lines(rest, out)
 }

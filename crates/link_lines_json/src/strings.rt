@@ -1,6 +1,7 @@
 //! Strings of JSON (RFC 8259).
 
-ghost use Rattle.std.specs.Prelude.{◌≡◌, ◌++◌, ◌∷◌, [], codes, flat_map, OnOk};
+ghost use Rattle.std.specs.Prelude.{flat_map};
+ghost use Rattle.link_lines_values.specs.Appends.{Appends};
 ghost use Rattle.link_lines_json.specs.Strings.{after_backslash, escaped, requoted, string};
 
 use link_lines_values::hex_byte;
@@ -8,7 +9,7 @@ use std::alloc::AllocError;
 
 /// Appends a byte of a string, escaped where it must be.
 fn push_escaped(byte: u8, out: &mut Vec<u8>) -> Result<(), AllocError>
-    ensures ok { OnOk result (out.new.items ≡ out.old.items ++ escaped byte) }
+    ensures { Appends out.old out.new result (escaped byte) }
 {
     if byte == b'"' || byte == b'\\' {
         return out.extend_from_slice(&[b'\\', byte]);
@@ -22,7 +23,7 @@ fn push_escaped(byte: u8, out: &mut Vec<u8>) -> Result<(), AllocError>
 
 /// Appends the bytes of a string, without its quotes.
 pub(crate) fn push_escaped_text(text: &[u8], out: &mut Vec<u8>) -> Result<(), AllocError>
-    ensures ok { OnOk result (out.new.items ≡ out.old.items ++ flat_map escaped text.now) }
+    ensures { Appends out.old out.new result (flat_map escaped text.now) }
 {
     for byte in text {
         push_escaped(*byte, out)?;
@@ -32,7 +33,7 @@ pub(crate) fn push_escaped_text(text: &[u8], out: &mut Vec<u8>) -> Result<(), Al
 
 /// Appends the string of a text.
 pub(crate) fn push_string(text: &[u8], out: &mut Vec<u8>) -> Result<(), AllocError>
-    ensures ok { OnOk result (out.new.items ≡ out.old.items ++ string text.now) }
+    ensures { Appends out.old out.new result (string text.now) }
 {
     out.extend_from_slice(b"\"")?;
     push_escaped_text(text, out)?;
@@ -41,7 +42,7 @@ pub(crate) fn push_string(text: &[u8], out: &mut Vec<u8>) -> Result<(), AllocErr
 
 /// Appends a byte after a backslash: of `\xnn` the `u00` of `\u00nn`.
 fn push_after_backslash(byte: u8, out: &mut Vec<u8>) -> Result<(), AllocError>
-    ensures ok { OnOk result (out.new.items ≡ out.old.items ++ after_backslash byte) }
+    ensures { Appends out.old out.new result (after_backslash byte) }
 {
     if byte == b'x' {
         out.extend_from_slice(b"u00")
@@ -52,7 +53,7 @@ fn push_after_backslash(byte: u8, out: &mut Vec<u8>) -> Result<(), AllocError>
 
 /// Appends the string of a text in quotes, as lines have it.
 pub(crate) fn push_requoted(text: &[u8], out: &mut Vec<u8>) -> Result<(), AllocError>
-    ensures ok { OnOk result (out.new.items ≡ out.old.items ++ requoted text.now) }
+    ensures { Appends out.old out.new result (requoted text.now) }
 {
     let mut escapes = false;
     for byte in text {

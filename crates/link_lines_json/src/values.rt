@@ -1,6 +1,7 @@
 //! Values and fields of lines as JSON.
 
-ghost use Rattle.std.specs.Prelude.{◌≡◌, ◌<◌, ◌++◌, false, [], drop, map, flat_map, option_map, OnOk};
+ghost use Rattle.std.specs.Prelude.{◌≡◌, ◌<◌, false, drop, map, flat_map, option_map};
+ghost use Rattle.link_lines_values.specs.Appends.{Appends};
 ghost use Rattle.link_lines_parts.specs.Lines.{words_of};
 ghost use Rattle.link_lines_json.specs.Tokens.{term_text, terms};
 ghost use Rattle.link_lines_json.specs.Values.{are_numbers, assignment_json, assignments_json, begins_with_equals_sign, elements_json, field_json};
@@ -8,7 +9,7 @@ ghost use Rattle.link_lines_json.specs.Values.{fields_json};
 ghost use Rattle.link_lines_json.specs.Values.{flag_json, flags_json, hex_after, hex_digit, hex_value, is_address_field};
 ghost use Rattle.link_lines_json.specs.Values.{is_assignment, is_bare, is_digit, is_hex, is_in_key, is_natural, is_number};
 ghost use Rattle.link_lines_json.specs.Values.{is_plain_number, is_quoted, key, key_size, members_json, next_key, separator, set_json};
-ghost use Rattle.link_lines_json.specs.Values.{text_json, value_json, with_digit, without_sign, word_json};
+ghost use Rattle.link_lines_json.specs.Values.{text_json, text_or_word, value_json, with_digit, without_sign, word_json};
 ghost use Rattle.std.specs.List.{list_all, prefix_len};
 
 use crate::strings::{push_requoted, push_string};
@@ -124,7 +125,7 @@ fn is_number(word: &[u8]) -> bool
 
 /// Appends the separator before a member, if there is a member before it.
 pub(crate) fn push_separator(after: bool, out: &mut Vec<u8>) -> Result<(), AllocError>
-    ensures ok { OnOk result (out.new.items ≡ out.old.items ++ separator after) }
+    ensures { Appends out.old out.new result (separator after) }
 {
     if after {
         out.extend_from_slice(b", ")
@@ -136,7 +137,7 @@ pub(crate) fn push_separator(after: bool, out: &mut Vec<u8>) -> Result<(), Alloc
 /// Appends the name of a member.
 #[tactic(auto, unfolding(crate::specs::Values::key))]
 pub(crate) fn push_key(name: &[u8], out: &mut Vec<u8>) -> Result<(), AllocError>
-    ensures ok { OnOk result (out.new.items ≡ out.old.items ++ key name.now) }
+    ensures { Appends out.old out.new result (key name.now) }
 {
     push_string(name, out)?;
     out.extend_from_slice(b": ")
@@ -145,7 +146,7 @@ pub(crate) fn push_key(name: &[u8], out: &mut Vec<u8>) -> Result<(), AllocError>
 /// Appends the name of a member after another one.
 #[tactic(auto, unfolding(crate::specs::Values::next_key))]
 pub(crate) fn push_next_key(name: &[u8], out: &mut Vec<u8>) -> Result<(), AllocError>
-    ensures ok { OnOk result (out.new.items ≡ out.old.items ++ next_key name.now) }
+    ensures { Appends out.old out.new result (next_key name.now) }
 {
     out.extend_from_slice(b", ")?;
     push_key(name, out)
@@ -153,7 +154,7 @@ pub(crate) fn push_next_key(name: &[u8], out: &mut Vec<u8>) -> Result<(), AllocE
 
 /// Appends a name among those of a set's bits, or a comma for what separates them.
 fn push_flag(word: &[u8], out: &mut Vec<u8>) -> Result<(), AllocError>
-    ensures ok { OnOk result (out.new.items ≡ out.old.items ++ flag_json word.now) }
+    ensures { Appends out.old out.new result (flag_json word.now) }
 {
     if word == b"|".as_slice() {
         out.extend_from_slice(b", ")
@@ -164,8 +165,7 @@ fn push_flag(word: &[u8], out: &mut Vec<u8>) -> Result<(), AllocError>
 
 /// Appends the names of a set's bits, each with a byte before it.
 fn push_flag_words(names: &[u8], out: &mut Vec<u8>) -> Result<(), AllocError>
-    ensures ok { OnOk result (out.new.items ≡ out.old.items
-        ++ flat_map flag_json (map (λ word. drop 1 word) (words_of names.now))) }
+    ensures { Appends out.old out.new result (flat_map flag_json (map (λ word. drop 1 word) (words_of names.now))) }
 {
     let mut left = names;
     while let Some((word, rest)) = split_word(left) {
@@ -178,8 +178,7 @@ fn push_flag_words(names: &[u8], out: &mut Vec<u8>) -> Result<(), AllocError>
 /// Appends the names of a set's bits as a list.
 #[tactic(auto, unfolding(crate::specs::Values::flags_json))]
 fn push_flags(names: Option<&[u8]>, out: &mut Vec<u8>) -> Result<(), AllocError>
-    ensures ok { OnOk result (out.new.items ≡ out.old.items
-        ++ flags_json (option_map (λ names. names.now) names.entry)) }
+    ensures { Appends out.old out.new result (flags_json (option_map (λ names. names.now) names.entry)) }
 {
     out.extend_from_slice(b"[")?;
     if let Some(names) = names {
@@ -190,8 +189,7 @@ fn push_flags(names: Option<&[u8]>, out: &mut Vec<u8>) -> Result<(), AllocError>
 
 /// Appends the text of the brackets after a value.
 fn push_text(names: Option<&[u8]>, out: &mut Vec<u8>) -> Result<(), AllocError>
-    ensures ok { OnOk result (out.new.items ≡ out.old.items
-        ++ text_json (option_map (λ names. names.now) names.entry)) }
+    ensures { Appends out.old out.new result (text_json (option_map (λ names. names.now) names.entry)) }
 {
     let Some(names) = names else {
         return Ok(());
@@ -203,7 +201,7 @@ fn push_text(names: Option<&[u8]>, out: &mut Vec<u8>) -> Result<(), AllocError>
 /// Appends a word that is neither a number in hex nor a text in quotes.
 #[tactic(auto, unfolding(crate::specs::Values::word_json))]
 pub(crate) fn push_word(is_bytes: bool, word: &[u8], out: &mut Vec<u8>) -> Result<(), AllocError>
-    ensures ok { OnOk result (out.new.items ≡ out.old.items ++ word_json is_bytes word.now) }
+    ensures { Appends out.old out.new result (word_json is_bytes word.now) }
 {
     if !is_bytes && is_number(word) {
         out.extend_from_slice(word)
@@ -220,14 +218,24 @@ pub(crate) fn push_set(
     term: Term<'_>,
     out: &mut Vec<u8>,
 ) -> Result<(), AllocError>
-    ensures ok { OnOk result (out.new.items ≡ out.old.items
-        ++ set_json number.now flags.now (term_text term.entry)) }
+    ensures { Appends out.old out.new result (set_json number.now flags.now (term_text term.entry)) }
 {
     push_key(number, out)?;
     push_decimal(hex_value(term.word), out)?;
-    out.extend_from_slice(b", ")?;
-    push_key(flags, out)?;
+    push_next_key(flags, out)?;
     push_flags(term.names, out)
+}
+
+/// Appends a text in quotes and that it was one, or a word.
+fn push_text_or_word(is_bytes: bool, word: &[u8], out: &mut Vec<u8>) -> Result<(), AllocError>
+    ensures { Appends out.old out.new result (text_or_word is_bytes word.now) }
+{
+    if !is_quoted(word) {
+        return push_word(is_bytes, word, out);
+    }
+    push_requoted(word, out)?;
+    push_next_key(b"quoted", out)?;
+    out.extend_from_slice(b"true")
 }
 
 /// Appends the members of a value, and of the brackets after it.
@@ -237,19 +245,13 @@ pub(crate) fn push_members(
     term: Term<'_>,
     out: &mut Vec<u8>,
 ) -> Result<(), AllocError>
-    ensures ok { OnOk result (out.new.items ≡ out.old.items ++ members_json is_bytes (term_text term.entry)) }
+    ensures { Appends out.old out.new result (members_json is_bytes (term_text term.entry)) }
 {
     if is_hex(term.word) {
         return push_set(b"value", b"flags", term, out);
     }
     push_key(b"value", out)?;
-    if is_quoted(term.word) {
-        push_requoted(term.word, out)?;
-        push_next_key(b"quoted", out)?;
-        out.extend_from_slice(b"true")?;
-    } else {
-        push_word(is_bytes, term.word, out)?;
-    }
+    push_text_or_word(is_bytes, term.word, out)?;
     push_text(term.names, out)
 }
 
@@ -270,7 +272,7 @@ pub(crate) fn push_value(
     term: Term<'_>,
     out: &mut Vec<u8>,
 ) -> Result<(), AllocError>
-    ensures ok { OnOk result (out.new.items ≡ out.old.items ++ value_json is_bytes (term_text term.entry)) }
+    ensures { Appends out.old out.new result (value_json is_bytes (term_text term.entry)) }
 {
     if is_bare(term) {
         return push_word(is_bytes, term.word, out);
@@ -291,8 +293,7 @@ fn is_address_field(name: &[u8]) -> bool
 /// Appends a field with a name and a value.
 #[tactic(auto, unfolding(crate::specs::Values::field_json))]
 fn push_field(name: Term<'_>, value: Term<'_>, out: &mut Vec<u8>) -> Result<(), AllocError>
-    ensures ok { OnOk result (out.new.items ≡ out.old.items
-        ++ field_json (term_text name.entry) (term_text value.entry)) }
+    ensures { Appends out.old out.new result (field_json (term_text name.entry) (term_text value.entry)) }
 {
     push_key(name.word, out)?;
     push_value(is_address_field(name.word), value, out)
@@ -300,7 +301,7 @@ fn push_field(name: Term<'_>, value: Term<'_>, out: &mut Vec<u8>) -> Result<(), 
 
 /// Appends fields as headers have them, a name and a value each.
 pub(crate) fn push_fields(after: bool, text: &[u8], out: &mut Vec<u8>) -> Result<(), AllocError>
-    ensures ok { OnOk result (out.new.items ≡ out.old.items ++ fields_json after (terms text.now)) }
+    ensures { Appends out.old out.new result (fields_json after (terms text.now)) }
 {
     let mut is_after = after;
     let mut left = text;
@@ -350,7 +351,7 @@ pub(crate) fn is_assignment(word: &[u8]) -> bool
 /// Appends a field of a record.
 #[tactic(auto, using(link_lines_parts::proofs::FirstParts::prefix_within), unfolding(crate::specs::Values::assignment_json))]
 fn push_assignment(term: Term<'_>, out: &mut Vec<u8>) -> Result<(), AllocError>
-    ensures ok { OnOk result (out.new.items ≡ out.old.items ++ assignment_json (term_text term.entry)) }
+    ensures { Appends out.old out.new result (assignment_json (term_text term.entry)) }
 {
     let (key, rest) = term.word.split_at(key_size(term.word));
     push_key(key, out)?;
@@ -363,7 +364,7 @@ fn push_assignment(term: Term<'_>, out: &mut Vec<u8>) -> Result<(), AllocError>
 
 /// Appends fields as records have them.
 pub(crate) fn push_assignments(text: &[u8], out: &mut Vec<u8>) -> Result<(), AllocError>
-    ensures ok { OnOk result (out.new.items ≡ out.old.items ++ assignments_json false (terms text.now)) }
+    ensures { Appends out.old out.new result (assignments_json false (terms text.now)) }
 {
     let mut is_after = false;
     let mut left = text;
@@ -403,7 +404,7 @@ pub(crate) fn are_numbers(text: &[u8]) -> bool
 
 /// Appends the terms of a text as elements of a list.
 pub(crate) fn push_elements(text: &[u8], out: &mut Vec<u8>) -> Result<(), AllocError>
-    ensures ok { OnOk result (out.new.items ≡ out.old.items ++ elements_json false (terms text.now)) }
+    ensures { Appends out.old out.new result (elements_json false (terms text.now)) }
 {
     let mut is_after = false;
     let mut left = text;

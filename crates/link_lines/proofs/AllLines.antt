@@ -7,7 +7,7 @@ use Rattle.link_lines.specs.MessageLines.{IsWhole, Selection, is_about_any, plac
 pub all_selected : NothingOmittedKeepsAll → (o : Selection) → IsWhole o → (lines : List ℕ) → selected o lines ≡ lines
 all_selected all o w lines =
     ap (λ link. cond (is_about_any link lines) (remaining_lines o.omitted lines) []) w.link
-    ∙ ap (λ omitted. remaining_lines omitted lines) w.omitted ∙ all lines
+    ∙ ap (λ omitted. remaining_lines omitted lines) w.omitted ∙ all o.omitted.numbers lines
 
 -- The selections of the laws show all lines.
 pub all_are_whole : IsWhole all_messages × IsWhole all_messages_with_offsets

@@ -2,7 +2,7 @@
 use Rattle.std.proofs.Common.{◌≡◌, ◌&&◌, ℕ, Bool, true, false, cond, refl, ap, ◌∙◌, List, [], ◌∷◌, ◌++◌, nat_lt, Option, Some, None}
 use Rattle.link_lines.specs.MessageLaws.{NothingOmittedKeepsAll}
 use Rattle.link_lines_parts.specs.Lines.{level, is_in_line, lines_of, with_byte}
-use Rattle.link_lines_parts.specs.Remaining.{line_text, nothing_omitted, remaining_after}
+use Rattle.link_lines_parts.specs.Remaining.{line_text, numbers_omitted, remaining_after}
 
 -- The text of some lines.
 abbrev joined : List (List ℕ) → List ℕ
@@ -26,11 +26,11 @@ none_omitted : (b : Bool) → (b && false) ≡ false
 none_omitted true = refl
 none_omitted false = refl
 
-remains : (lines : List (List ℕ)) → remaining_after nothing_omitted None lines ≡ joined lines
-remains [] = refl
-remains (line ∷ lines) =
-    let text = λ (begun : Option ℕ). line_text nothing_omitted begun line ++ remaining_after nothing_omitted begun lines in
-    ap (λ b. text (cond b (Some (level line)) None)) (none_omitted (nat_lt 0 (level line))) ∙ ap (λ t. line ++ t) (remains lines)
+remains : (numbers : Bool) (lines : List (List ℕ)) → remaining_after (numbers_omitted numbers) None lines ≡ joined lines
+remains numbers [] = refl
+remains numbers (line ∷ lines) =
+    let text = λ (begun : Option ℕ). line_text (numbers_omitted numbers) begun line ++ remaining_after (numbers_omitted numbers) begun lines in
+    ap (λ b. text (cond b (Some (level line)) None)) (none_omitted (nat_lt 0 (level line))) ∙ ap (λ t. line ++ t) (remains numbers lines)
 
 pub all_kept : NothingOmittedKeepsAll
-all_kept text = remains (lines_of text) ∙ joined_lines text
+all_kept numbers text = remains numbers (lines_of text) ∙ joined_lines text

@@ -11,7 +11,6 @@ pub mod Progress
 pub mod Selecting
 pub mod WordLists
 pub mod TypeNames
-pub mod Gathered
 pub mod ReasonLines
 pub mod FaultyDetermined
 pub mod MessagesDetermined

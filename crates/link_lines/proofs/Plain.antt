@@ -24,7 +24,7 @@ module _ (choice : Choice) (go : CapturesUnfoldByFrames link_body) (joined : Lin
   unfolding messages_lines
   next_plain offset c (Ok frame) after rest e more =
       let text = go.one_frame_text limit c frame e in
-      ap (λ x. x ++ messages_lines (plain choice) (after (nla_align frame.0 - 1))) (all (text_lines choice frame.1))
+      ap (λ x. x ++ messages_lines (plain choice) (after (nla_align frame.0 - 1))) (all false (text_lines choice frame.1))
       ∙ ap (λ x. text_lines choice frame.1 ++ x) (more (nla_align frame.0 - 1))
       ∙ ap (λ t. text_lines choice t ++ text_lines choice (rest (nla_align frame.0 - 1))) (sym text)
       ∙ sym (joined choice limit (take (nla_align frame.0) c) (rest (nla_align frame.0 - 1)) small)

@@ -1,9 +1,11 @@
 pub use Rattle.link_lines_parts.specs.Lines
+pub use Rattle.link_lines_parts.specs.Remaining
 pub use Rattle.link_lines_json.specs.Json
 pub mod About
 pub mod Offsets
 pub mod Messages
 pub mod MessageLines
+pub mod Memory
 pub mod Options
 pub mod Refused
 pub mod Outcomes

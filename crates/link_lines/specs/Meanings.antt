@@ -1,13 +1,9 @@
 -- The lines of a capture depend only on its meaning.
-use Rattle.std.specs.Prelude.{◌≡◌, ℕ, ◌%◌, List, ◌++◌, length, Vec}
+use Rattle.std.specs.Prelude.{◌≡◌, ℕ, ◌<◌, ◌^◌, ◌%◌, List, ◌++◌, length, Vec}
 use Rattle.link_capture_grammar.specs.Captures.{texts, IsLegal}
 use Rattle.link_capture_grammar.specs.Same.{SameCapture}
 use Rattle.link_lines_texts.specs.Captures.{Choice, lines}
 use Rattle.link_lines.specs.MessageLines.{Selection, shown}
-
--- A buffer gained the lines of c, up to its first fault.
-abbrev pub GainsLines : {Y Z : Type 0} → Choice → ℕ → List ℕ → Vec ℕ Y → Vec ℕ Z → Type 0
-GainsLines o limit c old new = new.items ≡ old.items ++ lines o limit c
 
 -- A buffer gained the lines of c that are selected.
 abbrev pub GainsShown : {Y Z : Type 0} → Selection → ℕ → List ℕ → Vec ℕ Y → Vec ℕ Z → Type 0
@@ -27,3 +23,7 @@ pub record DependsOnMeaning (o : Choice) (limit : ℕ) (c : List ℕ) : Type 0 w
   pub normal : ShownAlike o limit (texts limit c) c
   pub same : (other : List ℕ) → SameCapture limit c other → ShownAlike o limit other c
   pub joined : IsLegal limit c → length c % 4 ≡ 0 → IsShownAtStart o limit c
+
+-- So is every capture.
+abbrev pub LinesDependOnMeaning : Type 0
+LinesDependOnMeaning = (choice : Choice) (limit : ℕ) (c : List ℕ) → limit < 2 ^ 32 → DependsOnMeaning choice limit c

@@ -8,7 +8,7 @@ use Rattle.link_capture_grammar.specs.Captures.{first_frame, first_fault}
 use Rattle.link_capture_grammar.specs.declared.fault.CaptureFault.{CaptureFault}
 use Rattle.link_capture_grammar.specs.declared.fault.FaultKind.{FaultKind}
 use Rattle.link_lines_texts.specs.Captures.{Choice, everything, lines}
-use Rattle.link_lines_parts.specs.Remaining.{nothing_omitted, remaining_lines}
+use Rattle.link_lines_parts.specs.Remaining.{nothing_omitted, numbers_omitted, remaining_lines}
 use Rattle.link_lines.specs.MessageLines.{Selection, shown}
 use Rattle.link_lines.specs.Messages.{Message, Message.Accepted, Message.Faulty, Message.Last, Report, first_report}
 use Rattle.link_lines.specs.Messages.{frame_of, frame_reason, is_of_body, messages, messages_at}
@@ -37,14 +37,21 @@ abbrev pub FirstFaultsAreReported : Type 0
 FirstFaultsAreReported = (k : Bool) (limit : ℕ) (c : List ℕ) →
     first_report (messages k limit c) ≡ option_map (reported c) (first_fault limit c)
 
--- All lines remain if nothing is left out.
+-- All lines remain if nothing is left out but numbers.
 abbrev pub NothingOmittedKeepsAll : Type 0
-NothingOmittedKeepsAll = (text : List ℕ) → remaining_lines nothing_omitted text ≡ text
+NothingOmittedKeepsAll = (numbers : Bool) (text : List ℕ) → remaining_lines (numbers_omitted numbers) text ≡ text
 
 -- The selection that shows all lines of a capture up to its first fault.
 abbrev pub plain : Choice → Selection
-plain choice =
-    record { choice = choice; link = None; omitted = nothing_omitted; offsets = false; keep_going = false; json = false }
+plain choice = record {
+  numbers = choice.numbers;
+  only = choice.only;
+  link = None;
+  omitted = nothing_omitted;
+  offsets = false;
+  keep_going = false;
+  json = false;
+}
 
 -- A capture of which all is shown up to its first fault has the lines of its texts.
 abbrev pub LinesOfMessagesAreOfTexts : Type 0

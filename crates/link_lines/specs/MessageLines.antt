@@ -1,5 +1,5 @@
 -- The lines of a capture's messages.
-use Rattle.std.specs.Prelude.{◌≡◌, ℕ, Bool, true, false, cond, List, [], ◌∷◌, ◌++◌, codes, take, drop, flat_map}
+use Rattle.std.specs.Prelude.{◌≡◌, ◌&&◌, ℕ, Bool, true, false, not, cond, List, [], ◌∷◌, ◌++◌, codes, take, drop, flat_map}
 use Rattle.std.specs.Prelude.{Option, None, Some}
 use Rattle.netlink_packet_core_grammar.specs.Frames.{frame_type}
 use Rattle.link_capture_grammar.specs.Faults.{words}
@@ -10,23 +10,29 @@ use Rattle.link_capture_refusals.specs.Refusals.{Found, frame_refusal}
 use Rattle.link_capture_refusals.specs.RefusalTexts.{path_text}
 use Rattle.link_lines.specs.About.{is_about}
 use Rattle.link_lines.specs.Offsets.{with_offset}
-use Rattle.link_lines_parts.specs.Remaining.{Omitted, nothing_omitted, remaining_lines}
+use Rattle.link_lines_parts.specs.Remaining.{Omitted, numbers_omitted, remaining_lines}
 use Rattle.link_lines_json.specs.Json.{json}
 use Rattle.link_lines_texts.specs.Captures.{Choice, is_chosen, text_lines}
 use Rattle.link_lines_texts.specs.Frames.{frame_lines}
 use Rattle.link_lines_parts.specs.BytesLines.{bytes_line}
 use Rattle.link_lines.specs.Messages.{Message, Message.Accepted, Message.Faulty, Message.Last, messages}
 
--- What is shown of a capture: which types, and whether numbers; the link that messages have to be about, if one is
--- given; what is left out of lines; whether each message's offset is shown; whether messages with a fault of their
--- body are shown too, and those after them; and whether a message's lines become an object of JSON.
+-- What is shown of a capture: whether sequence and port numbers, if they aren't among what is left out; the types of
+-- messages if not all are; the link that messages have to be about, if one is given; what is left out of lines; whether
+-- each message's offset is shown; whether messages with a fault of their body are shown too, and those after them; and
+-- whether a message's lines become an object of JSON.
 pub record Selection : Type 0 where
-  pub choice : Choice
+  pub numbers : Bool
+  pub only : Option (List ℕ)
   pub link : Option (List ℕ)
   pub omitted : Omitted
   pub offsets : Bool
   pub keep_going : Bool
   pub json : Bool
+
+-- The lines of normal texts of which a selection is made: whether numbers are shown, and which types.
+abbrev pub choice_of : Selection → Choice
+choice_of o = record { numbers = not o.omitted.numbers && o.numbers; only = o.only }
 
 -- Whether a message's lines are about a link, if one is given.
 abbrev pub is_about_any : Option (List ℕ) → List ℕ → Bool
@@ -40,7 +46,7 @@ selected o lines = cond (is_about_any o.link lines) (remaining_lines o.omitted l
 -- All lines of messages about any link are shown.
 pub record IsWhole (o : Selection) : Type 0 where
   pub link : o.link ≡ None
-  pub omitted : o.omitted ≡ nothing_omitted
+  pub omitted : o.omitted ≡ numbers_omitted o.omitted.numbers
 
 -- The text of a refusal without its offset.
 abbrev pub refusal_words : Option Found → List ℕ
@@ -78,10 +84,10 @@ placed_lines o offset lines = formed o.json (located o.offsets offset (selected 
 
 -- The lines of a message. One at which showing stops has none.
 abbrev pub message_lines : Selection → Message → List ℕ
-message_lines o (Accepted offset text) = placed_lines o offset (text_lines o.choice text)
+message_lines o (Accepted offset text) = placed_lines o offset (text_lines (choice_of o) text)
 message_lines o (Faulty offset kind frame) =
     placed_lines o offset
-    (cond (is_chosen o.choice.only (frame_type frame)) (faulty_lines o.choice.numbers kind frame) [])
+    (cond (is_chosen o.only (frame_type frame)) (faulty_lines (choice_of o).numbers kind frame) [])
 message_lines o (Last offset kind frame) = []
 
 -- The lines of messages.

@@ -142,10 +142,10 @@ pub fn show<S: Source, K: Sink>(
     source: &mut S,
     sink: &mut K,
     limit: u32,
-    options: ShowOptions<'_>,
+    options: &ShowOptions<'_>,
 ) -> Result<bool, ShowFault>
     requires { 16 ≤ limit }
-    ensures { Shows (selection_of options.entry) (S.to_come source.old) (S.to_come source.new)
+    ensures { Shows (selection_of options.now) (S.to_come source.old) (S.to_come source.new)
         (K.holds sink.old) (K.holds sink.new)
         (ReportsItsEnd (S.ends_reported source.old) (S.ends_reported source.new) (S.to_come source.new))
         (Rises (S.failures source.old) (S.failures source.new))
@@ -164,11 +164,11 @@ pub fn show_keeping_first<S: Source, K: Sink>(
     source: &mut S,
     sink: &mut K,
     limit: u32,
-    options: ShowOptions<'_>,
+    options: &ShowOptions<'_>,
     first: &mut FirstBytes,
 ) -> Result<bool, ShowFault>
     requires { 16 ≤ limit }
-    ensures { ShowsKeeping first.new.items (selection_of options.entry)
+    ensures { ShowsKeeping first.new.items (selection_of options.now)
         (S.to_come source.old) (S.to_come source.new) (K.holds sink.old) (K.holds sink.new)
         (ReportsItsEnd (S.ends_reported source.old) (S.ends_reported source.new) (S.to_come source.new))
         (Rises (S.failures source.old) (S.failures source.new))

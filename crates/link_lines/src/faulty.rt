@@ -1,10 +1,12 @@
 //! Messages with a fault of their body: their lines, and the fault as it is reported.
 
-ghost use Rattle.std.specs.Prelude.{◌≡◌, ◌<◌, ◌+◌, ◌^◌, ◌++◌, ◌∷◌, map, length, OnOk};
+ghost use Rattle.std.specs.Prelude.{◌≡◌, map};
 ghost use Rattle.netlink_packet_core_grammar.specs.Frames.{IsFrame};
 ghost use Rattle.link_capture_grammar.specs.declared.fault.FaultKind.{FaultKind};
 ghost use Rattle.link_capture_refusals.specs.RefusalTexts.{path_text};
 ghost use Rattle.link_capture_refusals.specs.RefusalViews.{all_found};
+ghost use Rattle.link_lines_values.specs.Appends.{Appends};
+ghost use Rattle.link_lines_texts.specs.AppendsWith.{AppendsWith};
 ghost use Rattle.link_lines.specs.MessageLines.{body_reason, faulty_lines, refusal_line};
 ghost use Rattle.link_lines.specs.Messages.{frame_of, frame_reason, is_of_body};
 
@@ -29,7 +31,7 @@ pub(crate) fn is_of_body(kind: FaultKind) -> bool
 
 /// Appends the names of attributes, outermost first, and a colon if there are any.
 fn push_path(path: &[&'static str], out: &mut Vec<u8>) -> Result<(), AllocError>
-    ensures ok { OnOk result (out.new.items ≡ out.old.items ++ path_text (map (λ n. n.now) path.now)) }
+    ensures { Appends out.old out.new result (path_text (map (λ n. n.now) path.now)) }
 {
     let mut left = path;
     'names: while let [name, rest @ ..] = left {
@@ -43,7 +45,7 @@ fn push_path(path: &[&'static str], out: &mut Vec<u8>) -> Result<(), AllocError>
 /// Appends the reason why a message's body isn't accepted, given the message's bytes.
 fn push_reason(kind: FaultKind, frame: &[u8], out: &mut Vec<u8>) -> Result<(), AllocError>
     requires { IsFrame frame.now }
-    ensures ok { OnOk result (out.new.items ≡ out.old.items ++ body_reason kind frame.now) }
+    ensures { Appends out.old out.new result (body_reason kind frame.now) }
 {
     match kind {
         FaultKind::Refused => match why_frame(frame, 0) {
@@ -61,7 +63,7 @@ fn push_reason(kind: FaultKind, frame: &[u8], out: &mut Vec<u8>) -> Result<(), A
 #[tactic(auto, unfolding(crate::specs::MessageLines::refusal_line))]
 fn push_refusal_line(kind: FaultKind, frame: &[u8], out: &mut Vec<u8>) -> Result<(), AllocError>
     requires { IsFrame frame.now }
-    ensures ok { OnOk result (out.new.items ≡ out.old.items ++ refusal_line kind frame.now) }
+    ensures { Appends out.old out.new result (refusal_line kind frame.now) }
 {
     out.extend_from_slice(b"  refused: ")?;
     push_reason(kind, frame, out)?;
@@ -78,7 +80,7 @@ pub(crate) fn push_faulty(
     out: &mut Vec<u8>,
 ) -> Result<(), AllocError>
     requires { IsFrame frame.now }
-    ensures ok { OnOk result (out.new.items ≡ out.old.items ++ faulty_lines numbers kind frame.now) }
+    ensures { AppendsWith 16 out.old out.new result (faulty_lines numbers kind frame.now) }
 {
     push_frame(&frame[..NETLINK_HEADER_LEN], numbers, out)?;
     push_refusal_line(kind, frame, out)?;

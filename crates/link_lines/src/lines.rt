@@ -2,11 +2,12 @@
 
 ghost use Rattle.std.specs.Prelude.{◌≡◌, ◌<◌, ◌≤◌, ◌^◌, length, drop};
 ghost use Rattle.netlink_packet_core_grammar.specs.Attributes.{nla_align};
-ghost use Rattle.link_lines.specs.Options.{choice_of};
+ghost use Rattle.link_lines.specs.MessageLines.{choice_of};
+ghost use Rattle.link_lines.specs.Options.{selection_of};
 ghost use Rattle.link_lines_texts.specs.AppendsWith.{AppendsWith};
 ghost use Rattle.link_lines_texts.specs.Captures.{shown_lines, text_lines};
 
-use crate::options::LineOptions;
+use crate::options::ShowOptions;
 use link_lines_texts::laws::lines_unfold_by_frames;
 use link_lines_texts::push_frame;
 use netlink_packet_core::{NetlinkBuffer, first_frame_len, nla_align};
@@ -26,19 +27,19 @@ fn after_padding(bytes: &[u8], size: usize) -> &[u8]
 }
 
 /// Appends the lines of a frame, given by its bytes without the padding, if its type is shown.
-fn push_shown(frame: &[u8], options: LineOptions<'_>, out: &mut Vec<u8>) -> Result<(), AllocError>
+fn push_shown(frame: &[u8], options: &ShowOptions<'_>, out: &mut Vec<u8>) -> Result<(), AllocError>
     requires { 16 ≤ length frame.now }
     ensures { AppendsWith (length frame.now) out.old out.new result
-        (shown_lines (choice_of options.entry) frame.now) }
+        (shown_lines (choice_of (selection_of options.now)) frame.now) }
 {
     if !options.shows(NetlinkBuffer::new(frame).message_type()) {
         return Ok(());
     }
-    push_frame(frame, !options.without_numbers, out)
+    push_frame(frame, options.shows_numbers(), out)
 }
 
 /// Appends the lines of some bytes, which are read as normal text, up to the first position at
-/// which no whole frame begins.
+/// which no whole frame begins: those of the types that the options choose, with numbers or without.
 ///
 /// # Errors
 ///
@@ -46,11 +47,11 @@ fn push_shown(frame: &[u8], options: LineOptions<'_>, out: &mut Vec<u8>) -> Resu
 /// grow; what it held stays, and a part of the lines may follow.
 pub fn push_lines(
     texts: &[u8],
-    options: LineOptions<'_>,
+    options: &ShowOptions<'_>,
     out: &mut Vec<u8>,
 ) -> Result<(), AllocError>
     ensures { AppendsWith (length texts.now) out.old out.new result
-        (text_lines (choice_of options.entry) texts.now) }
+        (text_lines (choice_of (selection_of options.now)) texts.now) }
 {
     lines_unfold_by_frames();
     let mut rest = texts;

@@ -3,6 +3,7 @@
 
 ghost use Rattle.link_lines.specs.MessageLaws.{FirstFaultsAreReported, LinesDetermineContents, LinesDetermineOffsets};
 ghost use Rattle.link_lines.specs.MessageLaws.{LinesOfMessagesAreOfTexts, MessagesUnfold, NothingOmittedKeepsAll};
+ghost use Rattle.link_lines.specs.Meanings.{LinesDependOnMeaning};
 ghost use Rattle.link_lines.specs.Pieces.{PiecesAreJoined};
 
 /// The messages of a capture are determined one by one.
@@ -20,7 +21,7 @@ pub fn first_faults_are_reported()
     ensures { FirstFaultsAreReported }
 {}
 
-/// All lines remain if nothing is left out.
+/// All lines remain if nothing is left out but numbers.
 pub fn nothing_omitted_keeps_all()
     ensures { NothingOmittedKeepsAll }
 {}
@@ -28,6 +29,13 @@ pub fn nothing_omitted_keeps_all()
 /// A capture of which all is shown up to its first fault has the lines of its texts.
 pub fn lines_of_messages_are_of_texts()
     ensures { LinesOfMessagesAreOfTexts }
+{}
+
+/// The lines of a capture up to its first fault depend only on its meaning: a capture has the lines of
+/// its texts, and of any capture that means the same; and what follows a legal one, whose size is a
+/// multiple of 4, is shown independently of it.
+pub fn lines_depend_on_meaning()
+    ensures { LinesDependOnMeaning }
 {}
 
 /// Two captures of which all messages are shown, also those with a fault of their body, have the

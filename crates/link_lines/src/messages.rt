@@ -2,6 +2,8 @@
 
 ghost use Rattle.std.specs.Prelude.{◌≡◌, ◌≤◌, ◌<◌, ◌+◌, ◌^◌, ◌++◌, length, drop, IfErr, IfOk, OnErr, OnOk, Some};
 ghost use Rattle.netlink_packet_core_grammar.specs.Frames.{IsFrame, frame_length};
+ghost use Rattle.link_lines_values.specs.Appends.{Appends};
+ghost use Rattle.link_lines.specs.Memory.{Becomes, LacksMemory, LacksPlaced, LacksShown, LacksText};
 ghost use Rattle.link_lines.specs.MessageLines.{formed, located, message_lines, placed_lines, selected};
 ghost use Rattle.link_lines.specs.Messages.{Message.Accepted, Message.Faulty, frame_of, report_of};
 ghost use Rattle.link_lines.specs.Options.{selection_of};
@@ -98,6 +100,7 @@ fn judge_frame(
     requires len { len ≡ frame_length bytes.now }
     ensures ok { IfOk result (λ judgement. IsJudged limit bytes.now text.new.items judgement) }
     ensures memory { OnErr result (IsAccepted limit bytes.now) }
+    ensures cause { OnErr result (LacksText limit bytes.now text.old) }
 {
     text.clear();
     match push_text(bytes, limit, text) {
@@ -114,6 +117,7 @@ fn judge_frame(
 fn judge(bytes: &[u8], limit: u32, text: &mut Vec<u8>) -> Result<Judgement, AllocError>
     ensures ok { IfOk result (λ judgement. IsJudged limit bytes.now text.new.items judgement) }
     ensures memory { OnErr result (IsAccepted limit bytes.now) }
+    ensures cause { OnErr result (LacksText limit bytes.now text.old) }
 {
     frames_are_judged();
     match frame_len(bytes, limit) {
@@ -125,12 +129,12 @@ fn judge(bytes: &[u8], limit: u32, text: &mut Vec<u8>) -> Result<Judgement, Allo
 /// Leaves in `lines` what is selected of them.
 #[tactic(auto, using(crate::proofs::AllLines::all_selected))]
 fn select(
-    options: ShowOptions<'_>,
+    options: &ShowOptions<'_>,
     lines: &mut Vec<u8>,
     spare: &mut Vec<u8>,
 ) -> Result<(), AllocError>
-    ensures ok { OnOk result (lines.new.items
-        ≡ selected (selection_of options.entry) lines.old.items) }
+    ensures { Becomes lines.old spare.old lines.new spare.new result
+        (selected (selection_of options.now) lines.old.items) }
 {
     nothing_omitted_keeps_all();
     if options.selects_all() {
@@ -138,7 +142,7 @@ fn select(
     }
     spare.clear();
     if options.is_about_link(lines.as_slice()) {
-        push_remaining(lines.as_slice(), options.omission, spare)?;
+        push_remaining(lines.as_slice(), &options.without, spare)?;
     }
     swap(lines, spare);
     Ok(())
@@ -151,7 +155,8 @@ fn locate(
     lines: &mut Vec<u8>,
     spare: &mut Vec<u8>,
 ) -> Result<(), AllocError>
-    ensures ok { OnOk result (lines.new.items ≡ located offsets offset lines.old.items) }
+    ensures { Becomes lines.old spare.old lines.new spare.new result
+        (located offsets offset lines.old.items) }
 {
     if !offsets || lines.is_empty() {
         return Ok(());
@@ -164,7 +169,7 @@ fn locate(
 
 /// Leaves in `lines` the object of JSON that they become, if it is shown.
 fn form(json: bool, lines: &mut Vec<u8>, spare: &mut Vec<u8>) -> Result<(), AllocError>
-    ensures ok { OnOk result (lines.new.items ≡ formed json lines.old.items) }
+    ensures { Becomes lines.old spare.old lines.new spare.new result (formed json lines.old.items) }
 {
     if !json {
         return Ok(());
@@ -178,7 +183,7 @@ fn form(json: bool, lines: &mut Vec<u8>, spare: &mut Vec<u8>) -> Result<(), Allo
 /// Appends a text to `out`, or nothing if an allocation fails. If `out` is empty and too small, it
 /// gets the memory of the text in place of a copy.
 fn append_or_take(text: &mut Vec<u8>, out: &mut Vec<u8>) -> Result<(), AllocError>
-    ensures ok { OnOk result (out.new.items ≡ out.old.items ++ text.old.items) }
+    ensures appends { Appends out.old out.new result text.old.items }
     ensures err { OnErr result (out.new.items ≡ out.old.items) }
 {
     if out.is_empty() && out.capacity() < text.len() {
@@ -191,14 +196,16 @@ fn append_or_take(text: &mut Vec<u8>, out: &mut Vec<u8>) -> Result<(), AllocErro
 /// Appends what is shown of the lines of a message at an offset, or nothing if an allocation fails.
 /// Each step leaves its result in `lines`, so a message takes the memory of two of them at a time.
 fn push_placed(
-    options: ShowOptions<'_>,
+    options: &ShowOptions<'_>,
     offset: u64,
     lines: &mut Vec<u8>,
     spare: &mut Vec<u8>,
     out: &mut Vec<u8>,
 ) -> Result<(), AllocError>
     ensures ok { OnOk result (out.new.items ≡ out.old.items
-        ++ placed_lines (selection_of options.entry) offset lines.old.items) }
+        ++ placed_lines (selection_of options.now) offset lines.old.items) }
+    ensures memory { OnErr result (LacksPlaced (selection_of options.now) offset lines.old.items
+        lines.old spare.old out.old) }
     ensures err { OnErr result (out.new.items ≡ out.old.items) }
 {
     select(options, lines, spare)?;
@@ -210,25 +217,27 @@ fn push_placed(
 /// Appends the lines of an accepted message, whose normal text is in the buffers, or nothing if an
 /// allocation fails.
 fn push_accepted(
-    options: ShowOptions<'_>,
+    options: &ShowOptions<'_>,
     offset: u64,
     buffers: &mut Buffers,
     out: &mut Vec<u8>,
 ) -> Result<(), AllocError>
     ensures ok { OnOk result (out.new.items ≡ out.old.items
-        ++ message_lines (selection_of options.entry) (Accepted offset buffers.old.text.items)) }
+        ++ message_lines (selection_of options.now) (Accepted offset buffers.old.text.items)) }
+    ensures memory { OnErr result (LacksShown (selection_of options.now)
+        (Accepted offset buffers.old.text.items) buffers.old out.old) }
     ensures err { OnErr result (out.new.items ≡ out.old.items) }
 {
     let Buffers { text, lines, spare } = buffers;
     lines.clear();
-    push_lines(text.as_slice(), options.lines, lines)?;
+    push_lines(text.as_slice(), options, lines)?;
     push_placed(options, offset, lines, spare, out)
 }
 
 /// Appends the lines of a message with a fault of its body, if its type is shown, or nothing if an
 /// allocation fails.
 fn push_refused(
-    options: ShowOptions<'_>,
+    options: &ShowOptions<'_>,
     offset: u64,
     kind: FaultKind,
     frame: &[u8],
@@ -237,16 +246,15 @@ fn push_refused(
 ) -> Result<(), AllocError>
     requires { IsFrame frame.now }
     ensures ok { OnOk result (out.new.items ≡ out.old.items
-        ++ message_lines (selection_of options.entry) (Faulty offset kind frame.now)) }
+        ++ message_lines (selection_of options.now) (Faulty offset kind frame.now)) }
+    ensures memory { OnErr result (LacksShown (selection_of options.now)
+        (Faulty offset kind frame.now) buffers.old out.old) }
     ensures err { OnErr result (out.new.items ≡ out.old.items) }
 {
     let Buffers { lines, spare, .. } = buffers;
     lines.clear();
-    if options
-        .lines
-        .shows(NetlinkBuffer::new(frame).message_type())
-    {
-        push_faulty(!options.lines.without_numbers, kind, frame, lines)?;
+    if options.shows(NetlinkBuffer::new(frame).message_type()) {
+        push_faulty(options.shows_numbers(), kind, frame, lines)?;
     }
     push_placed(options, offset, lines, spare, out)
 }
@@ -267,19 +275,23 @@ fn keep_fault(found: &mut Option<ShowFault>, kind: FaultKind, offset: u64, bytes
 ///
 /// # Errors
 ///
-/// `AllocError` if an allocation for the message fails; `out` is unchanged.
+/// `AllocError` if the buffers or `out` lacked capacity for the message and can't grow; `out` is
+/// unchanged.
 pub fn push_selected_message(
     bytes: &[u8],
     offset: u64,
     limit: u32,
-    options: ShowOptions<'_>,
+    options: &ShowOptions<'_>,
     buffers: &mut Buffers,
     out: &mut Vec<u8>,
 ) -> Result<ShownMessage, AllocError>
-    ensures ok { IfOk result (λ outcome. IsShownAs (selection_of options.entry) limit offset bytes.now
+    ensures ok { IfOk result (λ outcome. IsShownAs (selection_of options.now) limit offset bytes.now
         out.old.items out.new.items outcome) }
-    // An allocation fails only for a message that is shown.
-    ensures memory { OnErr result (IsToBeShown options.entry.keep_going limit bytes.now) }
+    // An allocation fails only for a message that is shown, and only if the buffers or `out` lacked
+    // capacity for it.
+    ensures memory { OnErr result (IsToBeShown options.now.keep_going limit bytes.now) }
+    ensures cause { OnErr result (LacksMemory (selection_of options.now) limit offset bytes.now
+        buffers.old out.old) }
     ensures err { OnErr result (out.new.items ≡ out.old.items) }
 {
     match judge(bytes, limit, &mut buffers.text)? {
@@ -301,14 +313,14 @@ fn push_message(
     bytes: &[u8],
     offset: u64,
     limit: u32,
-    options: ShowOptions<'_>,
+    options: &ShowOptions<'_>,
     buffers: &mut Buffers,
     found: &mut Option<ShowFault>,
     out: &mut Vec<u8>,
 ) -> Result<Step, AllocError>
-    ensures ok { IfOk result (λ step. Steps (selection_of options.entry) limit offset bytes.now
+    ensures ok { IfOk result (λ step. Steps (selection_of options.now) limit offset bytes.now
         out.old.items out.new.items (report_in found.old) (report_in found.new) step) }
-    ensures memory { OnErr result (IsToBeShown options.entry.keep_going limit bytes.now) }
+    ensures memory { OnErr result (IsToBeShown options.now.keep_going limit bytes.now) }
     ensures err { OnErr result (out.new.items ≡ out.old.items) }
     ensures found { OnErr result (found.new ≡ found.old) }
 {
@@ -336,19 +348,19 @@ pub(crate) fn push_messages(
     start: u64,
     from: usize,
     limit: u32,
-    options: ShowOptions<'_>,
+    options: &ShowOptions<'_>,
     buffers: &mut Buffers,
     found: &mut Option<ShowFault>,
     out: &mut Vec<u8>,
 ) -> Result<Walked, usize>
     requires fits { start + length bytes.now < 2 ^ 64 }
     requires near { from ≤ 3 }
-    ensures passes { Passes (selection_of options.entry) limit start bytes.now from (shown_to result)
+    ensures passes { Passes (selection_of options.now) limit start bytes.now from (shown_to result)
         out.old.items out.new.items (report_in found.old) (report_in found.new) }
-    ensures ends { IfOk result (λ w. Ends options.entry.keep_going limit bytes.now w.len w.last) }
+    ensures ends { IfOk result (λ w. Ends options.now.keep_going limit bytes.now w.len w.last) }
     ensures bounds { IfOk result (λ w. w.len ≤ length bytes.now + 3) }
     ensures memory { IfErr result (λ at. (at < length bytes.now)
-        × IsToBeShown options.entry.keep_going limit (drop at bytes.now)) }
+        × IsToBeShown options.now.keep_going limit (drop at bytes.now)) }
 {
     let mut len = from;
     'messages: while len < bytes.len() {

@@ -1,6 +1,6 @@
 //! The offset of a message in its first line.
 
-ghost use Rattle.std.specs.Prelude.{◌≡◌, ◌++◌, OnOk};
+ghost use Rattle.link_lines_values.specs.Appends.{Appends};
 ghost use Rattle.link_lines.specs.Offsets.{with_offset};
 
 use link_lines_parts::line_len;
@@ -11,10 +11,11 @@ use std::alloc::AllocError;
 ///
 /// # Errors
 ///
-/// `AllocError` if `out` can't grow; it may then have a part of the lines.
+/// `AllocError` if `out` lacked capacity for the lines and the offset, and can't grow; what it held
+/// stays, and a part of the lines may follow.
 #[tactic(auto, using(link_lines_parts::proofs::FirstParts::prefix_within))]
 pub fn push_with_offset(lines: &[u8], offset: u64, out: &mut Vec<u8>) -> Result<(), AllocError>
-    ensures ok { OnOk result (out.new.items ≡ out.old.items ++ with_offset offset lines.now) }
+    ensures { Appends out.old out.new result (with_offset offset lines.now) }
 {
     let (first, rest) = lines.split_at(line_len(lines));
     out.extend_from_slice(first)?;

@@ -1,107 +1,92 @@
-//! The lines of a whole capture.
+//! The lines of a whole capture that are selected.
 
-ghost use Rattle.std.specs.Prelude.{◌≡◌, ◌≢◌, ◌≤◌, ◌<◌, ◌%◌, ◌++◌, ℕ, List, length, take, Some, IfErr, OnOk, OnErr};
-ghost use Rattle.link_capture_grammar.specs.Captures.{first_fault, texts, IsLegal, StopsAt};
-ghost use Rattle.link_capture_grammar.specs.Same.{SameCapture};
+ghost use Rattle.std.specs.Prelude.{◌≡◌, ◌≢◌, ◌≤◌, ◌+◌, ◌++◌, ℕ, List, length, drop, Some, IfErr, OnOk};
+ghost use Rattle.link_capture_grammar.specs.Captures.{first_fault, IsLegal};
 ghost use Rattle.link_capture_reader.specs.Readers.{IsFrameOffsetOf};
-ghost use Rattle.link_lines.specs.Meanings.{GainsLines, IsShownAtStart, ShownAlike};
-ghost use Rattle.link_lines.specs.Options.{choice_of};
-ghost use Rattle.link_lines.specs.Outcomes.{NeedsMemoryAt};
-ghost use Rattle.link_lines_texts.specs.Captures.{text_lines};
+ghost use Rattle.link_capture_refusals.specs.RefusalViews.{all_found};
+ghost use Rattle.link_lines.specs.Meanings.{GainsShown};
+ghost use Rattle.link_lines.specs.Options.{selection_of};
+ghost use Rattle.link_lines.specs.Outcomes.{RunsOutAt};
+ghost use Rattle.link_lines.specs.Refused.{reported_refusal};
+ghost use Rattle.link_lines.specs.Walks.{Ends, last_report, or_else, report_in, reported_by};
 
-use crate::lines::push_lines;
-use crate::options::LineOptions;
-use link_capture_grammar::fault::{CaptureFault, FaultKind};
-use link_capture_grammar::laws::{
-    captures_unfold_by_frames, frames_are_independent, joined_captures_have_joined_texts,
-    texts_are_normal, texts_determine_meanings, texts_of_a_prefix_stay,
-};
-use link_capture_reader::normalize_bytes;
-use link_lines_texts::laws::lines_are_joined;
-use std::alloc::{AllocError, Global};
+use crate::engine::{fault_at, stopped_by};
+use crate::message_laws::{first_faults_are_reported, messages_unfold};
+use crate::messages::{Buffers, Walked, push_messages};
+use crate::options::ShowOptions;
+use crate::refused::ShowFault;
+use link_capture_grammar::fault::FaultKind;
+use link_capture_grammar::laws::faults_are_at_frames;
+use std::alloc::Global;
 
-/// Appends the lines of these texts, or nothing if an allocation fails. Empty texts need no
-/// allocation.
-fn push_all(
-    alloc: Global,
-    texts: &[u8],
-    options: LineOptions<'_>,
-    out: &mut Vec<u8>,
-) -> Result<(), AllocError>
-    ensures ok { OnOk result (out.new.items ≡ out.old.items ++ text_lines (choice_of options.entry) texts.now) }
-    ensures err { OnErr result ((0 < length texts.now) × (out.new.items ≡ out.old.items)) }
+/// Returns the result for a whole capture, given the first fault that was kept and the walk's end.
+fn conclude(
+    bytes: &[u8],
+    found: Option<ShowFault>,
+    walked: Walked,
+    keep_going: bool,
+    limit: u32,
+) -> Result<(), ShowFault>
+    requires { Ends keep_going limit bytes.now walked.len walked.last }
+    ensures { reported_by result
+        ≡ or_else (report_in found) (last_report walked.len walked.last (drop walked.len bytes.now)) }
 {
-    if texts.is_empty() {
-        lines_are_joined();
-        return Ok(());
+    match walked.last {
+        Some(kind) => Err(stopped_by(found, kind, walked.len as u64, &bytes[walked.len..])),
+        None => match found {
+            Some(fault) => Err(fault),
+            None => Ok(()),
+        },
     }
-    let mut shown = Vec::new(alloc);
-    push_lines(texts, options, &mut shown)?;
-    out.extend_from_slice(shown.as_slice())
 }
 
-/// Appends the lines of a capture to `out`.
+/// Appends what the options select of a capture's lines to `out`.
 ///
-/// `bytes` is any byte string, read as netlink messages of which each starts at a multiple of 4.
-/// `limit` is the greatest length in bytes that a message, read or in its normal text, may have;
-/// `options` choose what is shown. Ok means that the capture is legal, and `out` has gained the
-/// lines of its normal text.
+/// `limit` is the greatest length in bytes that a message, read or in its normal text, may have. Ok
+/// means that the capture is legal.
 ///
 /// # Errors
 ///
-/// The first fault with its offset; `out` has gained the lines of the messages before it. `Memory`
-/// if an allocation fails, at the offset of a message that is accepted: the bytes before it are
-/// legal, and their lines are written. If an allocation for the lines themselves fails, the offset
-/// is 0. So neither empty bytes nor a fault of the first message can run out of memory.
+/// - the capture's first fault, with its offset, and what `why` returns for a refused body. `out` has
+///   gained the lines of the messages before it; with `keep_going` also those of messages with a
+///   fault of their body, and of those after them, up to a fault of another kind;
+/// - `Memory` at the offset of the message for which an allocation fails; `out` has gained the lines
+///   of those before it.
 pub fn show_bytes(
     alloc: Global,
     bytes: &[u8],
     limit: u32,
-    options: LineOptions<'_>,
+    options: &ShowOptions<'_>,
     out: &mut Vec<u8>,
-) -> Result<(), CaptureFault>
+) -> Result<(), ShowFault>
     requires { 16 ≤ limit }
     // It succeeds only on legal captures, and appends their lines.
     ensures legal { OnOk result (IsLegal limit bytes.now
-        × GainsLines (choice_of options.entry) limit bytes.now out.old out.new) }
-    // Otherwise it returns the first fault, unless an allocation fails, and appends the lines
-    // before it.
+        × GainsShown (selection_of options.now) limit bytes.now out.old out.new) }
+    // Otherwise it returns the first fault, unless an allocation fails, and appends the lines that
+    // are shown.
     ensures fault { IfErr result
-        (λ fault. fault.kind ≢ FaultKind.Memory → (first_fault limit bytes.now ≡ Some fault)
-        × GainsLines (choice_of options.entry) limit bytes.now out.old out.new) }
+        (λ e. e.fault.kind ≢ FaultKind.Memory → (first_fault limit bytes.now ≡ Some e.fault)
+        × GainsShown (selection_of options.now) limit bytes.now out.old out.new) }
+    // The reason is that of the refused body, if the fault is one.
+    ensures refusal { IfErr result
+        (λ e. all_found e.refusal ≡ reported_refusal bytes.now e.fault.kind e.fault.offset) }
     // A fault's offset is the start of a frame.
-    ensures frame_start { IfErr result (λ fault. IsFrameOffsetOf bytes.now fault.offset) }
-    // If an allocation fails, the bytes before the offset are legal, and their lines are appended.
-    ensures memory { IfErr result
-        (λ fault. fault.kind ≡ FaultKind.Memory → StopsAt limit bytes.now fault.offset
-        × GainsLines (choice_of options.entry) limit (take fault.offset bytes.now) out.old out.new) }
-    // An allocation fails only if the message at the offset is accepted.
-    ensures cause { IfErr result
-        (λ fault. fault.kind ≡ FaultKind.Memory → NeedsMemoryAt limit bytes.now fault.offset) }
-    // A capture and its texts have the same lines.
-    ensures normal { ShownAlike (choice_of options.entry) limit (texts limit bytes.now) bytes.now }
-    // Captures that mean the same have the same lines.
-    ensures same { (other : List ℕ) → SameCapture limit bytes.now other
-        → ShownAlike (choice_of options.entry) limit other bytes.now }
-    // The capture that follows a legal one, whose size is a multiple of 4, is shown independently
-    // of it.
-    ensures joined { IsLegal limit bytes.now → length bytes.now % 4 ≡ 0
-        → IsShownAtStart (choice_of options.entry) limit bytes.now }
+    ensures frame_start { IfErr result
+        (λ e. e.fault.kind ≢ FaultKind.Memory → IsFrameOffsetOf bytes.now e.fault.offset) }
+    // An allocation fails only for a message that is shown, and the lines of those before it are
+    // appended.
+    ensures memory { IfErr result (λ e. e.fault.kind ≡ FaultKind.Memory → (w : List ℕ)
+        × RunsOutAt (selection_of options.now) limit bytes.now w e.fault.offset
+        × (out.new.items ≡ out.old.items ++ w)) }
 {
-    texts_are_normal();
-    texts_determine_meanings();
-    joined_captures_have_joined_texts();
-    captures_unfold_by_frames();
-    frames_are_independent();
-    texts_of_a_prefix_stay();
-    lines_are_joined();
-    let mut texts = Vec::new(alloc);
-    let shown = normalize_bytes(bytes, limit, &mut texts);
-    if push_all(alloc, texts.as_slice(), options, out).is_err() {
-        return Err(CaptureFault {
-            kind: FaultKind::Memory,
-            offset: 0,
-        });
+    messages_unfold();
+    first_faults_are_reported();
+    faults_are_at_frames();
+    let mut buffers = Buffers::new(alloc);
+    let mut found = None;
+    match push_messages(bytes, 0, 0, limit, options, &mut buffers, &mut found, out) {
+        Ok(walked) => conclude(bytes, found, walked, options.keep_going, limit),
+        Err(offset) => Err(fault_at(FaultKind::Memory, offset as u64)),
     }
-    shown
 }

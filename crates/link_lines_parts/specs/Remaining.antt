@@ -1,23 +1,34 @@
 -- The lines of a message without some attributes.
 use Rattle.std.specs.Prelude.{ℕ, ◌&&◌, ◌||◌, nat_lt, Bool, false, cond, bytes_eq, codes, List, [], ◌∷◌, ◌++◌, map}
 use Rattle.std.specs.Prelude.{Option, Some, None}
-use Rattle.link_lines_parts.specs.declared.remaining.Omission.{Omission}
+use Rattle.link_lines_parts.specs.declared.remaining.Without.{Without}
 use Rattle.link_lines_parts.specs.Lines.{first_word, level, lines_of, words_of}
 use Rattle.link_lines_parts.specs.Names.{counter_names, header_names, index_names, is_among}
 
--- What is left out: attributes with these names, those that count, and indexes of links with numbers of namespaces.
+-- What is left out: attributes with these names; sequence and port numbers; the attributes that count; and indexes of
+-- links with numbers of namespaces.
 pub record Omitted : Type 0 where
   pub names : List (List ℕ)
+  pub numbers : Bool
   pub counters : Bool
   pub indexes : Bool
 
--- What an omission leaves out.
-abbrev pub omitted_of : Omission → Omitted
-omitted_of o = record { names = map (λ n. n.now) o.names.now; counters = o.counters; indexes = o.indexes }
+-- What a value in code leaves out.
+abbrev pub omitted_of : Without → Omitted
+omitted_of o = record {
+  names = map (λ n. n.now) o.names.items;
+  numbers = o.numbers;
+  counters = o.counters;
+  indexes = o.indexes;
+}
+
+-- At most numbers are left out.
+abbrev pub numbers_omitted : Bool → Omitted
+numbers_omitted numbers = record { names = []; numbers = numbers; counters = false; indexes = false }
 
 -- Nothing is left out.
 abbrev pub nothing_omitted : Omitted
-nothing_omitted = record { names = []; counters = false; indexes = false }
+nothing_omitted = numbers_omitted false
 
 -- ---- attributes
 
@@ -75,6 +86,6 @@ remaining_after o before [] = []
 remaining_after o before (line ∷ lines) =
     line_text o (omitted_level o before line) line ++ remaining_after o (omitted_level o before line) lines
 
--- What remains of the lines of a message.
+-- What remains of the lines of a message. Numbers are left out where a line is written, and not here.
 abbrev pub remaining_lines : Omitted → List ℕ → List ℕ
 remaining_lines o text = remaining_after o None (lines_of text)

@@ -15,5 +15,5 @@ pub use cuts::{first_word, level, line_len, line_words, split_line, split_word};
 pub use kind_names::{has_byte_order_bit, has_nested_bit, push_kind_name};
 pub use levels::DEEPEST_LEVEL;
 pub use names::{COUNTERS, INDEXES, is_among};
-pub use remaining::{Omission, is_header, is_index_field, push_remaining};
+pub use remaining::{Without, is_header, is_index_field, push_remaining};
 pub use whole::is_whole;

@@ -1,22 +1,26 @@
 //! The lines of a message without some attributes and indexes.
 
-ghost use Rattle.std.specs.Prelude.{◌≡◌, ◌++◌, ◌↔◌, false, IsTrue, OnOk};
+ghost use Rattle.std.specs.Prelude.{◌≡◌, ◌++◌, false, IsTrue, OnOk};
 ghost use Rattle.link_lines_values.specs.Appends.{Appends};
 ghost use Rattle.link_lines_parts.specs.Lines.{words_of};
 ghost use Rattle.link_lines_parts.specs.Remaining.{is_header, is_index_field, is_omitted, is_omitted_name, line_text};
-ghost use Rattle.link_lines_parts.specs.Remaining.{nothing_omitted, omitted_level, omitted_of, remaining_line};
+ghost use Rattle.link_lines_parts.specs.Remaining.{nothing_omitted, numbers_omitted, omitted_level, omitted_of, remaining_line};
 ghost use Rattle.link_lines_parts.specs.Remaining.{remaining_lines, without_index_fields};
 
 use crate::cuts::{first_word, level, split_line, split_word};
 use crate::names::{is_among, is_counter, is_header_word, is_index};
+use arrayvec::ArrayVec;
 use std::alloc::AllocError;
 
-/// What is left out of a message's lines.
-#[derive(Clone, Copy, Debug, Default, PartialEq, Eq, Drop)]
-pub struct Omission<'a> {
-    /// The names of attributes that are left out, each with all deeper lines that follow it
-    /// directly.
-    pub names: &'a [&'static [u8]],
+/// What is left out of a message's lines: attributes, and groups of them.
+#[derive(Clone, Debug, PartialEq, Eq, Drop)]
+pub struct Without {
+    /// The kernel's names of attributes that are left out, each with all deeper lines that follow
+    /// it directly.
+    pub names: ArrayVec<&'static [u8], 32>,
+    /// Whether sequence and port numbers are left out, which `push_remaining` keeps: they are
+    /// left out where a line is written.
+    pub numbers: bool,
     /// Whether the attributes that count are left out ([`COUNTERS`](crate::COUNTERS)): statistics,
     /// ages, timers.
     pub counters: bool,
@@ -26,39 +30,57 @@ pub struct Omission<'a> {
     pub indexes: bool,
 }
 
-impl Omission<'_> {
-    /// Returns whether nothing is left out.
-    pub fn is_empty(&self) -> bool
-        ensures { IsTrue result ↔ (omitted_of self.now ≡ nothing_omitted) }
+impl Without {
+    /// Returns the choice that leaves out nothing.
+    pub fn nothing() -> Without
+        ensures { omitted_of result ≡ nothing_omitted }
+    {
+        Without {
+            names: ArrayVec::new(),
+            numbers: false,
+            counters: false,
+            indexes: false,
+        }
+    }
+
+    /// Returns whether all lines remain: at most numbers are left out.
+    pub fn keeps_lines(&self) -> bool
+        ensures { IsTrue result → (omitted_of self.now ≡ numbers_omitted self.now.numbers) }
     {
         self.names.is_empty() && !self.counters && !self.indexes
     }
 }
 
+impl Default for Without {
+    fn default() -> Without {
+        Without::nothing()
+    }
+}
+
 /// Returns whether attributes with this name are left out.
-fn is_omitted_name(omission: Omission<'_>, name: &[u8]) -> bool
-    ensures { result ≡ is_omitted_name (omitted_of omission.entry) name.now }
+fn is_omitted_name(without: &Without, name: &[u8]) -> bool
+    ensures { result ≡ is_omitted_name (omitted_of without.now) name.now }
 {
-    is_among(omission.names, name)
-        || (omission.counters && is_counter(name))
-        || (omission.indexes && is_index(name))
+    is_among(without.names.as_slice(), name)
+        || (without.counters && is_counter(name))
+        || (without.indexes && is_index(name))
 }
 
 /// Returns whether a line is that of an attribute that is left out.
-fn is_omitted(omission: Omission<'_>, line: &[u8]) -> bool
-    ensures { result ≡ is_omitted (omitted_of omission.entry) line.now }
+fn is_omitted(without: &Without, line: &[u8]) -> bool
+    ensures { result ≡ is_omitted (omitted_of without.now) line.now }
 {
-    level(line) > 0 && is_omitted_name(omission, first_word(line))
+    level(line) > 0 && is_omitted_name(without, first_word(line))
 }
 
 /// Returns the level of the omitted attribute that a line belongs to, if there is one, given that
 /// of the line before it.
-fn omitted_level(omission: Omission<'_>, before: Option<usize>, line: &[u8]) -> Option<usize>
-    ensures { result ≡ omitted_level (omitted_of omission.entry) before line.now }
+fn omitted_level(without: &Without, before: Option<usize>, line: &[u8]) -> Option<usize>
+    ensures { result ≡ omitted_level (omitted_of without.now) before line.now }
 {
     match before {
         Some(attribute) if level(line) > attribute => Some(attribute),
-        _ if is_omitted(omission, line) => Some(level(line)),
+        _ if is_omitted(without, line) => Some(level(line)),
         _ => None,
     }
 }
@@ -95,14 +117,10 @@ fn push_without_index_fields(line: &[u8], out: &mut Vec<u8>) -> Result<(), Alloc
 }
 
 /// Appends a line that isn't left out, if it is that of a header perhaps without its index.
-fn push_remaining_line(
-    omission: Omission<'_>,
-    line: &[u8],
-    out: &mut Vec<u8>,
-) -> Result<(), AllocError>
-    ensures { Appends out.old out.new result (remaining_line (omitted_of omission.entry) line.now) }
+fn push_remaining_line(without: &Without, line: &[u8], out: &mut Vec<u8>) -> Result<(), AllocError>
+    ensures { Appends out.old out.new result (remaining_line (omitted_of without.now) line.now) }
 {
-    if omission.indexes && is_header(line) {
+    if without.indexes && is_header(line) {
         return push_without_index_fields(line, out);
     }
     out.extend_from_slice(line)
@@ -111,16 +129,16 @@ fn push_remaining_line(
 /// Appends what remains of a line, given the level of the omitted attribute that it belongs to, if
 /// there is one.
 fn push_line(
-    omission: Omission<'_>,
+    without: &Without,
     omitted: Option<usize>,
     line: &[u8],
     out: &mut Vec<u8>,
 ) -> Result<(), AllocError>
-    ensures { Appends out.old out.new result (line_text (omitted_of omission.entry) omitted line.now) }
+    ensures { Appends out.old out.new result (line_text (omitted_of without.now) omitted line.now) }
 {
     match omitted {
         Some(_) => Ok(()),
-        None => push_remaining_line(omission, line, out),
+        None => push_remaining_line(without, line, out),
     }
 }
 
@@ -130,18 +148,14 @@ fn push_line(
 ///
 /// `AllocError` if `out` lacked capacity for the lines and can't grow; what it held stays, and a
 /// part of the lines may follow.
-pub fn push_remaining(
-    lines: &[u8],
-    omission: Omission<'_>,
-    out: &mut Vec<u8>,
-) -> Result<(), AllocError>
-    ensures { Appends out.old out.new result (remaining_lines (omitted_of omission.entry) lines.now) }
+pub fn push_remaining(lines: &[u8], without: &Without, out: &mut Vec<u8>) -> Result<(), AllocError>
+    ensures { Appends out.old out.new result (remaining_lines (omitted_of without.now) lines.now) }
 {
     let mut rest = lines;
     let mut before = None;
     while let Some((line, following)) = split_line(rest) {
-        let omitted = omitted_level(omission, before, line);
-        push_line(omission, omitted, line, out)?;
+        let omitted = omitted_level(without, before, line);
+        push_line(without, omitted, line, out)?;
         before = omitted;
         rest = following;
     }

@@ -1,14 +1,14 @@
 -- Options as C has them: which are valid, and what they ask for.
-use Rattle.std.specs.Prelude.{◌≡◌, ◌≢◌, ◌==◌, ◌≤◌, ◌<◌, ◌⊎◌, ◌||◌, ℕ, bit_and, not, cond, Bool, List, [], ◌∷◌, IsUtf8}
+use Rattle.std.specs.Prelude.{◌≡◌, ◌≢◌, ◌==◌, ◌≤◌, ◌<◌, ◌⊎◌, ℕ, bit_and, not, cond, Bool, List, [], ◌∷◌, IsUtf8}
 use Rattle.std.specs.Prelude.{Option, None, Some, Result, Ok, Err}
 use Rattle.link_lines.specs.MessageLines.{Selection}
 use Rattle.link_lines.specs.Options.{selection_of}
 use Rattle.link_lines.specs.Types.{TakesType}
-use Rattle.link_lines.specs.Without.{Exclusion, TakesWord, exclusion_of, nothing_excluded}
+use Rattle.link_lines.specs.Remaining.{Omitted, nothing_omitted}
+use Rattle.link_lines.specs.Without.{TakesWord}
 use Rattle.link_lines.specs.Words.{Reads, Step, WordFault, parts}
 use Rattle.linkcap_c.specs.Forms.{Form, Form.Text, Form.Lines}
 use Rattle.linkcap_c.specs.declared.options.LinkcapOptions.{LinkcapOptions}
-use Rattle.linkcap_c.specs.declared.options.Options.{Options}
 use Rattle.linkcap_c.specs.declared.options.Output.{Output}
 use Rattle.linkcap_c.specs.declared.options.Output.TheVariants as Outputs
 use Rattle.linkcap_c.specs.declared.words.ListError.{ListError}
@@ -26,8 +26,8 @@ abbrev pub ReadsTypes : List ℕ → Result (List ℕ) WordFault → Type 0
 ReadsTypes w r = ReadsList TakesType [] w r
 
 -- A list of what is left out is read: nothing if it is empty.
-abbrev pub ReadsNames : List ℕ → Result Exclusion WordFault → Type 0
-ReadsNames w r = ReadsList TakesWord nothing_excluded w r
+abbrev pub ReadsNames : List ℕ → Result Omitted WordFault → Type 0
+ReadsNames w r = ReadsList TakesWord nothing_omitted w r
 
 -- A list isn't UTF-8, or has too many words.
 abbrev pub IsInvalidList : {A : Type 0} → Step A → A → List ℕ → Type 0
@@ -40,12 +40,12 @@ IsListError Takes none w Errors.Invalid = IsInvalidList Takes none w
 
 -- Both lists are read.
 abbrev pub AreRead : List ℕ → List ℕ → Type 0
-AreRead only without = (types : List ℕ) × (x : Exclusion) × ReadsTypes only (Ok types) × ReadsNames without (Ok x)
+AreRead only without = (types : List ℕ) × (x : Omitted) × ReadsTypes only (Ok types) × ReadsNames without (Ok x)
 
 -- Why one of both lists isn't read: the types; or else, if these are read, what is left out.
 abbrev pub IsErrorOf : List ℕ → List ℕ → ListError → Type 0
 IsErrorOf only without e = IsListError TakesType [] only e ⊎
-    (((types : List ℕ) × ReadsTypes only (Ok types)) × IsListError TakesWord nothing_excluded without e)
+    (((types : List ℕ) × ReadsTypes only (Ok types)) × IsListError TakesWord nothing_omitted without e)
 
 -- A word is the first that isn't known: of the types; or else, if these are read, of what is left out.
 abbrev pub IsUnknownWord : List ℕ → List ℕ → List ℕ → Type 0
@@ -71,12 +71,6 @@ abbrev pub AreInvalid : LinkcapOptions → Type 0
 AreInvalid c = (limit_of c < 16) ⊎ ((8 ≤ c.flags) ⊎ ((3 ≤ c.form) ⊎ ((c.reserved ≢ 0) ⊎
     ((e : ListError) × IsErrorOf c.only.now c.without.now e))))
 
--- Options as they are read.
-pub record IsRead (c : LinkcapOptions) (o : Options) : Type 0 where
-  pub limit : o.limit ≡ limit_of c
-  pub types : ReadsTypes c.only.now (Ok o.only.items)
-  pub names : ReadsNames c.without.now (Ok (exclusion_of o.without))
-
 -- ---- what they ask for
 
 -- Whether a flag is among flags.
@@ -88,13 +82,14 @@ abbrev pub some_of : List ℕ → Option (List ℕ)
 some_of [] = None
 some_of (c ∷ w) = Some (c ∷ w)
 
--- What is shown by options of these types, and without what is excluded: of messages of all types and about any link if
+-- What is shown by options of these types, and without what is left out: of messages of all types and about any link if
 -- none is given.
-abbrev pub selected_by : LinkcapOptions → List ℕ → Exclusion → Selection
-selected_by c types x = record {
-  choice = record { numbers = not (has_flag 1 c.flags || x.numbers); only = some_of types };
+abbrev pub selected_by : LinkcapOptions → List ℕ → Omitted → Selection
+selected_by c types omitted = record {
+  numbers = not (has_flag 1 c.flags);
+  only = some_of types;
   link = some_of c.link.now;
-  omitted = record { names = x.names; counters = x.counters; indexes = x.indexes };
+  omitted = omitted;
   offsets = has_flag 2 c.flags;
   keep_going = has_flag 4 c.flags;
   json = c.form == 2;
@@ -104,9 +99,9 @@ selected_by c types x = record {
 pub record Selects (c : LinkcapOptions) (o : Selection) : Type 0 where
   pub types : List ℕ
   pub reads_types : ReadsTypes c.only.now (Ok types)
-  pub excluded : Exclusion
-  pub reads_names : ReadsNames c.without.now (Ok excluded)
-  pub selection : o ≡ selected_by c types excluded
+  pub omitted : Omitted
+  pub reads_names : ReadsNames c.without.now (Ok omitted)
+  pub selection : o ≡ selected_by c types omitted
 
 -- Options choose no lines.
 pub record IsPlain (c : LinkcapOptions) : Type 0 where

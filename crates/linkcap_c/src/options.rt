@@ -1,13 +1,13 @@
 //! What a caller asks for, read from options.
 
-ghost use Rattle.std.specs.Prelude.{◌≡◌, ◌≤◌, ◌↔◌, Ok, IfErr, IfOk, IfSome, IfNone, IsTrue};
+ghost use Rattle.std.specs.Prelude.{◌≡◌, ◌≤◌, ◌↔◌, Ok, IfErr, IfOk, IfSome, IfNone, IsTrue, option_map};
+ghost use Rattle.link_lines.specs.Remaining.{omitted_of};
 ghost use Rattle.link_lines.specs.Options.{selection_of};
-ghost use Rattle.link_lines.specs.Without.{exclusion_of};
-ghost use Rattle.linkcap_c.specs.Options.{AreInvalid, AreValid, Asks, IsErrorOf, IsPlain, IsRead};
-ghost use Rattle.linkcap_c.specs.Options.{ReadsNames, ReadsTypes, has_flag, limit_of, output_form, selected_by};
+ghost use Rattle.linkcap_c.specs.Options.{AreInvalid, AreValid, Asks, ChooseOfText, IsErrorOf, IsPlain, Selects};
+ghost use Rattle.linkcap_c.specs.Options.{ReadsNames, ReadsTypes, has_flag, limit_of, output_form, some_of};
 
 use crate::words::{ListError, read_only, read_without};
-use link_lines::{LineOptions, Omission, ShowOptions, Types, Without};
+use link_lines::{ShowOptions, Types, Without};
 
 /// The limit where a caller gives none.
 const DEFAULT_LIMIT: u32 = 1 << 20;
@@ -54,23 +54,12 @@ pub struct LinkcapOptions<'a> {
 }
 
 /// What is written of messages.
-#[derive(Clone, Copy, Drop)]
+#[derive(Drop)]
 pub(crate) enum Output<'a> {
     /// Their normal texts.
     Texts,
     /// What these options show of them.
     Lines(ShowOptions<'a>),
-}
-
-/// Valid options.
-#[derive(Drop)]
-pub(crate) struct Options {
-    /// The greatest length of a message in bytes.
-    pub limit: u32,
-    /// The types of messages that are shown; none shows all.
-    pub only: Types,
-    /// What is left out.
-    pub without: Without,
 }
 
 /// Whether a flag is among flags.
@@ -93,7 +82,7 @@ pub(crate) fn read_lists<'a>(
     without: &'a [u8],
 ) -> Result<(Types, Without), ListError<'a>>
     ensures only { IfOk result (λ lists. ReadsTypes only.now (Ok lists.0.items)) }
-    ensures without { IfOk result (λ lists. ReadsNames without.now (Ok (exclusion_of lists.1))) }
+    ensures without { IfOk result (λ lists. ReadsNames without.now (Ok (omitted_of lists.1))) }
     ensures err { IfErr result (λ e. IsErrorOf only.now without.now e) }
 {
     let only = read_only(only)?;
@@ -102,7 +91,7 @@ pub(crate) fn read_lists<'a>(
 }
 
 /// The limit that options have.
-fn limit_in(options: &LinkcapOptions<'_>) -> u32
+pub(crate) fn limit_of(options: &LinkcapOptions<'_>) -> u32
     ensures { result ≡ limit_of options.now }
 {
     if options.limit == 0 {
@@ -112,21 +101,42 @@ fn limit_in(options: &LinkcapOptions<'_>) -> u32
     }
 }
 
-/// Reads options; none if they aren't valid.
-pub(crate) fn read_options(options: &LinkcapOptions<'_>) -> Option<Options>
-    ensures some { IfSome result (λ o. IsRead options.now o) }
-    ensures valid { IfSome result (λ o. AreValid options.now) }
+/// The list of types, or none if it is empty.
+fn some_types(types: Types) -> Option<Types>
+    ensures { option_map (λ types. types.items) result ≡ some_of types.items }
+{
+    if types.is_empty() { None } else { Some(types) }
+}
+
+/// The name or index of a link, or none if it is empty.
+fn some_link(link: &[u8]) -> Option<&[u8]>
+    ensures { option_map (λ link. link.now) result ≡ some_of link.now }
+{
+    if link.is_empty() { None } else { Some(link) }
+}
+
+/// What is shown by options; none if they aren't valid.
+pub(crate) fn read_options<'a>(options: &LinkcapOptions<'a>) -> Option<ShowOptions<'a>>
+    ensures some { IfSome result (λ show. Selects options.now (selection_of show)) }
+    ensures valid { IfSome result (λ show. AreValid options.now) }
     ensures none { IfNone result (AreInvalid options.now) }
 {
-    let limit = limit_in(options);
-    if limit < MIN_LIMIT || options.flags > FLAGS || options.form > JSON || options.reserved != 0 {
+    if limit_of(options) < MIN_LIMIT
+        || options.flags > FLAGS
+        || options.form > JSON
+        || options.reserved != 0
+    {
         return None;
     }
     match read_lists(options.only, options.without) {
-        Ok((only, without)) => Some(Options {
-            limit,
-            only,
+        Ok((only, without)) => Some(ShowOptions {
+            without_numbers: leaves_out_numbers(options),
+            only: some_types(only),
+            link: some_link(options.link),
             without,
+            offsets: has_flag(OFFSETS, options.flags),
+            keep_going: has_flag(KEEP_GOING, options.flags),
+            json: options.form == JSON,
         }),
         Err(_) => None,
     }
@@ -139,7 +149,7 @@ pub(crate) fn read_limit(options: &LinkcapOptions<'_>) -> Option<u32>
     ensures none { IfNone result (AreInvalid options.now) }
 {
     match read_options(options) {
-        Some(read) => Some(read.limit),
+        Some(_) => Some(limit_of(options)),
         None => None,
     }
 }
@@ -154,43 +164,17 @@ fn is_plain(options: &LinkcapOptions<'_>) -> bool
         && options.without.is_empty()
 }
 
-/// What is shown by options.
-fn show_options<'a, 'b: 'a>(options: &LinkcapOptions<'b>, read: &'a Options) -> ShowOptions<'a>
-    ensures { selection_of result ≡ selected_by options.now read.now.only.items (exclusion_of read.now.without) }
-{
-    let only = read.only.as_slice();
-    ShowOptions {
-        lines: LineOptions {
-            without_numbers: leaves_out_numbers(options) | read.without.numbers,
-            only: if only.is_empty() { None } else { Some(only) },
-        },
-        link: if options.link.is_empty() {
-            None
-        } else {
-            Some(options.link)
-        },
-        omission: Omission {
-            names: read.without.names.as_slice(),
-            counters: read.without.counters,
-            indexes: read.without.indexes,
-        },
-        offsets: has_flag(OFFSETS, options.flags),
-        keep_going: has_flag(KEEP_GOING, options.flags),
-        json: options.form == JSON,
-    }
-}
-
-/// What is written by options; nothing if lines are chosen of a text.
-pub(crate) fn output_by<'a, 'b: 'a>(
-    options: &LinkcapOptions<'b>,
-    read: &'a Options,
+/// What is written by options that show this; nothing if lines are chosen of a text.
+pub(crate) fn output_by<'a>(
+    options: &LinkcapOptions<'a>,
+    show: ShowOptions<'a>,
 ) -> Option<Output<'a>>
-    requires { IsRead options.now read.now }
+    requires { Selects options.now (selection_of show) }
     ensures some { IfSome result (λ output. Asks options.now (output_form output)) }
-    ensures none { IfNone result ((options.now.form ≡ 0) × (IsPlain options.now → ⊥)) }
+    ensures none { IfNone result (ChooseOfText options.now) }
 {
     if options.form != TEXT {
-        return Some(Output::Lines(show_options(options, read)));
+        return Some(Output::Lines(show));
     }
     if is_plain(options) {
         Some(Output::Texts)

@@ -104,13 +104,13 @@ fn push_message(
     bytes: &[u8],
     offset: u64,
     limit: u32,
-    output: Output<'_>,
+    output: &Output<'_>,
     buffers: &mut Buffers,
     out: &mut Vec<u8>,
 ) -> Result<ShownMessage, AllocError>
-    ensures ok { IfOk result (λ shown. IsPushed (output_form output.entry) limit offset bytes.now
+    ensures ok { IfOk result (λ shown. IsPushed (output_form output.now) limit offset bytes.now
         out.old.items out.new.items shown) }
-    ensures memory { OnErr result (IsToBeShown (keeps_going (output_form output.entry)) limit bytes.now) }
+    ensures memory { OnErr result (IsToBeShown (keeps_going (output_form output.now)) limit bytes.now) }
 {
     match output {
         Output::Texts => push_text(bytes, limit, out),
@@ -159,16 +159,16 @@ fn write_message(
     offset: u64,
     last: bool,
     limit: u32,
-    output: Output<'_>,
+    output: &Output<'_>,
     buffers: &mut Buffers,
     text: &mut Vec<u8>,
     out: &mut [u8],
 ) -> Result<Written, Stop>
     requires { 0 < length bytes.now }
-    ensures ok { IfOk result (λ w. WritesMessage (output_form output.entry) limit offset last bytes.now
+    ensures ok { IfOk result (λ w. WritesMessage (output_form output.now) limit offset last bytes.now
         out.old out.new w) }
     ensures inside { IfOk result (λ w. (0 < w.read) × (w.read ≤ length bytes.now) × (w.wrote ≤ length out.old)) }
-    ensures stops { IfErr result (λ stop. Stops (output_form output.entry) limit offset last bytes.now
+    ensures stops { IfErr result (λ stop. Stops (output_form output.now) limit offset last bytes.now
         (length out.old) stop) }
     ensures err { OnErr result (out.new ≡ out.old) }
 {
@@ -203,16 +203,16 @@ pub(crate) fn write_messages(
     offset: u64,
     last: bool,
     limit: u32,
-    output: Output<'_>,
+    output: &Output<'_>,
     out: &mut [u8],
 ) -> Progress
     requires { offset + length bytes.now < 2 ^ 64 }
-    ensures used { IsWrittenTo (output_form output.entry) limit offset last bytes.now result.used result.written }
+    ensures used { IsWrittenTo (output_form output.now) limit offset last bytes.now result.used result.written }
     ensures room { result.written ≤ length out.old }
-    ensures written { Holds (written_at (output_form output.entry) limit offset (take result.used bytes.now))
+    ensures written { Holds (written_at (output_form output.now) limit offset (take result.used bytes.now))
         result.written out.old out.new }
     ensures legal { IsLegalTo limit last bytes.now result.at }
-    ensures stops { StopsAfter (output_form output.entry) limit offset last bytes.now result.used result.at
+    ensures stops { StopsAfter (output_form output.now) limit offset last bytes.now result.used result.at
         (length out.old - result.written) result.stop }
 {
     captures_are_counted();

@@ -6,7 +6,8 @@ ghost use Rattle.link_capture_grammar.specs.Faults.{fault_text};
 ghost use Rattle.link_capture_quirks.specs.declared.quirk_at.QuirkAt.{QuirkAt};
 ghost use Rattle.link_capture_quirks.specs.QuirkTexts.{quirk_text};
 ghost use Rattle.link_lines.specs.Types.{TakesType};
-ghost use Rattle.link_lines.specs.Without.{TakesWord, nothing_excluded};
+ghost use Rattle.link_lines.specs.Remaining.{nothing_omitted};
+ghost use Rattle.link_lines.specs.Without.{TakesWord};
 ghost use Rattle.linkcap_c.specs.Buffers.{Holds, IsCopied, Lacks};
 ghost use Rattle.linkcap_c.specs.Findings.{IsFault, IsQuirk, fault_of, quirk_of, words_of_side};
 ghost use Rattle.linkcap_c.specs.Options.{AreRead, IsInvalidList, IsUnknownWord, ReadsTypes};
@@ -134,7 +135,7 @@ pub extern "C" fn linkcap_unknown_word(
         × Lacks word written.new out.old }
     ensures wrong { result ≡ 3 → IsInvalidList TakesType [] options.now.only.now
         ⊎ (((types : List ℕ) × ReadsTypes options.now.only.now (Ok types))
-        × IsInvalidList TakesWord nothing_excluded options.now.without.now) }
+        × IsInvalidList TakesWord nothing_omitted options.now.without.now) }
     ensures none { result ≡ 6 → AreRead options.now.only.now options.now.without.now × (written.new ≡ 0) }
     ensures kept { (result ≡ 3) ⊎ (result ≡ 4) ⊎ (result ≡ 6) → out.new ≡ out.old }
     ensures kept_length { result ≡ 3 → written.new ≡ written.old }

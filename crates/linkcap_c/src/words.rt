@@ -2,7 +2,8 @@
 
 ghost use Rattle.std.specs.Prelude.{◌≡◌, [], IfErr, IfOk, Ok};
 ghost use Rattle.link_lines.specs.Types.{TakesType};
-ghost use Rattle.link_lines.specs.Without.{TakesWord, exclusion_of, nothing_excluded};
+ghost use Rattle.link_lines.specs.Remaining.{nothing_omitted, omitted_of};
+ghost use Rattle.link_lines.specs.Without.{TakesWord};
 ghost use Rattle.linkcap_c.specs.Options.{IsListError, ReadsNames, ReadsTypes};
 
 use link_lines::{Types, Without, WordError, read_types};
@@ -37,8 +38,8 @@ pub(crate) fn read_only(words: &[u8]) -> Result<Types, ListError<'_>>
 
 /// Reads a list of attributes and groups that are left out; an empty list leaves out nothing.
 pub(crate) fn read_without(words: &[u8]) -> Result<Without, ListError<'_>>
-    ensures ok { IfOk result (λ x. ReadsNames words.now (Ok (exclusion_of x))) }
-    ensures err { IfErr result (λ e. IsListError TakesWord nothing_excluded words.now e) }
+    ensures ok { IfOk result (λ x. ReadsNames words.now (Ok (omitted_of x))) }
+    ensures err { IfErr result (λ e. IsListError TakesWord nothing_omitted words.now e) }
 {
     if words.is_empty() {
         return Ok(Without::nothing());
@@ -46,7 +47,7 @@ pub(crate) fn read_without(words: &[u8]) -> Result<Without, ListError<'_>>
     let Ok(text) = str::from_utf8(words) else {
         return Err(ListError::Invalid);
     };
-    match Without::read(text) {
+    match link_lines::read_without(text) {
         Ok(without) => Ok(without),
         Err(WordError::Unknown(word)) => Err(ListError::Unknown(word)),
         Err(WordError::TooMany) => Err(ListError::Invalid),

@@ -18,7 +18,7 @@ ghost use Rattle.linkcap_c.specs.Pieces.{IsWrittenTo, StopsAfter, StopsWhole, Wr
 ghost use Rattle.linkcap_c.specs.Statuses.{KeepsFault};
 
 use crate::findings::{LinkcapFinding, of_one};
-use crate::options::{LinkcapOptions, Output, output_by, read_options};
+use crate::options::{LinkcapOptions, Output, limit_of, output_by, read_options};
 use crate::pieces::{Progress, Stop, write_messages};
 use crate::statuses::{FAULT, NO_MEMORY, NO_ROOM, OK, WRONG};
 use link_capture_grammar::fault::{CaptureFault, FaultKind};
@@ -26,11 +26,10 @@ use link_capture_grammar::laws::{
     captures_are_counted, captures_unfold_by_frames, frames_are_independent,
     joined_captures_are_legal, joined_captures_have_joined_texts,
     joined_captures_have_the_faults_of_the_second, texts_are_legal, texts_are_normal,
-    texts_are_small, texts_determine_meanings, texts_mean_the_same,
+    texts_are_small, texts_mean_the_same,
 };
-use link_lines::laws::lines_are_joined;
 use link_lines::message_laws::{
-    lines_of_messages_are_of_texts, messages_unfold, pieces_are_joined,
+    lines_depend_on_meaning, lines_of_messages_are_of_texts, messages_unfold, pieces_are_joined,
 };
 use std::alloc::Global;
 
@@ -65,21 +64,21 @@ fn write_piece(
     alloc: Global,
     piece: &LinkcapPiece<'_>,
     limit: u32,
-    output: Output<'_>,
+    output: &Output<'_>,
     out: &mut [u8],
 ) -> Progress
     requires { piece.now.offset + length piece.now.bytes.now < 2 ^ 64 }
-    ensures used { IsWrittenTo (output_form output.entry) limit piece.now.offset (is_last piece.now) piece.now.bytes.now
+    ensures used { IsWrittenTo (output_form output.now) limit piece.now.offset (is_last piece.now) piece.now.bytes.now
         result.used result.written }
     ensures room { result.written ≤ length out.old }
-    ensures written { Holds (written_at (output_form output.entry) limit piece.now.offset
+    ensures written { Holds (written_at (output_form output.now) limit piece.now.offset
         (take result.used piece.now.bytes.now)) result.written out.old out.new }
     ensures legal { IsLegalTo limit (is_last piece.now) piece.now.bytes.now result.at }
-    ensures stops { StopsAfter (output_form output.entry) limit piece.now.offset (is_last piece.now) piece.now.bytes.now
+    ensures stops { StopsAfter (output_form output.now) limit piece.now.offset (is_last piece.now) piece.now.bytes.now
         result.used result.at (length out.old - result.written) result.stop }
     // What the pieces write one after the other is what the whole writes.
-    ensures continues { (before : List ℕ) → IsBefore (output_form output.entry) limit piece.now.offset before
-        → Continues (output_form output.entry) limit piece.now.offset (is_last piece.now)
+    ensures continues { (before : List ℕ) → IsBefore (output_form output.now) limit piece.now.offset before
+        → Continues (output_form output.now) limit piece.now.offset (is_last piece.now)
         (take result.used piece.now.bytes.now) before }
     // The first fault is the whole's.
     ensures first { (before more : List ℕ) (kind : FaultKind) → IsBefore Form.Text limit piece.now.offset before
@@ -89,10 +88,10 @@ fn write_piece(
         ≡ Some (record { kind = kind; offset = piece.now.offset + result.at }) }
     // And where writing stops, the whole writes no more.
     ensures ends { (before more : List ℕ) (kind : FaultKind)
-        → IsBefore (output_form output.entry) limit piece.now.offset before → (is_last piece.now ≡ true → more ≡ [])
+        → IsBefore (output_form output.now) limit piece.now.offset before → (is_last piece.now ≡ true → more ≡ [])
         → IsFaulty limit (is_last piece.now) (drop result.used piece.now.bytes.now) kind
-        → goes_past (keeps_going (output_form output.entry)) kind ≡ false
-        → StopsWhole (output_form output.entry) limit piece.now.offset kind result.used piece.now.bytes.now
+        → goes_past (keeps_going (output_form output.now)) kind ≡ false
+        → StopsWhole (output_form output.now) limit piece.now.offset kind result.used piece.now.bytes.now
         before more }
 {
     captures_are_counted();
@@ -118,13 +117,13 @@ fn write_some(
     alloc: Global,
     piece: &LinkcapPiece<'_>,
     limit: u32,
-    output: Output<'_>,
+    output: &Output<'_>,
     out: &mut [u8],
     progress: &mut LinkcapProgress,
     fault: &mut LinkcapFinding,
 ) -> u32
     requires { piece.now.offset + length piece.now.bytes.now < 2 ^ 64 }
-    ensures written { WritesPiece (output_form output.entry) limit piece.now.offset (is_last piece.now)
+    ensures written { WritesPiece (output_form output.now) limit piece.now.offset (is_last piece.now)
         piece.now.bytes.now result progress.new fault.new out.old out.new }
     ensures kept { KeepsFault result fault.old fault.new }
     ensures status { (result ≡ 0) ⊎ (result ≡ 2) ⊎ (result ≡ 4) ⊎ (result ≡ 5) }
@@ -165,12 +164,11 @@ fn text_is_normal(capture: &[u8], limit: u32)
 {
     joined_captures_are_legal();
     joined_captures_have_joined_texts();
-    lines_are_joined();
+    lines_depend_on_meaning();
     lines_of_messages_are_of_texts();
     texts_are_legal();
     texts_are_normal();
     texts_are_small();
-    texts_determine_meanings();
     texts_mean_the_same();
 }
 
@@ -210,15 +208,16 @@ pub extern "C" fn linkcap_write(
     ensures meaning { result ≢ 3 → (choice : Choice)
         → DependsOnMeaning choice (limit_of options.now) piece.now.bytes.now }
 {
-    let Some(read) = read_options(options) else {
+    let Some(show) = read_options(options) else {
         return WRONG;
     };
-    let Some(output) = output_by(options, &read) else {
+    let Some(output) = output_by(options, show) else {
         return WRONG;
     };
     if !is_valid(piece) {
         return WRONG;
     }
-    text_is_normal(piece.bytes, read.limit);
-    write_some(alloc, piece, read.limit, output, out, progress, fault)
+    let limit = limit_of(options);
+    text_is_normal(piece.bytes, limit);
+    write_some(alloc, piece, limit, &output, out, progress, fault)
 }

@@ -6,7 +6,12 @@ use Rattle.std.specs.Result.{result_map_both}
 use Rattle.std.specs.Str.Parse.{digits_value}
 use Rattle.link_capture_commands.specs.Commands.{IsLimitArgument}
 use Rattle.link_lines.specs.Types.{TakesType}
-use Rattle.link_lines.specs.Without.{Exclusion, TakesWord, exclusion_of, nothing_excluded}
+use Rattle.link_lines.specs.Remaining.{Omitted, nothing_omitted}
+use Rattle.link_lines.specs.Captures.{everything}
+use Rattle.link_lines.specs.MessageLaws.{plain}
+use Rattle.link_lines.specs.MessageLines.{Selection}
+use Rattle.link_lines.specs.Options.{selection_of}
+use Rattle.link_lines.specs.Without.{TakesWord}
 use Rattle.link_lines.specs.Words.{Reads, WordFault, parts}
 use Rattle.linkshow_program.specs.declared.arguments.Argument.{Argument}
 use Rattle.linkshow_program.specs.declared.arguments.Argument.TheVariants.{Flag, Valued, Assigned, Input, End, Name, Invalid}
@@ -81,58 +86,37 @@ argument_of w =
 
 -- ---- options
 
--- What options say, by the bytes of their words.
+-- What options say: the limit, whether quirks are noted, what is shown, and the name of the file if there is one.
 pub record Settings : Type 0 where
   pub limit : ℕ
   pub kernels : Bool
-  pub without_numbers : Bool
-  pub only : Option (List ℕ)
-  pub link : Option (List ℕ)
-  pub without : Option Exclusion
-  pub offsets : Bool
-  pub keep_going : Bool
-  pub json : Bool
+  pub shown : Selection
   pub file : Option (List ℕ)
 
 -- What options in code say.
 abbrev pub settings_of : Options → Settings
-settings_of o =
-    record {
-      limit = o.limit;
-      kernels = o.kernels;
-      without_numbers = o.without_numbers;
-      only = option_map (λ types. types.items) o.only;
-      link = option_map (λ word. word.now) o.link;
-      without = option_map exclusion_of o.without;
-      offsets = o.offsets;
-      keep_going = o.keep_going;
-      json = o.json;
-      file = option_map (λ name. name.now) o.file;
-    }
+settings_of o = record {
+  limit = o.limit;
+  kernels = o.kernels;
+  shown = selection_of o.show;
+  file = option_map (λ name. name.now) o.file;
+}
 
 -- The options without any argument.
 abbrev pub defaults : Settings
-defaults =
-    record {
-      limit = 1048576;
-      kernels = false;
-      without_numbers = false;
-      only = None;
-      link = None;
-      without = None;
-      offsets = false;
-      keep_going = false;
-      json = false;
-      file = None;
-    }
+defaults = record { limit = 1048576; kernels = false; shown = plain everything; file = None }
+
+-- Options with this selection changed.
+abbrev pub showing : Settings → Selection → Settings
+showing o shown = record o { shown = shown }
 
 -- Options with one more that has no value.
 abbrev pub with_flag : FlagOption → Settings → Settings
 with_flag Kernels o = record o { kernels = true }
-with_flag WithoutNumbers o = record o { without_numbers = true }
-with_flag Offsets o = record o { offsets = true }
-with_flag KeepGoing o = record o { keep_going = true }
-with_flag Json o = record o { json = true }
+with_flag WithoutNumbers o = showing o (record o.shown { numbers = false })
+with_flag Offsets o = showing o (record o.shown { offsets = true })
+with_flag KeepGoing o = showing o (record o.shown { keep_going = true })
+with_flag Json o = showing o (record o.shown { json = true })
 
 -- Options with this limit.
 abbrev pub with_limit : ℕ → Settings → Settings
@@ -140,15 +124,15 @@ with_limit n o = record o { limit = n }
 
 -- Options that show only these types.
 abbrev pub with_only : List ℕ → Settings → Settings
-with_only types o = record o { only = Some types }
+with_only types o = showing o (record o.shown { only = Some types })
 
 -- Options that show only messages about this link.
 abbrev pub with_link : List ℕ → Settings → Settings
-with_link word o = record o { link = Some word }
+with_link word o = showing o (record o.shown { link = Some word })
 
 -- Options that leave this out.
-abbrev pub with_exclusion : Exclusion → Settings → Settings
-with_exclusion excluded o = record o { without = Some excluded }
+abbrev pub with_omitted : Omitted → Settings → Settings
+with_omitted omitted o = showing o (record o.shown { omitted = omitted })
 
 -- Options for the file of this name.
 abbrev pub of_file : List ℕ → Settings → Settings
@@ -187,8 +171,8 @@ abbrev pub Takes : ValueOption → Settings → List ℕ → Result Settings Usa
 Takes Only o w r = (types : Result (List ℕ) WordFault) × Reads TakesType [] (parts w) types ×
     (r ≡ result_map_both (λ ts. with_only ts o) type_fault types)
 Takes Link o w r = r ≡ Ok (with_link w o)
-Takes Without o w r = (excluded : Result Exclusion WordFault) × Reads TakesWord nothing_excluded (parts w) excluded ×
-    (r ≡ result_map_both (λ x. with_exclusion x o) name_fault excluded)
+Takes Without o w r = (omitted : Result Omitted WordFault) × Reads TakesWord nothing_omitted (parts w) omitted ×
+    (r ≡ result_map_both (λ x. with_omitted x o) name_fault omitted)
 Takes Limit o w r = (IsLimitArgument w × (r ≡ Ok (with_limit (digits_value 10 w) o))) ⊎
     ((IsLimitArgument w → ⊥) × (r ≡ Err (UsageFault.InvalidLimit w)))
 

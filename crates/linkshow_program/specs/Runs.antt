@@ -1,6 +1,6 @@
 -- The reports on a capture, and the program's status.
 use Rattle.std.specs.Prelude.{◌≡◌, ℕ, Bool, true, false, List, [], ◌∷◌, ◌++◌, ◌⊎◌, length, take, codes, cond, Option}
-use Rattle.std.specs.Prelude.{None, Some, not, Result, Ok, Err, map, option_map, ◌||◌}
+use Rattle.std.specs.Prelude.{None, Some, Result, Ok, Err, option_map}
 use Rattle.std.specs.Io.KnownBytes.{Consumes}
 use Rattle.std.specs.declared.io.ErrorKind.{ErrorKind}
 use Rattle.link_capture_grammar.specs.declared.fault.CaptureFault.{CaptureFault}
@@ -13,8 +13,8 @@ use Rattle.link_capture_reader.specs.Outcomes.{ReadFault}
 use Rattle.link_capture_quirks.specs.declared.quirk_at.QuirkAt.{QuirkAt}
 use Rattle.link_capture_quirks.specs.QuirkTexts.{quirk_text}
 use Rattle.link_capture_quirks.specs.CaptureQuirks.{capture_quirks}
-use Rattle.link_lines_parts.specs.Remaining.{Omitted, nothing_omitted}
 use Rattle.link_lines.specs.MessageLines.{Selection}
+use Rattle.link_lines.specs.Options.{selection_of}
 use Rattle.link_lines.specs.Outcomes.{Shows, ShowsKeeping}
 use Rattle.link_lines.specs.Refused.{fault_message}
 use Rattle.link_lines.specs.declared.refused.ShowFault.{ShowFault}
@@ -22,7 +22,6 @@ use Rattle.linkshow_program.specs.declared.arguments.Options.{Options}
 use Rattle.linkshow_program.specs.declared.arguments.Asked.{Asked}
 use Rattle.linkshow_program.specs.declared.arguments.Asked.TheVariants.{Help, Version, Show}
 use Rattle.linkshow_program.specs.declared.arguments.UsageError.{UsageError}
-use Rattle.link_lines.specs.declared.without.Without.{Without}
 use Rattle.linkshow_program.specs.Arguments.{Asks, UsageFault, usage_fault}
 use Rattle.linkshow_program.specs.Texts.{cause, advice, help_text, usage_text, version_text}
 use Rattle.link_capture_reader.specs.States.{IsReported, SinkState, SourceState, IsReportedOrCut}
@@ -67,30 +66,9 @@ unopened name kind = name_report (Some name) true ++ (cause kind ++ 10 ∷ [])
 
 -- ---- lines
 
--- Whether numbers are among what is left out.
-abbrev pub excludes_numbers : Option Without → Bool
-excludes_numbers None = false
-excludes_numbers (Some x) = x.numbers
-
--- What is left out of lines.
-abbrev pub omitted_by : Option Without → Omitted
-omitted_by None = nothing_omitted
-omitted_by (Some x) =
-    record { names = map (λ name. name.now) x.names.items; counters = x.counters; indexes = x.indexes }
-
 -- What is shown of a capture, as options say.
 abbrev pub chosen : Options → Selection
-chosen o = record {
-  choice = record {
-    numbers = not (o.without_numbers || excludes_numbers o.without);
-    only = option_map (λ types. types.items) o.only;
-  };
-  link = option_map (λ link. link.now) o.link;
-  omitted = omitted_by o.without;
-  offsets = o.offsets;
-  keep_going = o.keep_going;
-  json = o.json;
-}
+chosen o = selection_of o.show
 
 -- A capture was shown, this was reported of it and of the first bytes that were read, and this is the status.
 abbrev pub ShowRun : Selection → Run → Option (List ℕ) → ℕ → ℕ → Type 0

@@ -3,34 +3,22 @@
 ghost use Rattle.std.specs.Prelude.{◌≡◌, ◌≤◌, map, option_map, IfOk, string_bytes};
 ghost use Rattle.std.specs.Result.{result_map_both};
 ghost use Rattle.linkshow_program.specs.Arguments.{argument_of, defaults, if_last, named, settings_of, usage_fault};
-ghost use Rattle.linkshow_program.specs.Arguments.{assigned, is_help, operand_of, value_of, valued_by, with_flag, with_operand};
+ghost use Rattle.linkshow_program.specs.Arguments.{assigned, is_help, operand_of, value_of, valued_by, with_flag, with_link, with_operand};
 ghost use Rattle.linkshow_program.specs.Arguments.{Asks, Expected.Nothing, Gives, HasLimit, Takes};
 ghost use Rattle.linkshow_program.specs.declared.arguments.ValueOption.TheVariants as Valued;
 
 use link_capture_commands::{DEFAULT_LIMIT, read_limit};
-use link_lines::{Types, Without, WordError, read_types};
+use link_lines::{ShowOptions, Without, WordError, read_types, read_without};
 
-/// What is shown of a capture, and which one.
+/// What is shown of which capture.
 #[derive(Clone, Debug, PartialEq, Eq, Drop)]
 pub struct Options<'a> {
     /// The greatest length of a message, in bytes.
     pub limit: u32,
     /// Whether encoding quirks are noted on standard error.
     pub kernels: bool,
-    /// Whether sequence and port numbers are left out.
-    pub without_numbers: bool,
-    /// The types of the messages that are shown; None shows all.
-    pub only: Option<Types>,
-    /// The name or index of the link whose messages are shown; None shows those of all.
-    pub link: Option<&'a str>,
-    /// What is left out of lines; None leaves out nothing.
-    pub without: Option<Without>,
-    /// Whether each message's offset is shown.
-    pub offsets: bool,
-    /// Whether messages with a fault in their body are shown, and those after them.
-    pub keep_going: bool,
-    /// Whether each message is an object of JSON in a line of its own.
-    pub json: bool,
+    /// What is shown of the capture.
+    pub show: ShowOptions<'a>,
     /// The name of the file; None is standard input.
     pub file: Option<&'a str>,
 }
@@ -190,28 +178,15 @@ fn argument_of(word: &str) -> Argument
 fn with_flag<'a>(flag: FlagOption, options: Options<'a>) -> Options<'a>
     ensures { settings_of result ≡ with_flag flag (settings_of options.entry) }
 {
+    let mut more = options;
     match flag {
-        FlagOption::Kernels => Options {
-            kernels: true,
-            ..options
-        },
-        FlagOption::WithoutNumbers => Options {
-            without_numbers: true,
-            ..options
-        },
-        FlagOption::Offsets => Options {
-            offsets: true,
-            ..options
-        },
-        FlagOption::KeepGoing => Options {
-            keep_going: true,
-            ..options
-        },
-        FlagOption::Json => Options {
-            json: true,
-            ..options
-        },
+        FlagOption::Kernels => more.kernels = true,
+        FlagOption::WithoutNumbers => more.show.without_numbers = true,
+        FlagOption::Offsets => more.show.offsets = true,
+        FlagOption::KeepGoing => more.show.keep_going = true,
+        FlagOption::Json => more.show.json = true,
     }
+    more
 }
 
 /// Returns the options with this limit.
@@ -234,10 +209,13 @@ fn with_types<'a>(words: &'a str, options: Options<'a>) -> Result<Options<'a>, U
     ensures limit { IfOk result (λ o. 16 ≤ o.limit) }
 {
     match read_types(words) {
-        Ok(types) => Ok(Options {
-            only: Some(types),
-            ..options
-        }),
+        Ok(types) => {
+            let show = ShowOptions {
+                only: Some(types),
+                ..options.show
+            };
+            Ok(Options { show, ..options })
+        }
         Err(WordError::Unknown(word)) => Err(UsageError::UnknownType(word)),
         Err(WordError::TooMany) => Err(UsageError::Usage),
     }
@@ -250,14 +228,29 @@ fn with_names<'a>(words: &'a str, options: Options<'a>) -> Result<Options<'a>, U
         (result_map_both settings_of usage_fault result) }
     ensures limit { IfOk result (λ o. 16 ≤ o.limit) }
 {
-    match Without::read(words) {
-        Ok(without) => Ok(Options {
-            without: Some(without),
-            ..options
-        }),
+    match read_without(words) {
+        Ok(without) => {
+            let show = ShowOptions {
+                without,
+                ..options.show
+            };
+            Ok(Options { show, ..options })
+        }
         Err(WordError::Unknown(word)) => Err(UsageError::UnknownName(word)),
         Err(WordError::TooMany) => Err(UsageError::Usage),
     }
+}
+
+/// Returns the options that show only messages about this link.
+fn with_link<'a>(link: &'a str, options: Options<'a>) -> Options<'a>
+    ensures link { settings_of result ≡ with_link link.now (settings_of options.entry) }
+    ensures limit { result.limit ≡ options.entry.limit }
+{
+    let show = ShowOptions {
+        link: Some(link.as_bytes()),
+        ..options.show
+    };
+    Options { show, ..options }
 }
 
 /// Returns the options with an option that has this value.
@@ -273,10 +266,7 @@ fn with_value<'a>(
 {
     match option {
         ValueOption::Only => with_types(value, options),
-        ValueOption::Link => Ok(Options {
-            link: Some(value),
-            ..options
-        }),
+        ValueOption::Link => Ok(with_link(value, options)),
         ValueOption::Without => with_names(value, options),
         ValueOption::Limit => with_limit(value, options),
     }
@@ -335,13 +325,15 @@ fn read_options(arguments: &[String]) -> Result<Options<'_>, UsageError<'_>>
     let mut options = Options {
         limit: DEFAULT_LIMIT,
         kernels: false,
-        without_numbers: false,
-        only: None,
-        link: None,
-        without: None,
-        offsets: false,
-        keep_going: false,
-        json: false,
+        show: ShowOptions {
+            without_numbers: false,
+            only: None,
+            link: None,
+            without: Without::nothing(),
+            offsets: false,
+            keep_going: false,
+            json: false,
+        },
         file: None,
     };
     let mut left = arguments;

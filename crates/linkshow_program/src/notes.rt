@@ -8,7 +8,7 @@ ghost use Rattle.linkshow_program.specs.Devices.{run_of};
 ghost use Rattle.linkshow_program.specs.Runs.{chosen, notes_text, NotesRun};
 
 use super::lines::note;
-use super::showing::{report, show_options};
+use super::showing::report;
 use crate::arguments::Options;
 use link_capture_quirks::quirks;
 use link_capture_reader::{
@@ -59,13 +59,7 @@ pub fn run_notes<S: Source, K: Sink, E: Sink>(
         Ok(bytes) => {
             report_notes(errors, bytes.as_slice(), options.limit);
             let mut whole = SliceSource::new(bytes.as_slice());
-            let outcome = show(
-                alloc,
-                &mut whole,
-                sink,
-                options.limit,
-                show_options(options),
-            );
+            let outcome = show(alloc, &mut whole, sink, options.limit, &options.show);
             report(errors, options.file, first.as_slice(), outcome)
         }
         Err(fault) => report(

@@ -2,12 +2,10 @@
 
 ghost use Rattle.std.specs.Prelude.{◌≡◌, ◌≤◌, ◌++◌, option_map};
 ghost use Rattle.std.specs.Process.{exit_status};
-ghost use Rattle.link_lines.specs.Options.{selection_of};
-ghost use Rattle.link_lines_parts.specs.Remaining.{omitted_of};
 ghost use Rattle.link_capture_reader.specs.States.{IsReported, IsReportedOrCut, sink_state, source_state};
 ghost use Rattle.linkshow_program.specs.Devices.{run_of};
-ghost use Rattle.linkshow_program.specs.Runs.{chosen, excludes_numbers, fault_report, is_unread, name_report};
-ghost use Rattle.linkshow_program.specs.Runs.{nothing_shown, omitted_by, report_of, ShowRun, status_of, unopened};
+ghost use Rattle.linkshow_program.specs.Runs.{chosen, fault_report, is_unread, name_report};
+ghost use Rattle.linkshow_program.specs.Runs.{nothing_shown, report_of, ShowRun, status_of, unopened};
 
 use super::lines::report_texts;
 use super::refusals::report_fault_message;
@@ -15,9 +13,7 @@ use crate::arguments::Options;
 use crate::texts::{advice, cause};
 use link_capture_grammar::fault::FaultKind;
 use link_capture_reader::{Sink, Source, report_text};
-use link_lines::{
-    FirstBytes, LineOptions, Omission, ShowFault, ShowOptions, Without, show_keeping_first,
-};
+use link_lines::{FirstBytes, ShowFault, show_keeping_first};
 use std::alloc::Global;
 use std::io::ErrorKind;
 use std::process::ExitCode;
@@ -109,53 +105,6 @@ pub(crate) fn report<E: Sink>(
     }
 }
 
-/// Returns whether numbers are among what is left out.
-fn excludes_numbers(without: &Option<Without>) -> bool
-    ensures { result ≡ excludes_numbers without.now }
-{
-    match without {
-        Some(without) => without.numbers,
-        None => false,
-    }
-}
-
-/// Returns what is left out of lines, besides numbers.
-fn omission(without: &Option<Without>) -> Omission<'_>
-    ensures { omitted_of result ≡ omitted_by without.now }
-{
-    match without {
-        Some(without) => Omission {
-            names: without.names.as_slice(),
-            counters: without.counters,
-            indexes: without.indexes,
-        },
-        None => Omission {
-            names: &[],
-            counters: false,
-            indexes: false,
-        },
-    }
-}
-
-/// Returns the choice of what is shown that the options make.
-pub(crate) fn show_options<'a>(options: &'a Options<'_>) -> ShowOptions<'a>
-    ensures { selection_of result ≡ chosen options.now }
-{
-    let excludes = excludes_numbers(&options.without);
-    let omission = omission(&options.without);
-    ShowOptions {
-        lines: LineOptions {
-            without_numbers: options.without_numbers | excludes,
-            only: options.only.as_ref().map(|types| types.as_slice()),
-        },
-        link: options.link.map(|link| link.as_bytes()),
-        omission,
-        offsets: options.offsets,
-        keep_going: options.keep_going,
-        json: options.json,
-    }
-}
-
 /// Writes the lines of a source, read to its end, and reports what went wrong. Returns the
 /// program's status.
 pub fn run_show<S: Source, K: Sink, E: Sink>(
@@ -173,7 +122,13 @@ pub fn run_show<S: Source, K: Sink, E: Sink>(
         (exit_status result) }
 {
     let mut first = FirstBytes::new();
-    let shown = show_options(options);
-    let outcome = show_keeping_first(alloc, source, sink, options.limit, shown, &mut first);
+    let outcome = show_keeping_first(
+        alloc,
+        source,
+        sink,
+        options.limit,
+        &options.show,
+        &mut first,
+    );
     report(errors, options.file, first.as_slice(), outcome)
 }

@@ -2,13 +2,13 @@
 // pieces, with the same result.
 
 ghost use Rattle.std.specs.Prelude.{◌≡◌, ◌<◌, ◌≤◌, ◌++◌, IfOk, IfSome, OnOk};
-ghost use Rattle.link_lines.specs.Options.{choice_of};
-ghost use Rattle.vectors.specs.Show.{expected_line, chosen, outcome_line};
+ghost use Rattle.link_lines.specs.Options.{selection_of};
+ghost use Rattle.vectors.specs.Show.{expected_line, outcome_line};
 
 use crate::cases::{Case, LEAST_LIMIT, PIECES, read_words};
 use link_lines::{
-    CaptureFault, CaptureReader, FaultKind, LineOptions, ShowOptions, SliceSource, VecSink,
-    push_lines, show, show_bytes,
+    CaptureFault, CaptureReader, FaultKind, ShowOptions, SliceSource, VecSink, push_lines,
+    read_types, show, show_bytes,
 };
 use std::alloc::{AllocError, Global};
 use std::io::{self, ErrorKind, Write};
@@ -17,29 +17,7 @@ use std::io::{self, ErrorKind, Write};
 #[derive(Drop)]
 struct Shown {
     case: Case,
-    without_numbers: bool,
-    only: Option<Vec<u16>>,
-}
-
-impl Shown {
-    /// Returns the options of what is to be shown.
-    fn options(&self) -> LineOptions<'_>
-        ensures { choice_of result ≡ chosen self.now }
-    {
-        LineOptions {
-            without_numbers: self.without_numbers,
-            only: self.only.as_ref().map(|types| types.as_slice()),
-        }
-    }
-}
-
-/// Returns types of messages in decimal, with commas between.
-fn read_types(alloc: Global, fields: &str) -> Option<Vec<u16>> {
-    let mut types = Vec::new(alloc);
-    for word in fields.split(',') {
-        types.push(word.parse::<u16>().ok()?).ok()?;
-    }
-    Some(types)
+    options: ShowOptions<'static>,
 }
 
 /// Returns the case of a limit from 16 to 4294967295 in decimal, and a capture in hex, with a space
@@ -51,17 +29,13 @@ fn read_shown(alloc: Global, fields: &str) -> Option<Shown>
     let (head, capture) = fields.rsplit_once(' ')?;
     let (limit, choice) = head.split_once(' ').unwrap_or((head, ""));
     let case = read_words(alloc, limit, capture, LEAST_LIMIT)?;
-    let without_numbers = choice == "without-numbers";
-    let only = if choice.is_empty() || without_numbers {
-        None
-    } else {
-        Some(read_types(alloc, choice)?)
-    };
-    Some(Shown {
-        case,
-        without_numbers,
-        only,
-    })
+    let mut options = ShowOptions::default();
+    match choice {
+        "" => {}
+        "without-numbers" => options.without_numbers = true,
+        types => options.only = Some(read_types(types).ok()?),
+    }
+    Some(Shown { case, options })
 }
 
 /// Appends the last line of a result: `legal`, or the first fault.
@@ -81,19 +55,21 @@ fn push_outcome(outcome: Result<(), CaptureFault>, out: &mut Vec<u8>) -> Result<
 fn case_result(alloc: Global, shown: &Shown) -> Result<Vec<u8>, AllocError>
     requires { 16 ≤ shown.now.case.limit }
     ensures { IfOk result
-        (λ lines. lines.items ≡ expected_line (chosen shown.now) shown.now.case.limit shown.now.case.capture.items) }
+        (λ lines. lines.items ≡ expected_line (selection_of shown.now.options) shown.now.case.limit
+        shown.now.case.capture.items) }
 {
     let mut lines = Vec::new(alloc);
-    let outcome = show_bytes(
+    let outcome = match show_bytes(
         alloc,
         shown.case.capture.as_slice(),
         shown.case.limit,
-        shown.options(),
+        &shown.options,
         &mut lines,
-    );
-    if outcome.is_err_and(|fault| fault.kind == FaultKind::Memory) {
-        return Err(AllocError);
-    }
+    ) {
+        Ok(()) => Ok(()),
+        Err(found) if found.fault.kind == FaultKind::Memory => return Err(AllocError),
+        Err(found) => Err(found.fault),
+    };
     push_outcome(outcome, &mut lines)?;
     Ok(lines)
 }
@@ -112,7 +88,7 @@ fn read_pieces(
     let mut texts = Vec::new(alloc);
     for piece in shown.case.capture.as_slice().chunks(size) {
         let fed = reader.feed(piece, &mut texts);
-        push_lines(texts.as_slice(), shown.options(), out)?;
+        push_lines(texts.as_slice(), &shown.options, out)?;
         if fed.is_err() {
             return Ok(fed);
         }
@@ -130,9 +106,10 @@ fn agrees(alloc: Global, shown: &Shown) -> Result<bool, AllocError>
         alloc,
         shown.case.capture.as_slice(),
         shown.case.limit,
-        shown.options(),
+        &shown.options,
         &mut lines,
-    );
+    )
+    .map_err(|found| found.fault);
     let mut sink = VecSink::new(alloc);
     let mut source = SliceSource::new(shown.case.capture.as_slice());
     let from_source = show(
@@ -140,7 +117,7 @@ fn agrees(alloc: Global, shown: &Shown) -> Result<bool, AllocError>
         &mut source,
         &mut sink,
         shown.case.limit,
-        ShowOptions::from(shown.options()),
+        &shown.options,
     )
     .map(|_| ())
     .map_err(|found| found.fault);

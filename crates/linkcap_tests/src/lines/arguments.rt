@@ -2,7 +2,7 @@
 //! what is unknown, come from an independent implementation.
 
 use crate::program_arguments::words_of;
-use link_lines::{Types, Without, WordError, read_types};
+use link_lines::{ShowOptions, Types, Without, WordError, read_types, read_without};
 use linkshow_program::{Asked, Options, UsageError, read_words};
 use std::test::Fail;
 
@@ -11,13 +11,7 @@ fn defaults() -> Options<'static> {
     Options {
         limit: 1_048_576,
         kernels: false,
-        without_numbers: false,
-        only: None,
-        link: None,
-        without: None,
-        offsets: false,
-        keep_going: false,
-        json: false,
+        show: ShowOptions::default(),
         file: None,
     }
 }
@@ -48,14 +42,14 @@ fn types_and_names_are_read(rt: HostRuntime) -> Result<(), Fail> {
     let many = "0,1,2,3,4,5,6,7,0,1,2,3,4,5,6,7,0,1,2,3,4,5,6,7,0,1,2,3,4,5,6,7,8";
     assert!(rt; read_types(many) == Err(WordError::TooMany));
     assert!(rt; matches!(read_types(&many[..63]), Ok(types) if types.len() == 32));
-    let Ok(without) = Without::read("ifla_mtu,Counters,RTA_GATEWAY,indexes") else {
+    let Ok(without) = read_without("ifla_mtu,Counters,RTA_GATEWAY,indexes") else {
         return Err(Fail::from("refused"));
     };
     let names = [b"IFLA_MTU".as_slice(), b"RTA_GATEWAY".as_slice()];
     assert!(rt; without.names.as_slice() == names.as_slice());
     assert!(rt; without.counters && without.indexes && !without.numbers);
-    assert!(rt; matches!(Without::read("numbers"), Ok(without) if without.numbers));
-    assert!(rt; Without::read("numbers,IFLA_STAT,x") == Err(WordError::Unknown("IFLA_STAT")));
+    assert!(rt; matches!(read_without("numbers"), Ok(without) if without.numbers));
+    assert!(rt; read_without("numbers,IFLA_STAT,x") == Err(WordError::Unknown("IFLA_STAT")));
     Ok(())
 }
 
@@ -63,15 +57,17 @@ fn types_and_names_are_read(rt: HostRuntime) -> Result<(), Fail> {
 fn options_are_read(rt: HostRuntime) -> Result<(), Fail> {
     let line = "--offsets --link --only --without NUMBERS --keep-going --json a";
     let arguments = words_of(rt.alloc(), line)?;
+    let mut without = Without::nothing();
+    without.numbers = true;
     let expected = Options {
-        link: Some("--only"),
-        without: Some(Without {
-            numbers: true,
-            ..Without::nothing()
-        }),
-        offsets: true,
-        keep_going: true,
-        json: true,
+        show: ShowOptions {
+            link: Some(b"--only"),
+            without,
+            offsets: true,
+            keep_going: true,
+            json: true,
+            ..ShowOptions::default()
+        },
         file: Some("a"),
         ..defaults()
     };
@@ -83,9 +79,12 @@ fn options_are_read(rt: HostRuntime) -> Result<(), Fail> {
     let expected = Options {
         limit: 16,
         kernels: true,
-        without_numbers: true,
-        only: Some(only),
-        ..defaults()
+        show: ShowOptions {
+            without_numbers: true,
+            only: Some(only),
+            ..ShowOptions::default()
+        },
+        file: None,
     };
     assert!(rt; read_words(arguments.as_slice()) == Ok(Asked::Show(expected)));
     Ok(())

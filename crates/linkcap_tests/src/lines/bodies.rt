@@ -30,7 +30,8 @@ const CASES: [(u16, bool, &str); 16] = [
         24,
         false,
         "81180000fe030001000000000c0017000900000000000000
-  rtmsg family 129 (RTNL_FAMILY_IP6MR) dst_len 24 src_len 0 tos 0 table 254 (main) protocol 3 (boot) scope 0 (universe) type 1 (unicast) flags 0x0
+  rtmsg family 129 (RTNL_FAMILY_IP6MR) dst_len 24 src_len 0 tos 0 table 254 (main) protocol 3 (boot) \
+        scope 0 (universe) type 1 (unicast) flags 0x0
   RTA_EXPIRES 9
 ",
     ),

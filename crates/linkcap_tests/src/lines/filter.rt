@@ -1,7 +1,7 @@
 //! The lines of a message without some attributes, with its offset, and whether they are about a
 //! link. The lines, and those expected, come from an independent implementation.
 
-use link_lines::{COUNTERS, INDEXES, Omission, is_about, push_remaining, push_with_offset};
+use link_lines::{COUNTERS, INDEXES, Without, is_about, push_remaining, push_with_offset};
 use std::test::Fail;
 
 /// The lines of a link with alternative names.
@@ -193,19 +193,23 @@ const REMAINING: [RemainingCase; 17] = [
 #[test]
 fn attributes_are_left_out(rt: HostRuntime) -> Result<(), Fail> {
     for (lines, names, counters, indexes, remaining) in &REMAINING {
-        let omission = Omission {
-            names,
-            counters: *counters,
-            indexes: *indexes,
-        };
+        let mut without = Without::nothing();
+        for name in *names {
+            assert!(rt; without.names.try_push(*name).is_ok());
+        }
+        without.counters = *counters;
+        without.indexes = *indexes;
         let mut out = Vec::new(rt.alloc());
-        push_remaining(lines.as_bytes(), omission, &mut out)?;
+        push_remaining(lines.as_bytes(), &without, &mut out)?;
         assert!(rt;
             out.as_slice() == remaining.as_bytes(),
             "{names:?} {remaining}"
         );
-        let is_empty = names.is_empty() && !*counters && !*indexes;
-        assert!(rt; omission.is_empty() == is_empty, "{names:?} {remaining}");
+        let keeps_lines = names.is_empty() && !*counters && !*indexes;
+        assert!(rt;
+            without.keeps_lines() == keeps_lines,
+            "{names:?} {remaining}"
+        );
     }
     assert_eq!(rt; (COUNTERS.len(), INDEXES.len()), (57, 43));
     Ok(())

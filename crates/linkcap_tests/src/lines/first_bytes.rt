@@ -3,7 +3,7 @@
 
 use link_capture_reader::read_all_keeping_first;
 use link_lines::{
-    DEFAULT_LIMIT, FirstBytes, LineOptions, ShowOptions, SliceSource, VecSink, show_keeping_first,
+    DEFAULT_LIMIT, FirstBytes, ShowOptions, SliceSource, VecSink, show_keeping_first,
 };
 use std::test::Fail;
 
@@ -34,7 +34,7 @@ fn lines_are_written_and_first_bytes_are_kept(rt: HostRuntime) -> Result<(), Fai
         &mut SliceSource::new(&NOOP),
         &mut lines,
         DEFAULT_LIMIT,
-        ShowOptions::from(LineOptions::default()),
+        &ShowOptions::default(),
         &mut first,
     );
     assert!(rt; shown == Ok(true));

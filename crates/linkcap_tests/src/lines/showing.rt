@@ -2,8 +2,8 @@
 //! implementation, `tools/oracle`.
 
 use link_lines::{
-    Buffers, CaptureFault, DEFAULT_LIMIT, FaultKind, Omission, ShowFault, ShowOptions,
-    ShownMessage, SliceSource, VecSink, push_selected_message, show, show_selected_bytes,
+    Buffers, CaptureFault, DEFAULT_LIMIT, FaultKind, ShowFault, ShowOptions, ShownMessage,
+    SliceSource, VecSink, push_selected_message, show, show_bytes,
 };
 use std::alloc::Global;
 use std::test::Fail;
@@ -78,7 +78,7 @@ fn is_first(found: &ShowFault) -> bool {
 fn is_shown(
     alloc: Global,
     capture: &[u8],
-    options: ShowOptions<'_>,
+    options: &ShowOptions<'_>,
     lines: &[u8],
     expected: Option<bool>,
 ) -> bool {
@@ -103,12 +103,12 @@ fn of_all() -> ShowOptions<'static> {
 #[test]
 fn all_messages_are_shown(rt: HostRuntime) -> Result<(), Fail> {
     let alloc = rt.alloc();
-    assert!(rt; is_shown(alloc, &REFUSED, of_all(), REFUSED_LINES, None));
+    assert!(rt; is_shown(alloc, &REFUSED, &of_all(), REFUSED_LINES, None));
     let mut options = of_all();
     options.json = true;
-    assert!(rt; is_shown(alloc, &REFUSED, options, REFUSED_JSON, None));
+    assert!(rt; is_shown(alloc, &REFUSED, &options, REFUSED_JSON, None));
     let mut lines = Vec::new(alloc);
-    let shown = show_selected_bytes(alloc, &REFUSED, DEFAULT_LIMIT, of_all(), &mut lines);
+    let shown = show_bytes(alloc, &REFUSED, DEFAULT_LIMIT, &of_all(), &mut lines);
     assert!(rt; matches!(&shown, Err(found) if is_first(found)));
     assert!(rt; lines.as_slice() == REFUSED_LINES);
     Ok(())
@@ -122,20 +122,17 @@ fn messages_about_a_link_are_shown(rt: HostRuntime) {
         options.link = Some(link);
         let is_any = !lines.is_empty();
         assert!(rt;
-            is_shown(rt.alloc(), &LINK, options, lines, Some(is_any)),
+            is_shown(rt.alloc(), &LINK, &options, lines, Some(is_any)),
             "{link:?}"
         );
     }
     let mut options = ShowOptions::default();
     options.json = true;
-    assert!(rt; is_shown(rt.alloc(), &LINK, options, LINK_JSON, Some(true)));
+    assert!(rt; is_shown(rt.alloc(), &LINK, &options, LINK_JSON, Some(true)));
     options.json = false;
-    options.omission = Omission {
-        names: &[b"IFLA_MTU"],
-        counters: false,
-        indexes: true,
-    };
-    assert!(rt; is_shown(rt.alloc(), &LINK, options, REMAINING_LINES, Some(true)));
+    assert!(rt; options.without.names.try_push(b"IFLA_MTU").is_ok());
+    options.without.indexes = true;
+    assert!(rt; is_shown(rt.alloc(), &LINK, &options, REMAINING_LINES, Some(true)));
 }
 
 #[test]
@@ -154,7 +151,7 @@ fn selected_messages_are_appended_one_by_one(rt: HostRuntime) -> Result<(), Fail
             message,
             offset,
             limit,
-            options,
+            &options,
             &mut buffers,
             &mut lines,
         )?;

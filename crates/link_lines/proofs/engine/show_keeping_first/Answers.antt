@@ -37,7 +37,7 @@ returns-in_default g c =
     let s = i.came.0 in
     let came = i.came.1 in (
       s,
-      messages_lines (selection_of c.args.options) came.messages,
+      messages_lines (selection_of c.args.options.now) came.messages,
       came.consumed,
       came.wrote,
       device_shown _ _ _ _ c.args.limit s _ _ _ c.fault_at.ensures refl
@@ -52,7 +52,7 @@ returns-in_default-read g c =
     let came = i.came.1 in
     let at : c.pieces.start + c.len.result ≡ c.pieces.start + length c.pieces.rest.items = omega (arith, c.len.ensures) in (
       s,
-      messages_lines (selection_of c.args.options) came.messages,
+      messages_lines (selection_of c.args.options.now) came.messages,
       Consumes-kept _ _ _ s came.consumed c.in_default-read.ensures.bytes,
       came.wrote,
       device_shown _ _ _ _ c.args.limit s _ _ _ c.fault_at-in_default-read.ensures refl (
@@ -70,7 +70,7 @@ returns-then-size-eq0 g c =
     let came = i.came.1 in
     let read = c.in-Ok-read in (
       s,
-      messages_lines (selection_of c.args.options) came.messages,
+      messages_lines (selection_of c.args.options.now) came.messages,
       subst (Consumes _ _) (ap (λ n. s ++ take n c.read.new.buffer) c.if-size-eq0.true ∙ append-nil s) (Consumes-trans _ _ _ s (take read.size c.read.new.buffer) came.consumed read.ensures.bytes.0),
       came.wrote,
       finished c.messages_unfold.ensures c.first_faults_are_reported.ensures c.faults_are_at_frames.ensures _ _ _ _ _ _ _ _ _ _ _ s came _ _ _ (search rules) c.finish.result
@@ -89,7 +89,7 @@ returns-then-size-accepted g c =
     let at : c.pieces.start + c.len.result ≡ c.pieces.start + length c.pieces.rest.items = omega (arith, c.len.ensures) in
     let size : length (s ++ piece) ≡ length s + read.size = omega (arith, length-append s piece, length-take read.size c.read.new.buffer, read.ensures.within) in (
       s ++ piece,
-      messages_lines (selection_of c.args.options) came.messages,
+      messages_lines (selection_of c.args.options.now) came.messages,
       Consumes-trans _ _ _ s piece came.consumed read.ensures.bytes.0,
       came.wrote,
       device_shown _ _ _ _ c.args.limit (s ++ piece) _ _ _ c.fault_at-then-size-accepted.ensures refl (record {
@@ -110,7 +110,7 @@ returns-in_err-written g c =
     let i = c.pieces.invariant in
     let s = i.came.0 in
     let came = i.came.1 in
-    let o = selection_of c.args.options in
+    let o = selection_of c.args.options.now in
     let piece = take c.in-Ok-read.size c.read.new.buffer in
     let z = c.in_err-written.ensures.fault in
     let slice = c.as_slice-in-pieces-2.result.now in
@@ -135,7 +135,7 @@ returns-in-Err g c =
     let i = c.pieces.invariant in
     let s = i.came.0 in
     let came = i.came.1 in
-    let o = selection_of c.args.options in
+    let o = selection_of c.args.options.now in
     let piece = take c.in-Ok-read.size c.read.new.buffer in
     let bytes = c.left_to_show-bytes.result.now in
     let at = c.in-Err.at in
@@ -157,7 +157,7 @@ returns-in-Some g c =
     let i = c.pieces.invariant in
     let s = i.came.0 in
     let came = i.came.1 in
-    let o = selection_of c.args.options in
+    let o = selection_of c.args.options.now in
     let piece = take c.in-Ok-read.size c.read.new.buffer in
     let bytes = c.left_to_show-bytes.result.now in
     let walked = c.in-Ok-walk.walked in
@@ -183,7 +183,7 @@ returns-in_default-keep_rest g c =
     let i = c.pieces.invariant in
     let s = i.came.0 in
     let came = i.came.1 in
-    let o = selection_of c.args.options in
+    let o = selection_of c.args.options.now in
     let piece = take c.in-Ok-read.size c.read.new.buffer in
     let bytes = c.left_to_show-bytes.result.now in
     let walked = c.in-Ok-walk.walked in
@@ -208,7 +208,7 @@ pieces-preserved g c =
     let i = c.pieces.invariant in
     let s = i.came.0 in
     let came = i.came.1 in
-    let o = selection_of c.args.options in
+    let o = selection_of c.args.options.now in
     let read = c.in-Ok-read in
     let piece = take read.size c.read.new.buffer in
     let bytes = c.left_to_show-bytes.result.now in

@@ -4,12 +4,13 @@ use Rattle.netlink_packet_core_grammar.specs.Attributes.{nla_align}
 use Rattle.link_lines_values.proofs.Appending.{done, step}
 use Rattle.link_lines_texts.proofs.AppendingWith.{failed_with, spared, whole}
 use Rattle.link_lines_texts.specs.Captures.{shown_lines, text_lines}
-use Rattle.link_lines.specs.Options.{choice_of}
+use Rattle.link_lines.specs.MessageLines.{choice_of}
+use Rattle.link_lines.specs.Options.{selection_of}
 use Rattle.link_lines.proofs.lines.push_lines.Goals as goal
 
 pub loop-size-preserved : goal.loop-size-preserved
 loop-size-preserved c =
-    let ch = choice_of c.args.options in
+    let ch = choice_of (selection_of c.args.options.now) in
     let rest = c.loop-size.rest.now in
     let n = c.in-Some.size in
     let next = ap (λ z. shown_lines ch (take n rest) ++ text_lines ch z) c.after_padding-rest.ensures
@@ -22,7 +23,7 @@ loop-size-preserved c =
 
 pub returns-in_err-push_shown : goal.returns-in_err-push_shown
 returns-in_err-push_shown c =
-    let ch = choice_of c.args.options in
+    let ch = choice_of (selection_of c.args.options.now) in
     let rest = c.loop-size.rest.now in
     let n = c.in-Some.size in
     let next = ap (λ m. shown_lines ch (take m rest) ++ text_lines ch (drop (nla_align m) rest)) c.in-Some.ensures.some.1
@@ -31,5 +32,5 @@ returns-in_err-push_shown c =
 
 pub returns : goal.returns
 returns c =
-    let none : text_lines (choice_of c.args.options) c.loop-size.rest.now ≡ [] = search (rules, c.lines_unfold_by_frames.ensures.none) in
+    let none : text_lines (choice_of (selection_of c.args.options.now)) c.loop-size.rest.now ≡ [] = search (rules, c.lines_unfold_by_frames.ensures.none) in
     spared _ _ (done _ c.loop-size.invariant.appends none)

@@ -15,9 +15,9 @@ messages-preserved c =
     let bytes = c.args.bytes.now in
     let len = c.messages.len in
     let rest = take_rest bytes len in
-    let fits = step_fits _ _ _ _ _ _ _ _ _ c.in-Next.size c.in-Next.is c.in-Ok.ensures.ok in
+    let fits = step_fits (selection_of c.args.options.now) _ _ _ _ _ (report_in c.messages.found) (report_in c.push_message.new.found) _ c.in-Next.size c.in-Next.is c.in-Ok.ensures.ok in
     let size = c.nla_align-len.ensures in
     record {
-      passes = subst (λ n. Passes (selection_of c.args.options) c.args.limit c.args.start bytes c.args.from (len + n) c.args.out.now.items c.push_message.new.out.items (report_in c.args.found.now) (report_in c.push_message.new.found)) (sym size) (step_passes _ _ _ bytes _ _ len _ _ _ _ _ _ _ _ c.in-Next.size c.messages.invariant.passes (omega (arith, c.messages-test.true)) rest refl c.in-Next.is c.in-Ok.ensures.ok);
+      passes = subst (λ n. Passes (selection_of c.args.options.now) c.args.limit c.args.start bytes c.args.from (len + n) c.args.out.now.items c.push_message.new.out.items (report_in c.args.found.now) (report_in c.push_message.new.found)) (sym size) (step_passes _ _ _ bytes _ _ len _ _ _ _ _ _ _ _ c.in-Next.size c.messages.invariant.passes (omega (arith, c.messages-test.true)) rest refl c.in-Next.is c.in-Ok.ensures.ok);
       bound = omega (arith, fits, size, ap length rest, length-drop len bytes);
     }

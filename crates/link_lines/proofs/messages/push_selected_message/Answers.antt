@@ -27,5 +27,5 @@ returns-in_ok-push_refused-in-Faulty-clause-ok c =
       judged.1,
       judged.2,
       judged.3,
-      c.in_ok-push_refused-in-Faulty.ensures.ok ∙ ap (λ f. c.args.out.now.items ++ message_lines (selection_of c.args.options) (Faulty c.args.offset c.in-Faulty.kind f)) c.frame_of.ensures,
+      c.in_ok-push_refused-in-Faulty.ensures.ok ∙ ap (λ f. c.args.out.now.items ++ message_lines (selection_of c.args.options.now) (Faulty c.args.offset c.in-Faulty.kind f)) c.frame_of.ensures,
     )

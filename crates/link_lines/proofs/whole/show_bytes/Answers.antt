@@ -1,68 +1,50 @@
--- The lines of the texts that were gathered.
-use Rattle.std.proofs.Common.{◌∙◌, ◌++◌, length, refl, ◌≡◌, ◌<◌, ap, sym, subst}
-use Rattle.std.proofs.lemmas.Result.{IfErr-weaker}
-use Rattle.link_capture_grammar.specs.Captures.{texts}
-use Rattle.link_lines_texts.specs.Captures.{text_lines}
-use Rattle.link_lines.specs.Options.{choice_of}
-use Rattle.link_lines.proofs.Joined.{on_ok, on_err}
-use Rattle.link_lines.proofs.Gathered.{Gathers, legal_shown, fault_shown, memory_shown, some_texts, some_bytes, texts_needed, memory_needed, nothing_shown}
+-- All lines that are selected are appended, or memory runs out.
+use Rattle.std.proofs.Common.{◌≡◌, ◌++◌, ◌∙◌, ℕ, List, sym, subst}
+use Rattle.link_lines.specs.Messages.{first_report, messages}
+use Rattle.link_lines.specs.Options.{selection_of}
+use Rattle.link_lines.specs.Outcomes.{RunsOutAt}
+use Rattle.link_lines.specs.Walks.{report_in, reported_by}
+use Rattle.link_lines.proofs.Selecting.{IsShownWhole, fault_at_frame, fault_shown, legal_shown, memory_sufficed, refusal_shown, runs_out, shown_whole}
 use Rattle.link_lines.proofs.whole.show_bytes.Goals as goal
-use Rattle.link_lines.proofs.whole.show_bytes.Goals.{After-push_all, Then-is_err, Else-is_err}
+use Rattle.link_lines.proofs.whole.show_bytes.Goals.{After-conclude}
 
-gathered : (c : After-push_all) → Gathers c.normalize_bytes-shown.result c.args.limit c.args.bytes.now c.new-texts.result.items c.normalize_bytes-shown.new.out.items
-gathered c = record {
-  nothing = c.new-texts.ensures.items;
-  legal = c.normalize_bytes-shown.ensures.legal;
-  fault = c.normalize_bytes-shown.ensures.fault;
-  memory = c.normalize_bytes-shown.ensures.memory;
-}
+whole : (c : After-conclude) → IsShownWhole (selection_of c.args.options.now) c.args.limit c.args.bytes.now c.args.out.now.items c.push_messages.new.out.items (report_in c.push_messages.new.found) c.in-Ok.walked.len c.in-Ok.walked.last
+whole c = shown_whole c.messages_unfold.ensures _ _ _ _ _ _ _ _ c.in-Ok.ensures.passes c.in-Ok.ensures.ends
 
--- The lines of these texts are written.
-written : (c : Else-is_err) → c.push_all.new.out.items ≡ c.args.out.now.items ++ text_lines (choice_of c.args.options) c.normalize_bytes-shown.new.out.items
-written c =
-    on_ok c.push_all.result (c.push_all.new.out.items ≡ c.args.out.now.items ++ text_lines (choice_of c.args.options) c.as_slice.result.now) (sym c.if-is_err.ensures.value) c.push_all.ensures.ok
-    ∙ ap (λ x. c.args.out.now.items ++ text_lines (choice_of c.args.options) x) c.as_slice.ensures.value
+report : (c : After-conclude) → first_report (messages c.args.options.now.keep_going c.args.limit c.args.bytes.now) ≡ reported_by c.conclude.result
+report c = (whole c).report ∙ sym c.conclude.ensures
 
--- An allocation failed for the lines: the bytes have texts, and nothing is written.
-lacking : (c : Then-is_err) → Gathers c.normalize_bytes-shown.result c.args.limit c.args.bytes.now c.new-texts.result.items c.normalize_bytes-shown.new.out.items → (0 < length (texts c.args.limit c.args.bytes.now)) × (c.push_all.new.out.items ≡ c.args.out.now.items)
-lacking c g =
-    let z = on_err c.push_all.result ((0 < length c.as_slice.result.now) × (c.push_all.new.out.items ≡ c.args.out.now.items)) (sym c.if-is_err.ensures.value) c.push_all.ensures.err in
-    let some : 0 < length c.normalize_bytes-shown.new.out.items = subst (λ x. 0 < length x) c.as_slice.ensures.value z.0 in
-    (some_texts c.texts_of_a_prefix_stay.ensures c.normalize_bytes-shown.result c.args.limit c.args.bytes.now c.new-texts.result.items c.normalize_bytes-shown.new.out.items g some, z.1)
+pub returns-in-Ok-clause-legal : goal.returns-in-Ok-clause-legal
+returns-in-Ok-clause-legal c =
+    let at = (goal.at.returns-in-Ok-clause-legal c).After-conclude in
+    legal_shown c.first_faults_are_reported.ensures c.faults_are_at_frames.ensures _ _ _ _ _ (whole at).lines c.conclude.result (report at)
 
-pub returns-then-is_err-clause-memory : goal.returns-then-is_err-clause-memory
-returns-then-is_err-clause-memory c = λ m.
-    let at = goal.at.returns-then-is_err-clause-memory c in
-    let z = lacking at.Then-is_err (gathered at.After-push_all) in
-    nothing_shown _ c.captures_unfold_by_frames.ensures c.frames_are_independent.ensures c.lines_are_joined.ensures c.args.limit c.args.bytes.now c.args.out.now.items c.push_all.new.out.items z.0 z.1
+pub returns-in-Ok-clause-fault : goal.returns-in-Ok-clause-fault
+returns-in-Ok-clause-fault c =
+    let at = (goal.at.returns-in-Ok-clause-fault c).After-conclude in
+    fault_shown c.first_faults_are_reported.ensures c.faults_are_at_frames.ensures _ _ _ _ _ (whole at).lines c.conclude.result (report at)
 
-pub returns-then-is_err-clause-frame_start : goal.returns-then-is_err-clause-frame_start
-returns-then-is_err-clause-frame_start c =
-    let at = goal.at.returns-then-is_err-clause-frame_start c in
-    let z = lacking at.Then-is_err (gathered at.After-push_all) in
-    (some_bytes c.args.limit c.args.bytes.now z.0, refl)
+pub returns-in-Ok-clause-refusal : goal.returns-in-Ok-clause-refusal
+returns-in-Ok-clause-refusal c =
+    let at = (goal.at.returns-in-Ok-clause-refusal c).After-conclude in
+    refusal_shown c.first_faults_are_reported.ensures c.faults_are_at_frames.ensures _ _ _ _ _ (whole at).lines c.conclude.result (report at)
 
-pub returns-then-is_err-clause-cause : goal.returns-then-is_err-clause-cause
-returns-then-is_err-clause-cause c = λ m.
-    let at = goal.at.returns-then-is_err-clause-cause c in
-    let z = lacking at.Then-is_err (gathered at.After-push_all) in
-    texts_needed c.captures_unfold_by_frames.ensures c.args.limit c.args.bytes.now z.0
+pub returns-in-Ok-clause-frame_start : goal.returns-in-Ok-clause-frame_start
+returns-in-Ok-clause-frame_start c =
+    let at = (goal.at.returns-in-Ok-clause-frame_start c).After-conclude in
+    fault_at_frame c.first_faults_are_reported.ensures c.faults_are_at_frames.ensures _ _ _ _ _ (whole at).lines c.conclude.result (report at)
 
-pub returns-clause-legal : goal.returns-clause-legal
-returns-clause-legal c =
-    let at = goal.at.returns-clause-legal c in
-    legal_shown _ c.args.limit c.args.bytes.now c.args.out.now.items c.push_all.new.out.items c.new-texts.result.items c.normalize_bytes-shown.new.out.items c.normalize_bytes-shown.result (gathered at.After-push_all) (written at.Else-is_err)
-
-pub returns-clause-fault : goal.returns-clause-fault
-returns-clause-fault c =
-    let at = goal.at.returns-clause-fault c in
-    fault_shown _ c.args.limit c.args.bytes.now c.args.out.now.items c.push_all.new.out.items c.new-texts.result.items c.normalize_bytes-shown.new.out.items c.normalize_bytes-shown.result (gathered at.After-push_all) (written at.Else-is_err)
+pub returns-in-Ok-clause-memory : goal.returns-in-Ok-clause-memory
+returns-in-Ok-clause-memory c =
+    let at = (goal.at.returns-in-Ok-clause-memory c).After-conclude in
+    memory_sufficed c.first_faults_are_reported.ensures c.faults_are_at_frames.ensures _ _ _ _ _ (whole at).lines c.conclude.result (report at)
 
 pub returns-clause-memory : goal.returns-clause-memory
-returns-clause-memory c =
-    let at = goal.at.returns-clause-memory c in
-    memory_shown _ c.args.limit c.args.bytes.now c.args.out.now.items c.push_all.new.out.items c.new-texts.result.items c.normalize_bytes-shown.new.out.items c.normalize_bytes-shown.result (gathered at.After-push_all) (written at.Else-is_err)
-
-pub returns-clause-cause : goal.returns-clause-cause
-returns-clause-cause c =
-    IfErr-weaker c.normalize_bytes-shown.result _ _ (λ fault h m. memory_needed c.args.limit c.args.bytes.now fault.offset c.new-texts.result (h m)) c.normalize_bytes-shown.ensures.capacity
+returns-clause-memory c = λ m.
+    let o = selection_of c.args.options.now in
+    let old = c.args.out.now.items in
+    let new = c.push_messages.new.out.items in
+    let at = c.in-Err.offset in
+    let memory = c.in-Err.ensures.memory in
+    subst (λ e. (w : List ℕ) × RunsOutAt o c.args.limit c.args.bytes.now w e.fault.offset × (new ≡ old ++ w)) (sym c.fault_at.ensures)
+    (runs_out o c.args.limit c.args.bytes.now old new at _ _ c.in-Err.ensures.passes memory.0 memory.1)

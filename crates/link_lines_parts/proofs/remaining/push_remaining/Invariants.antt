@@ -5,7 +5,7 @@ use Rattle.link_lines_parts.specs.Remaining.{omitted_of, remaining_after, remain
 use Rattle.link_lines_parts.proofs.remaining.push_remaining.Given as goal
 
 abbrev pub invariant-loop-line : goal.invariant-loop-line
-invariant-loop-line l = AppendsAllBut l.fn.out l.out (remaining_lines (omitted_of l.fn.omission) l.fn.lines) (remaining_after (omitted_of l.omission) l.before (lines_of l.rest))
+invariant-loop-line l = AppendsAllBut l.fn.out l.out (remaining_lines (omitted_of l.fn.without) l.fn.lines) (remaining_after (omitted_of l.without) l.before (lines_of l.rest))
 
 abbrev pub decreases-loop-line : goal.decreases-loop-line
 decreases-loop-line l = length l.rest

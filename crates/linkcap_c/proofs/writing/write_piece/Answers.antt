@@ -8,8 +8,8 @@ use Rattle.linkcap_c.proofs.writing.write_piece.Goals as goal
 pub returns-clause-continues : goal.returns-clause-continues
 returns-clause-continues c = λ before b.
     let done = c.write_messages in
-    let form = is_form c.captures_are_counted.ensures c.captures_unfold_by_frames.ensures c.joined_captures_have_the_faults_of_the_second.ensures c.joined_captures_have_joined_texts.ensures c.messages_unfold.ensures c.pieces_are_joined.ensures c.args.limit (output_form c.args.output) in
-    continues (output_form c.args.output) c.args.limit c.args.piece.now.offset form (is_last c.args.piece.now) c.args.piece.now.bytes.now done.result.used done.result.written done.ensures.used before b
+    let form = is_form c.captures_are_counted.ensures c.captures_unfold_by_frames.ensures c.joined_captures_have_the_faults_of_the_second.ensures c.joined_captures_have_joined_texts.ensures c.messages_unfold.ensures c.pieces_are_joined.ensures c.args.limit (output_form c.args.output.now) in
+    continues (output_form c.args.output.now) c.args.limit c.args.piece.now.offset form (is_last c.args.piece.now) c.args.piece.now.bytes.now done.result.used done.result.written done.ensures.used before b
 
 pub returns-clause-first : goal.returns-clause-first
 returns-clause-first c = λ before more kind b m bad.
@@ -20,5 +20,5 @@ returns-clause-first c = λ before more kind b m bad.
 pub returns-clause-ends : goal.returns-clause-ends
 returns-clause-ends c = λ before more kind b m bad stops.
     let done = c.write_messages in
-    let form = is_form c.captures_are_counted.ensures c.captures_unfold_by_frames.ensures c.joined_captures_have_the_faults_of_the_second.ensures c.joined_captures_have_joined_texts.ensures c.messages_unfold.ensures c.pieces_are_joined.ensures c.args.limit (output_form c.args.output) in
-    stops_whole (output_form c.args.output) c.args.limit c.args.piece.now.offset form (is_last c.args.piece.now) c.args.piece.now.bytes.now done.result.used done.result.written done.ensures.used before b c.frames_are_independent.ensures more kind m bad stops
+    let form = is_form c.captures_are_counted.ensures c.captures_unfold_by_frames.ensures c.joined_captures_have_the_faults_of_the_second.ensures c.joined_captures_have_joined_texts.ensures c.messages_unfold.ensures c.pieces_are_joined.ensures c.args.limit (output_form c.args.output.now) in
+    stops_whole (output_form c.args.output.now) c.args.limit c.args.piece.now.offset form (is_last c.args.piece.now) c.args.piece.now.bytes.now done.result.used done.result.written done.ensures.used before b c.frames_are_independent.ensures more kind m bad stops

@@ -13,7 +13,7 @@ returns-in-Fault-clause-written c =
     let done = c.write_piece-done in
     let piece = c.args.piece.now in
     let kind = c.in-Fault.kind in
-    let why = subst (StopsAfter (output_form c.args.output) c.args.limit piece.offset (is_last piece) piece.bytes.now done.result.used done.result.at (length c.args.out.now - done.result.written)) c.in-Fault.is done.ensures.stops in
+    let why = subst (StopsAfter (output_form c.args.output.now) c.args.limit piece.offset (is_last piece) piece.bytes.now done.result.used done.result.at (length c.args.out.now - done.result.written)) c.in-Fault.is done.ensures.stops in
     record {
       used = done.ensures.used;
       written = done.ensures.written;
@@ -37,6 +37,6 @@ returns-in-Fault-clause-written c =
             kind,
             c.of_one.ensures ∙ ap (λ n. fault_of 0 (record { kind = kind; offset = piece.offset + n })) same,
             done.ensures.ends before more kind b m (subst (λ n. IsFaulty c.args.limit (is_last piece) (drop n piece.bytes.now) kind) same why.0)
-                (stops_there c.pieces_are_joined.ensures (keeps_going (output_form c.args.output)) c.args.limit (is_last piece) piece.bytes.now done.result.used done.result.at kind why.0 why.1 same),
+                (stops_there c.pieces_are_joined.ensures (keeps_going (output_form c.args.output.now)) c.args.limit (is_last piece) piece.bytes.now done.result.used done.result.at kind why.0 why.1 same),
           );
     }

@@ -27,8 +27,7 @@ returns-in-Ok g c =
             Some c.show-outcome.new.source.rest.now,
             c.new-whole.result.ends_reported,
             c.show-outcome.new.source.ends_reported,
-            subst Lined whole (subst (λ ch. Shows ch (Some c.new-whole.result.rest.now) (Some c.show-outcome.new.source.rest.now) (g.K.Sink.holds c.args.sink.now) (g.K.Sink.holds c.show-outcome.new.sink)
-                (ReportsItsEnd c.new-whole.result.ends_reported c.show-outcome.new.source.ends_reported (Some c.show-outcome.new.source.rest.now)) (Rises 0 0) (Rises (g.K.Sink.failures c.args.sink.now) (g.K.Sink.failures c.show-outcome.new.sink)) c.args.options.now.limit c.show-outcome.result) c.show_options.ensures c.show-outcome.ensures),
+            subst Lined whole c.show-outcome.ensures,
           ),
           (
             sink_state g.E.Sink.holds g.E.Sink.failures c.report_notes.new.errors,

@@ -1,5 +1,5 @@
 #!/usr/bin/env python3
-"""Runs the tests of the module `memory` of the crate linkcap_tests, and refuses each request for memory in turn.
+"""Runs the tests of the modules `memory` of the crates of tests, and refuses each request for memory in turn.
 
     tools/refused/run.py
 
@@ -16,21 +16,32 @@ from collections import Counter
 from pathlib import Path
 
 HERE = Path(__file__).resolve().parent
-TESTS = HERE.parent.parent / "crates/linkcap_tests/out/linkcap_tests_tests"
+CRATES = ["link_message_tests", "linkcap_tests"]
 NAME = re.compile(r"^(memory::\S+): test$", re.M)
 LAST = re.compile(r"^last request: (granted|refused)$", re.M)
 MOST_REQUESTS = 1000
 
 
-def run(*arguments, **variables):
+def run(tests, *arguments, **variables):
     options = {"stdout": subprocess.PIPE, "stderr": subprocess.STDOUT, "text": True, "stdin": subprocess.DEVNULL}
-    return subprocess.run([TESTS, *arguments], env={**os.environ, **variables}, timeout=60, **options)
+    return subprocess.run([tests, *arguments], env={**os.environ, **variables}, timeout=60, **options)
 
 
-def outputs(test, library):
+def tests_of(crate):
+    """The program of a crate's tests, and the names of its tests of memory."""
+    tests = HERE.parent.parent / "crates" / crate / "out" / (crate + "_tests")
+    if not tests.is_file():
+        sys.exit("refused: no %s: run rt ci, or rt test in crates/%s" % (tests, crate))
+    names = NAME.findall(run(tests, "--list").stdout)
+    if not names:
+        sys.exit("refused: no tests of memory in %s" % tests)
+    return tests, names
+
+
+def outputs(tests, test, library):
     """The output of a test for each of its requests, when that request is refused."""
     for number in range(1, MOST_REQUESTS):
-        process = run(test, LD_PRELOAD=library, REFUSE_AT=str(number))
+        process = run(tests, test, LD_PRELOAD=library, REFUSE_AT=str(number))
         last = LAST.search(process.stdout)
         if process.returncode or not last:
             sys.exit("%s\nrefused: FAILED: %s, request %d" % (process.stdout, test, number))
@@ -41,19 +52,15 @@ def outputs(test, library):
 
 
 def main():
-    if not TESTS.is_file():
-        sys.exit("refused: no %s: run rt ci, or rt test in crates/linkcap_tests" % TESTS)
-    names = NAME.findall(run("--list").stdout)
+    cases = [(tests, name) for tests, names in map(tests_of, CRATES) for name in names]
     counts = Counter()
     with tempfile.TemporaryDirectory() as folder:
         library = folder + "/refuse.so"
         compiler = [os.environ.get("CC", "cc"), "-std=c11", "-O2", "-Wall", "-Wextra", "-Werror", "-shared", "-fPIC"]
         subprocess.run([*compiler, "-o", library, HERE / "refuse.c", "-ldl"], check=True)
-        for test in names:
-            counts.update(outputs(test, library))
-    if not names:
-        sys.exit("refused: no tests of memory in %s" % TESTS)
-    print("refused: %d requests of %d tests, each by itself" % (sum(counts.values()), len(names)))
+        for tests, test in cases:
+            counts.update(outputs(tests, test, library))
+    print("refused: %d requests of %d tests, each by itself" % (sum(counts.values()), len(cases)))
     for output, count in sorted(counts.items()):
         print("%6d %s" % (count, output))
 

@@ -2,7 +2,7 @@
 //! caller makes, and calls of their own. Most expected values are Debug texts, written by hand from
 //! the types.
 
-use super::values::is_shown;
+use super::values::{is_shown, name_of};
 use link_info::{InfoData, InfoKind, LinkInfo};
 use link_message::{
     AddressFamily, LinkAttribute, LinkExtentMask, LinkHeader, LinkMessage, LinkPeer,
@@ -82,10 +82,8 @@ fn message_with(
 
 /// Returns the size of a message with a name of `size` bytes; none if it doesn't fit.
 fn size_with_name(alloc: Global, size: usize) -> Result<Option<usize>, Fail> {
-    let Ok(name) = String::from_utf8(Vec::from_elem(alloc, b'a', size)?) else {
-        return Err(Fail::from("a name of ASCII"));
-    };
-    let message = message_with(alloc, AddressFamily::Unspec, LinkAttribute::IfName(name))?;
+    let name = LinkAttribute::IfName(name_of(alloc, size)?);
+    let message = message_with(alloc, AddressFamily::Unspec, name)?;
     Ok(message.fits().then_some(message.buffer_len()))
 }
 

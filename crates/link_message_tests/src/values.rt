@@ -4,6 +4,15 @@ use link_info::ListMeasure;
 use netlink_packet_core::{DecodeError, Nla, emit_all, fits_all, len_all};
 use std::alloc::Global;
 use std::fmt::Debug;
+use std::test::Fail;
+
+/// Returns a name of `size` bytes.
+pub(crate) fn name_of(alloc: Global, size: usize) -> Result<String, Fail> {
+    match String::from_utf8(Vec::from_elem(alloc, b'a', size)?) {
+        Ok(name) => Ok(name),
+        Err(_) => Err(Fail::from("a name of ASCII")),
+    }
+}
 
 /// Returns whether a value was read whose Debug text is this; not if an allocation fails.
 pub(crate) fn is_shown<V: Debug + Drop>(

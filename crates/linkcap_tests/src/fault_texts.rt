@@ -1,6 +1,7 @@
 //! The displays of faults.
 
-use link_capture::{CaptureFault, FaultKind};
+use examples::RequestFault;
+use link_capture::{CaptureFault, FaultKind, NotReadable, RouteFault};
 use std::alloc::Global;
 use std::fmt::Display;
 use std::test::Fail;
@@ -78,6 +79,47 @@ fn faults_are_displayed(rt: HostRuntime) -> Result<(), Fail> {
         };
         assert!(rt; is_displayed(rt.alloc(), kind, words)?, "{words}");
         assert!(rt; is_displayed(rt.alloc(), &fault, text)?, "{text}");
+    }
+    Ok(())
+}
+
+#[test]
+fn refusals_have_their_texts(rt: HostRuntime) -> Result<(), Fail> {
+    let cases = [
+        (RouteFault::Refused, "refused body"),
+        (RouteFault::EmptyPorts, "ports with foreign entries alone"),
+        (RouteFault::Unfit, "attribute over 65535"),
+        (RouteFault::Memory, "no memory"),
+    ];
+    for (fault, words) in &cases {
+        assert!(rt; is_displayed(rt.alloc(), fault, words)?, "{words}");
+    }
+    let cases = [
+        (NotReadable::Unfit, "attribute over 65535"),
+        (
+            NotReadable::ReadsOtherwise,
+            "refused or read as another message",
+        ),
+        (NotReadable::Memory, "no memory"),
+    ];
+    for (why, words) in &cases {
+        assert!(rt; is_displayed(rt.alloc(), why, words)?, "{words}");
+    }
+    Ok(())
+}
+
+#[test]
+fn faults_of_requests_have_their_texts(rt: HostRuntime) -> Result<(), Fail> {
+    for (fault, words) in &[
+        (RequestFault::Unfit, "attribute over 65535"),
+        (
+            RequestFault::ReadsOtherwise,
+            "refused or read as another message",
+        ),
+        (RequestFault::TooLong, "frame over 4294967295"),
+        (RequestFault::Memory, "no memory"),
+    ] {
+        assert!(rt; is_displayed(rt.alloc(), fault, words)?, "{words}");
     }
     Ok(())
 }

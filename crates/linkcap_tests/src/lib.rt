@@ -1,6 +1,7 @@
 // Worked cases across the crates and of lines, as tests, and laws that compare lines with typed
 // values. The expected values come from outside this project's code. Tests are in a crate of their
-// own, since a crate with tests is proved twice.
+// own, since a crate with tests is proved twice; those that own link messages are in
+// `link_message_tests`.
 #![tactic(auto)]
 
 #[cfg(test)]
@@ -17,17 +18,15 @@ pub mod lines;
 #[cfg(test)]
 mod memory;
 #[cfg(test)]
-mod messages;
-#[cfg(test)]
 mod program;
 #[cfg(test)]
 mod program_arguments;
 #[cfg(test)]
 mod readers;
 #[cfg(test)]
-mod requests;
-#[cfg(test)]
 mod runs;
+#[cfg(test)]
+mod sources;
 #[cfg(test)]
 mod steps;
 #[cfg(test)]

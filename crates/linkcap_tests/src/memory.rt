@@ -3,6 +3,5 @@
 //! returns that value or out of memory, and leaves the state that its documentation says.
 
 mod captures;
-mod links;
 mod measures;
 mod requests;

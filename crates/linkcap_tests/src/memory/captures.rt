@@ -1,9 +1,10 @@
 //! Captures: running out of memory is reported at a frame, and only whole texts are written.
 
-use super::requests::report_fault;
+use super::requests::{report_fault, report_last_request};
+use crate::devices::{LimitedReader, Plan};
 use link_capture::{
-    CaptureFault, CaptureReader, FaultKind, SliceSource, VecSink, normalize, normalize_bytes,
-    read_all,
+    CaptureFault, CaptureReader, FaultKind, ReadSource, SideFault, SliceSource, VecSink, normalize,
+    normalize_bytes, read_all, same_sources,
 };
 use std::test::Fail;
 
@@ -84,5 +85,36 @@ fn all_of_a_source(rt: HostRuntime) -> Result<(), Fail> {
         }
     };
     report_fault(&rt, rt.alloc(), "read_all", outcome)?;
+    Ok(())
+}
+
+/// Returns a source of the capture that reads at most `size` bytes at each call.
+fn source_of(size: usize) -> ReadSource<LimitedReader<'static>> {
+    let plan = Plan::steady(size);
+    ReadSource::new(LimitedReader {
+        rest: &CAPTURE,
+        plan,
+    })
+}
+
+/// Running out of memory is reported at a side's first frame that is cut: of the first source the
+/// frame at 0, and of the second that at 48.
+#[test]
+fn two_sources(rt: HostRuntime) -> Result<(), Fail> {
+    let mut left = source_of(20);
+    let mut right = source_of(60);
+    match same_sources(rt.alloc(), &mut left, &mut right, 1000) {
+        Ok(is_same) => {
+            assert!(rt; is_same);
+            println!(rt; "same_sources: same")?;
+        }
+        Err(SideFault { second, fault }) => {
+            let offset = if second { 48 } else { 0 };
+            let kind = FaultKind::Memory;
+            assert!(rt; fault == CaptureFault { kind, offset });
+            println!(rt; "same_sources: {}", SideFault { second, fault })?;
+        }
+    }
+    report_last_request(&rt, rt.alloc())?;
     Ok(())
 }

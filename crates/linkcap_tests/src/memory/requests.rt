@@ -1,7 +1,6 @@
 //! Reports the results of calls, and of an allocation after each.
 
 use link_capture::CaptureFault;
-use netlink_packet_core::DecodeError;
 use std::alloc::Global;
 use std::io;
 
@@ -32,12 +31,4 @@ pub(crate) fn report_fault(
         Err(fault) => println!(rt; "{call}: {fault}")?,
     }
     report_last_request(rt, alloc)
-}
-
-/// Returns whether an input is refused, for another reason than out of memory.
-pub(crate) fn is_refused<V: Drop>(read: Result<V, DecodeError>) -> bool {
-    match read {
-        Ok(_) => false,
-        Err(error) => !error.is_memory(),
-    }
 }

@@ -1,11 +1,12 @@
 //! Link messages and link info: running out of memory is reported as such, and never for an input
 //! that is refused.
 
-use super::requests::{is_refused, report, report_last_request};
+use super::requests::{report, report_last_request};
+use crate::values::{are_written_as, is_refused};
 use link_capture::{NotReadable, ReadableLink};
 use link_info::{InfoKind, LinkInfo};
 use link_message::LinkMessage;
-use netlink_packet_core::{DecodeError, Emitable, emit_all, fits_all, len_all};
+use netlink_packet_core::{DecodeError, Emitable};
 use std::alloc::Global;
 use std::test::Fail;
 
@@ -41,16 +42,6 @@ const REFUSED_PEER: [u8; 72] = *b"\0\0\0\0\0\0\0\0\0\0\0\0\0\0\0\0\
     \x38\0\x12\0\x09\0\x01\0veth\0\0\0\0\x28\0\x02\0\x24\0\x01\0\
     \0\0\0\0\0\0\0\0\0\0\0\0\0\0\0\0\x07\0\x03\0lo\0\0\x08\0\x18\0\x04\0\x07\0";
 
-/// Returns whether a list is written as `XFRM`.
-fn is_xfrm(list: &Vec<LinkInfo>) -> bool {
-    let mut buffer = [0xffu8; 32];
-    if !fits_all(list) || len_all(list) != buffer.len() {
-        return false;
-    }
-    emit_all(list, &mut buffer);
-    buffer == XFRM
-}
-
 /// Returns whether a message is written as this text, of 64 bytes at most.
 fn is_written_as(message: &LinkMessage, text: &[u8]) -> bool {
     let mut buffer = [0xffu8; 64];
@@ -80,7 +71,7 @@ fn result_text(is_written: Result<bool, DecodeError>) -> Result<&'static str, Fa
 
 /// Returns whether `XFRM` is written as it is read.
 fn keeps_xfrm(alloc: Global) -> Result<bool, DecodeError> {
-    Ok(is_xfrm(&LinkInfo::parse_list(alloc, &XFRM)?))
+    Ok(are_written_as(&LinkInfo::parse_list(alloc, &XFRM)?, &XFRM))
 }
 
 /// Returns whether a body is written as this text.

@@ -1,10 +1,9 @@
 //! Messages of captures: which are read back equal from what they are written as, and in which
 //! order they come.
 
-use super::cases::bytes_of;
-use super::fault_texts::is_displayed;
-use super::requests::name_of;
-use link_capture::{CaptureFault, Messages, NotReadable, ReadableLink, RouteFault, RouteLink};
+use super::values::name_of;
+use hex::decode;
+use link_capture::{CaptureFault, Messages, NotReadable, ReadableLink, RouteLink};
 use link_info::{InfoData, InfoKind, InfoVeth, LinkInfo};
 use link_message::{
     AfSpecInet, AfSpecUnspec, LinkAttribute, LinkExtentMask, LinkHeader, LinkMessage, Values,
@@ -91,31 +90,6 @@ fn messages_are_readable_where_they_read_back(rt: HostRuntime) -> Result<(), Fai
     Ok(())
 }
 
-#[test]
-fn refusals_have_their_texts(rt: HostRuntime) -> Result<(), Fail> {
-    let cases = [
-        (RouteFault::Refused, "refused body"),
-        (RouteFault::EmptyPorts, "ports with foreign entries alone"),
-        (RouteFault::Unfit, "attribute over 65535"),
-        (RouteFault::Memory, "no memory"),
-    ];
-    for (fault, words) in &cases {
-        assert!(rt; is_displayed(rt.alloc(), fault, words)?);
-    }
-    let cases = [
-        (NotReadable::Unfit, "attribute over 65535"),
-        (
-            NotReadable::ReadsOtherwise,
-            "refused or read as another message",
-        ),
-        (NotReadable::Memory, "no memory"),
-    ];
-    for (why, words) in &cases {
-        assert!(rt; is_displayed(rt.alloc(), why, words)?);
-    }
-    Ok(())
-}
-
 /// The bytes after a request for the link `lo` and a message of type 20 with a body of one byte, in
 /// hex; and the types of all messages, with the fault.
 const CAPTURES: [(&str, &str); 4] = [
@@ -166,7 +140,9 @@ fn messages_come_one_after_another(rt: HostRuntime) -> Result<(), Fail> {
             "3000000012000103340ef95a0000000000000000000000000000\
             00000000000008001d0009000000070003806c6f00ff1100000014000000000000000000000061{rest}"
         )?;
-        let bytes = bytes_of(alloc, capture.as_str())?;
+        let Ok(bytes) = decode(alloc, capture.as_str()) else {
+            return Err(Fail::from("not hex"));
+        };
         assert!(rt; message_labels(alloc, bytes.as_slice())?.as_str() == *expected);
     }
     Ok(())

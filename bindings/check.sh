@@ -296,8 +296,9 @@ test_python_types() {
     elif ! mypy --cache-dir="$work/mypy" -c 'import pytest' > /dev/null 2>&1; then
         skip "Python: types" "no pytest for mypy"
     else
-        step "Python: types" env MYPYPATH=bindings/python:bindings/python/tests mypy --strict --cache-dir="$work/mypy" \
-            bindings/python/linkcap bindings/python/tests
+        # Older versions take the keywords of a call from a record of types only with this option.
+        step "Python: types" env MYPYPATH=bindings/python:bindings/python/tests mypy --strict --enable-incomplete-feature=Unpack \
+            --cache-dir="$work/mypy" bindings/python/linkcap bindings/python/tests
     fi
 }
 
@@ -313,7 +314,7 @@ test_python() {
     step "Python: pip install without a network" env LINKCAP_LIB_DIR="$lib" "$work/venv/bin/pip" install --no-index "$top/bindings/python"
     local run=("$work/venv/bin/python") tests=bindings/python/tests
     mkdir -p "$work/python"
-    step "Python: the calls" env -C $tests "${run[@]}" -m unittest -q test_linkcap test_golden test_record
+    step "Python: the calls" env -C $tests "${run[@]}" -m unittest -q test_linkcap test_attributes test_golden test_record
     step "Python: calls that are interrupted" env -C $tests "${run[@]}" -m unittest -q test_reentry
     step "Python: installs" env -C $tests "${run[@]}" -m unittest -q test_install
     "${run[@]}" -c 'import numpy' 2> /dev/null || skip "Python: captures of numpy" "no numpy"
@@ -341,6 +342,11 @@ rust_docs() {
         cargo doc -q --offline --no-deps --manifest-path bindings/rust/Cargo.toml
 }
 
+# What the page says that the example prints.
+rust_finds_a_vxlan() {
+    [ "$(cargo run -q --offline --manifest-path bindings/rust/Cargo.toml --example vni samples/kinds/req-vxlan.bin)" = true ]
+}
+
 # rust_fails_as_on_the_page OPTION..: the golden test of the page, whose request has another MTU, panics with the page's message
 rust_fails_as_on_the_page() {
     mkdir -p "$work/changed" && cp -r bindings/rust "$work/changed" || return
@@ -366,6 +372,7 @@ test_rust() {
     echo "bindings: $(rustc --version)"
     export LINKCAP_LIB_DIR=$lib CARGO_TARGET_DIR=$work/target
     step "Rust: the calls, and examples" cargo test -q --offline --manifest-path bindings/rust/Cargo.toml
+    step "Rust: the page's question about a vxlan" rust_finds_a_vxlan
     if cargo clippy --version > /dev/null 2>&1; then
         step "Rust: clippy" cargo clippy -q --offline --all-targets --manifest-path bindings/rust/Cargo.toml -- -D warnings
     else

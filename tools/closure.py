@@ -133,7 +133,7 @@ def counts(definitions):
 
 
 def counts_text(calls):
-    rows = [["", "definitions", "lines", "tables", "lines", "files"]]
+    rows = [["", "definitions", "of lines", "and tables", "of lines", "in files"]]
     rows += [[call.rpartition("::")[2], *map(str, counts(closure_of([call])))] for call in calls]
     rows += [["all", *map(str, counts(closure_of(calls)))]]
     width = max(len(row[0]) for row in rows)

@@ -138,6 +138,7 @@ import (
 	"os"
 	"testing"
 
+	"linkcap.invalid/linkcap"
 	"linkcap.invalid/linkcap/linkcaptest"
 )
 
@@ -146,7 +147,7 @@ func golden(t *testing.T, name string) {
 	if err != nil {
 		t.Fatal(err)
 	}
-	linkcaptest.GoldenWith(t, capture, "$sample/req-veth.lines", linkcaptest.GoldenOptions{Numbers: true})
+	linkcaptest.GoldenWith(t, capture, "$sample/req-veth.lines", linkcap.Options{Numbers: linkcap.WithNumbers})
 }
 
 func TestEqual(t *testing.T) { golden(t, "req-veth.bin") }
@@ -157,7 +158,7 @@ END
     cat > "$root/tmp/rust/src/lib.rs" << END
 fn compare(name: &str) {
     let capture = std::fs::read(format!("$sample/{}", name)).unwrap();
-    let lines = linkcap::lines(&capture, linkcap::DEFAULT_LIMIT).unwrap();
+    let lines = linkcap::lines(&capture).unwrap();
     assert_eq!(lines, std::fs::read_to_string("$sample/req-veth.lines").unwrap());
 }
 

@@ -18,11 +18,12 @@
  *   `out` is `room` bytes that may be written, and hold any values. What is written overlaps nothing that is read or
  *   written by the same call. Lengths are under 2^63. Nothing is kept of a pointer after the call.
  * - Memory. linkcap_write and linkcap_why call malloc, realloc and free, and have freed all blocks when they return. The
- *   others allocate nothing. If malloc or realloc returns null, a function returns LINKCAP_NO_MEMORY, or a result that
- *   needed no memory; none ends the process. The three come from one allocator, and align a block as C's do.
+ *   others allocate nothing. If malloc or realloc returns null, a function returns LINKCAP_NO_MEMORY, or its usual
+ *   result if it can do without; none ends the process. Who replaces malloc, realloc or free replaces all three, and keeps
+ *   C's alignment.
  * - Threads. Calls share nothing: any number may run at once in different threads, also over the same capture.
- * - Signals and forks. linkcap_write and linkcap_why aren't called from a signal handler, nor in the forked child of a
- *   process with threads before it runs another program (as Python's multiprocessing makes them by its method "fork").
+ * - Signals and forks. Don't call linkcap_write or linkcap_why in a signal handler, nor, between fork and exec, in the child
+ *   of a process with threads (such as a worker of Python's multiprocessing with "fork").
  */
 #ifndef LINKCAP_H
 #define LINKCAP_H
@@ -48,7 +49,7 @@ extern "C" {
 #define LINKCAP_MIN_LIMIT 16
 #define LINKCAP_DEFAULT_LIMIT 1048576
 
-/* The size of a buffer for the words of any fault, or of any quirk. No null byte is among them. */
+/* The size of a buffer for the words of any fault, or of any quirk. They have no null byte at their end. */
 #define LINKCAP_WORDS_ROOM 127
 
 /* A compiler warns of a call whose status isn't used. */
@@ -91,8 +92,8 @@ struct linkcap_text {
 
 /*
  * Options. All zeros are the defaults. They are valid if the limit is 0 or at least 16, each flag is one of enum linkcap_flag,
- * the form is one of enum linkcap_form, `reserved` is 0, and both lists are read. Each function says which it uses, and
- * ignores the others; but for linkcap_unknown_word all have to be valid.
+ * the form is one of enum linkcap_form, `reserved` is 0, and each word of `only` and `without` is known. Each function says which
+ * options it uses, and ignores the values of the others; but all have to be valid, except for linkcap_unknown_word.
  *
  * The texts are those of linkshow's options. The case of ASCII letters counts only in `link`.
  */
@@ -118,7 +119,7 @@ struct linkcap_piece {
 
 /* How far linkcap_write came. */
 struct linkcap_progress {
-    uint64_t used;    /* bytes of the piece of which everything is written */
+    uint64_t used;    /* bytes at the start of the piece whose output is complete */
     uint64_t written; /* bytes in out */
     uint64_t wanted;  /* on LINKCAP_NO_ROOM the bytes that the next message needs, else 0 */
 };
@@ -129,7 +130,7 @@ enum linkcap_kind {
     LINKCAP_SHORT_LENGTH,    /* the header's length is under 16 */
     LINKCAP_OVER_LIMIT,      /* the header's length is over the limit */
     LINKCAP_REFUSED,         /* the body isn't accepted */
-    LINKCAP_EMPTY_PORTS,     /* an accepted IFLA_VF_PORTS keeps no entry */
+    LINKCAP_EMPTY_PORTS,     /* an IFLA_VF_PORTS has no IFLA_VF_PORT, so that it would be empty in the normal text */
     LINKCAP_UNFIT,           /* an attribute of the text would be longer than 65535 bytes */
     LINKCAP_TEXT_OVER_LIMIT, /* the length of the message's text would be over the limit */
     LINKCAP_MEMORY,          /* out of memory */
@@ -149,8 +150,8 @@ enum linkcap_quirk_kind {
     LINKCAP_NAME_WITHOUT_NUL,           /* a name without a NUL */
     LINKCAP_FLAG_WITH_PAYLOAD,          /* a flag with a payload */
     LINKCAP_BOOLEAN_OVER_ONE,           /* a boolean over 1 that kernels check */
-    LINKCAP_STRAY_NESTED_BIT,           /* the nested bit on a kind that isn't nested */
-    LINKCAP_FOREIGN_FUNCTION,           /* an entry of another kind in IFLA_VFINFO_LIST */
+    LINKCAP_STRAY_NESTED_BIT,           /* NLA_F_NESTED on an attribute that isn't nested */
+    LINKCAP_FOREIGN_FUNCTION,           /* an entry of IFLA_VFINFO_LIST whose type isn't IFLA_VF_INFO */
     LINKCAP_HEADER_BYTE,                /* the second byte of the header of RTM_GETLINK isn't 0 */
     LINKCAP_SHORT_MAP                   /* IFLA_MAP under 32 bytes */
 };
@@ -194,8 +195,8 @@ LINKCAP_STATUS linkcap_check(const uint8_t *capture, size_t length, const struct
 /*
  * Whether two captures mean the same, which is if and only if their normal texts are equal. It uses the limit, and the flag
  * LINKCAP_WITHOUT_NUMBERS: with it the sequence and port number of each message, and those of the request's header that an
- * NLMSG_ERROR repeats, are zeroed before. They change from run to run. Two legal captures are the same so if and only if
- * their lines without numbers are.
+ * NLMSG_ERROR repeats, are zeroed before. They change from run to run. With this flag, two legal captures mean the same if
+ * and only if their lines that are written with it are equal.
  *
  * LINKCAP_OK           both are legal, and mean the same.
  * LINKCAP_DIFFERENT    both are legal, and don't.
@@ -208,33 +209,34 @@ LINKCAP_STATUS linkcap_same(const uint8_t *first, size_t first_length, const uin
 /*
  * Writes the text, the lines or the JSON of the messages that are whole in a piece of a capture, with their padding, to the
  * start of out, one message after the other as far as there is space. In the last piece the last message may lack padding.
- * It uses all options; with LINKCAP_TEXT there may be no flags and no texts.
+ * It uses all options; with LINKCAP_TEXT, `flags` has to be 0, and `only`, `link` and `without` empty.
  *
- * Nothing is kept between calls. The next piece begins after the bytes that were used, at the offset
- * piece->offset + progress->used, and has more bytes, or is the last; it may begin with those that were left. What all calls
+ * Nothing is kept between calls. The next piece begins at the first byte that wasn't used, at the offset
+ * piece->offset + progress->used. It has the bytes that weren't used and more, or is the last. What all calls
  * write, one after the other, is what is written of the whole capture, and the first fault is the whole's.
  *
  * LINKCAP_OK           all whole messages are written. Of the last piece all is used, and if no call returned a fault, the
  *                      capture is legal.
  * LINKCAP_FAULT        the first fault of the piece; what is before it is written. Writing stops at its message, which is at
- *                      the offset piece->offset + progress->used. But with LINKCAP_KEEP_GOING, and if the fault is one of a
- *                      body, the message is written too and used: fault->offset is less than that sum. The caller then keeps
- *                      the first of these faults, and goes on until another status. Only the last piece has LINKCAP_CUT.
+ *                      the offset piece->offset + progress->used. But with LINKCAP_KEEP_GOING, a message whose body has the
+ *                      fault is written too, and fault->offset is less than that sum: note the first such fault, and call
+ *                      again with the bytes after it. If both are equal, writing has stopped. Only the last piece has
+ *                      LINKCAP_CUT.
  * LINKCAP_WRONG        options that aren't valid; with LINKCAP_TEXT flags or texts; a piece whose `reserved` isn't 0, or that
  *                      ends 2^64 bytes or more after the capture's start. *progress is unchanged.
  * LINKCAP_NO_ROOM      the next message needs progress->wanted bytes, and fewer are left in out. What came before it is
  *                      written: go on after it with an empty buffer, or a larger one if nothing was written.
  * LINKCAP_NO_MEMORY    out of memory for the message at fault->offset, which is the next. What came before it is written.
  *
- * After progress->written bytes out is unchanged. A text is at most 77 times as long as its capture, mostly as long. Memory is
- * allocated for the text and the lines of one message at a time.
+ * After progress->written bytes out is unchanged. A normal text is at most 77 times as long as its capture, and mostly as long as it.
+ * Memory is allocated for the text and the lines of one message at a time.
  */
 LINKCAP_STATUS linkcap_write(const struct linkcap_options *options, const struct linkcap_piece *piece, uint8_t *out,
                              size_t room, struct linkcap_progress *progress, struct linkcap_finding *fault);
 
 /*
  * The message that starts at an offset, which is 0 or the `next` of the message before it. Nothing is kept between calls.
- * It takes as long as the message. It uses the limit.
+ * The time that it takes is in proportion to the message's length. It uses the limit.
  *
  * LINKCAP_OK           *message has it. It is legal.
  * LINKCAP_FAULT        it has a fault, the capture's first if all before it were legal. *message is unchanged.
@@ -282,14 +284,14 @@ LINKCAP_STATUS linkcap_why(const struct linkcap_options *options, const struct l
  * `first: ` or `second: ` if a fault has a side, to the start of out, without a null byte after them.
  *
  * LINKCAP_OK           they are written, and their length to *written.
- * LINKCAP_WRONG        the kind or the side is none, or a quirk has a side. *written is unchanged.
+ * LINKCAP_WRONG        `kind` or `side` has no valid value, or a quirk has a side. *written is unchanged.
  * LINKCAP_NO_ROOM      out is too small for the words: *written has their length.
  */
 LINKCAP_STATUS linkcap_words(const struct linkcap_finding *finding, uint8_t *out, size_t room, uint64_t *written);
 
 /*
- * Writes the word for which options aren't valid to the start of out, without a null byte after it: the first that isn't
- * known of `only`, or else of `without`. It uses these two alone.
+ * Finds the first word of `only`, or else of `without`, that isn't known, and writes it to the start of out, without a null
+ * byte after it. It uses these two alone.
  *
  * LINKCAP_OK           the word is written, and its length to *written.
  * LINKCAP_WRONG        a list isn't UTF-8, or is too long. *written is unchanged.

@@ -4,8 +4,8 @@
 // A capture is a byte string of netlink messages, each at a multiple of 4. It is legal if it has no fault. Its normal text
 // is the canonical form of a capture: two legal captures mean the same if and only if their normal texts are equal.
 //
-// Functions of the package take [DefaultLimit]; the methods of [Limit] take another one. For a capture that isn't
-// legal they return an [*Error], with its kind and offset:
+// The functions of the package take the default options; the methods of [Options] take others. For a capture that isn't legal
+// they return an [*Error], with its kind and offset:
 //
 //	text, err := linkcap.Normalize(capture)
 //	if errors.Is(err, linkcap.Refused) {

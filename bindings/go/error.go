@@ -32,7 +32,7 @@ var kindTexts = map[Kind]string{
 	EmptyPorts: "ports with foreign entries alone", Unfit: "attribute over 65535", TextOverLimit: "normal text over the limit",
 }
 
-// Error returns the words of the kind, as "cut frame".
+// Error returns the words of the kind, for example "cut frame".
 func (k Kind) Error() string {
 	if text, ok := kindTexts[k]; ok {
 		return text
@@ -49,8 +49,8 @@ type Error struct {
 	Why     *Refusal // the attribute that isn't accepted and the reason, if the kind is Refused
 }
 
-// Error returns the words of the fault, as "cut frame at 48" or "second: cut frame at 48", followed by the reason if a
-// body is refused.
+// Error returns the words of the fault, for example "cut frame at 48" or "second: cut frame at 48", followed by the reason if
+// a body is refused.
 func (e *Error) Error() string {
 	words := e.words()
 	if e.Why != nil {
@@ -100,6 +100,14 @@ func (e UnknownNameError) Error() string {
 	return fmt.Sprintf("linkcap: no type, attribute or group is called %q", string(e))
 }
 
+// An UnusedOptionError is the name of an option that is set, and that the call doesn't use.
+type UnusedOptionError string
+
+// Error returns the words of the error.
+func (e UnusedOptionError) Error() string {
+	return fmt.Sprintf("linkcap: the call doesn't use the option %s", string(e))
+}
+
 // listError returns the error for lists that the library doesn't read, since they aren't UTF-8 or are too long.
 func listError(lists ...[]byte) error {
 	for _, list := range lists {
@@ -113,13 +121,13 @@ func listError(lists ...[]byte) error {
 }
 
 // failure returns the error for a status that isn't a success. The fault is that of the given piece.
-func (l Limit) failure(status C.uint32_t, fault C.struct_linkcap_finding, p piece) error {
+func (o *callOptions) failure(status C.uint32_t, fault C.struct_linkcap_finding, p piece) error {
 	if status != C.LINKCAP_FAULT {
 		return ErrMemory
 	}
 	e := &Error{Kind: Kind(fault.kind), Side: int(fault.side), Offset: uint64(fault.offset)}
 	if e.Kind == Refused {
-		e.Why, _ = l.whyIn(p.from(int(e.Offset - p.offset)))
+		e.Why, _ = o.whyIn(p.from(int(e.Offset - p.offset)))
 	}
 	return e
 }

@@ -5,6 +5,9 @@ import (
 	"errors"
 	"fmt"
 	"io"
+	"os"
+	"strings"
+	"syscall"
 
 	"linkcap.invalid/linkcap"
 )
@@ -38,8 +41,8 @@ func ExampleSame() {
 	// false <nil>
 }
 
-func ExampleLines() {
-	lines, _ := linkcap.Lines(capture, linkcap.LineOptions{WithoutNumbers: true})
+func ExampleOptions_Lines() {
+	lines, _ := linkcap.Options{Numbers: linkcap.WithoutNumbers}.Lines(capture)
 	fmt.Print(lines)
 	// Output:
 	// NLMSG_NOOP flags 0x0
@@ -68,6 +71,29 @@ func ExampleMessages() {
 	// 20 17 20 <nil>
 }
 
+func ExampleAttributeSeq_Any() {
+	capture, err := os.ReadFile("../../samples/kinds/req-vxlan.bin")
+	if err != nil {
+		panic(err)
+	}
+	fmt.Println(linkcap.Options{Only: "newlink"}.Attributes(capture).Any(func(a linkcap.Attribute) bool {
+		return a.Path == "IFLA_LINKINFO > IFLA_INFO_DATA > IFLA_VXLAN_ID" && a.Value == "10" && a.Message.Flags&syscall.NLM_F_CREATE != 0
+	}))
+	// Output: true <nil>
+}
+
+func ExampleMessage_Attributes() {
+	request := []byte("\x28\x00\x00\x00\x12\x00\x01\x00" + strings.Repeat("\x00", 24) + "\x07\x00\x03\x00lo\x00\x00")
+	linkcap.Messages(request)(func(message linkcap.Message, err error) bool {
+		attributes, err := message.Attributes()
+		for _, a := range attributes {
+			fmt.Println(a.Path, a.Value, err)
+		}
+		return true
+	})
+	// Output: IFLA_IFNAME "lo" <nil>
+}
+
 func ExampleMeasure() {
 	sizes, _ := linkcap.Measure(capture)
 	fmt.Println(sizes.Frames, sizes.Attributes, sizes.TextLen)
@@ -82,8 +108,8 @@ func ExampleQuirks() {
 	// Output: second byte of the header of RTM_GETLINK at 17 true <nil>
 }
 
-func ExampleNewLineReader() {
-	lines, err := io.ReadAll(linkcap.NewLineReader(bytes.NewReader(capture), linkcap.LineOptions{Only: "noop"}))
+func ExampleOptions_NewLineReader() {
+	lines, err := io.ReadAll(linkcap.Options{Only: "noop"}.NewLineReader(bytes.NewReader(capture)))
 	fmt.Print(string(lines), err)
 	// Output:
 	// NLMSG_NOOP flags 0x0 seq 1 port 0

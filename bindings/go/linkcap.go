@@ -11,12 +11,6 @@ import (
 	"unsafe"
 )
 
-// A Limit is the greatest length in bytes that a message, read or written, may have: from 16 on.
-type Limit uint32
-
-// DefaultLimit is the limit of the package's functions, and of the programs.
-const DefaultLimit Limit = C.LINKCAP_DEFAULT_LIMIT
-
 // Format is the format version of the library's normal texts and lines: under one version both stay as they are, byte for
 // byte.
 var Format = int(C.linkcap_format())
@@ -27,100 +21,11 @@ func init() {
 	}
 }
 
-// isValid reports whether messages may have this limit; of 0 the library would make its default.
-func (l Limit) isValid() bool { return l >= C.LINKCAP_MIN_LIMIT }
-
 // Sizes are those of a legal capture.
 type Sizes struct {
 	Frames     uint64 // its messages
 	Attributes uint64 // the attribute headers in the bodies of its link messages, at all depths
 	TextLen    uint64 // the length of its normal text in bytes, at most 2^64 - 1
-}
-
-// LineOptions select lines of a capture, as the options of the program linkshow do. The zero value selects all up to the first
-// fault.
-type LineOptions struct {
-	// WithoutNumbers leaves out sequence and port numbers, which change from run to run.
-	WithoutNumbers bool
-	// Only has the types of the messages that are shown, at most 32 with commas between them: names as newlink, or numbers; all
-	// are shown if it is empty.
-	Only string
-	// Link is the name, alternative name or index of the link that messages have to be about; about any if it is empty.
-	Link string
-	// Without has attributes that are left out, by the kernel's names with commas between them, at most 32; and the groups
-	// numbers, counters and indexes. The case of ASCII letters doesn't count.
-	Without string
-	// Offsets ends each message's first line with its offset in the capture, in bytes.
-	Offsets bool
-	// KeepGoing also shows messages with a fault of their body, and those after them.
-	KeepGoing bool
-	// JSON makes an object of each message's lines, in a line of its own.
-	JSON bool
-}
-
-// flags returns the flags for the library.
-func (o *LineOptions) flags() C.uint32_t {
-	var flags C.uint32_t
-	if o.WithoutNumbers {
-		flags |= C.LINKCAP_WITHOUT_NUMBERS
-	}
-	if o.Offsets {
-		flags |= C.LINKCAP_OFFSETS
-	}
-	if o.KeepGoing {
-		flags |= C.LINKCAP_KEEP_GOING
-	}
-	return flags
-}
-
-// options are those of a call: numbers, and the bytes of the texts.
-type options struct {
-	numbers C.struct_linkcap_go_options
-	texts   []byte
-}
-
-// forText returns the options by which normal text is written.
-func (l Limit) forText() options {
-	return options{numbers: C.struct_linkcap_go_options{limit: C.uint32_t(l), form: C.LINKCAP_TEXT}}
-}
-
-// forLines returns the options by which lines are written.
-func (l Limit) forLines(o LineOptions) options {
-	form := C.uint32_t(C.LINKCAP_LINES)
-	if o.JSON {
-		form = C.LINKCAP_JSON
-	}
-	return options{
-		C.struct_linkcap_go_options{limit: C.uint32_t(l), form: form, flags: o.flags(), only: C.size_t(len(o.Only)),
-			link: C.size_t(len(o.Link)), without: C.size_t(len(o.Without))},
-		[]byte(o.Only + o.Link + o.Without),
-	}
-}
-
-// check returns nil if the options are valid.
-func (o *options) check() error {
-	if !Limit(o.numbers.limit).isValid() {
-		return ErrLimit
-	}
-	word := make([]byte, len(o.texts))
-	var written C.uint64_t
-	status := C.linkcap_go_unknown_word(o.numbers, chars(o.texts), address(word), C.size_t(len(word)), &written)
-	switch status {
-	case C.LINKCAP_NONE:
-		return nil
-	case C.LINKCAP_OK:
-		return UnknownNameError(word[:written])
-	}
-	only, link := int(o.numbers.only), int(o.numbers.link)
-	return listError(o.texts[:only], o.texts[only+link:])
-}
-
-// expansion returns how many times as long as its capture an output mostly is, at most.
-func (o *options) expansion() int {
-	if o.numbers.form == C.LINKCAP_TEXT {
-		return 1
-	}
-	return 4
 }
 
 // A Refusal says which attribute made a body invalid, why, and at which offset.
@@ -146,22 +51,23 @@ func address(bytes []byte) *C.uint8_t {
 // chars returns a pointer to the bytes of a text, which is null if there are none.
 func chars(bytes []byte) *C.char { return (*C.char)(unsafe.Pointer(address(bytes))) }
 
-// Check returns nil if a capture is legal, else its first fault.
-func (l Limit) Check(capture []byte) error {
-	_, err := l.Measure(capture)
+// Check returns nil if a capture is legal, else its first fault. It uses the limit.
+func (o Options) Check(capture []byte) error {
+	_, err := o.Measure(capture)
 	return err
 }
 
-// Measure returns the sizes of a legal capture, else its first fault.
-func (l Limit) Measure(capture []byte) (Sizes, error) {
-	if !l.isValid() {
-		return Sizes{}, ErrLimit
+// Measure returns the sizes of a legal capture, else its first fault. It uses the limit.
+func (o Options) Measure(capture []byte) (Sizes, error) {
+	options, err := o.forText()
+	if err != nil {
+		return Sizes{}, err
 	}
 	var fault C.struct_linkcap_finding
 	var sizes C.struct_linkcap_sizes
-	status := C.linkcap_go_check(address(capture), C.size_t(len(capture)), C.uint32_t(l), &sizes, &fault)
+	status := C.linkcap_go_check(address(capture), C.size_t(len(capture)), options.limit(), &sizes, &fault)
 	if status != C.LINKCAP_OK {
-		return Sizes{}, l.failure(status, fault, piece{capture, 0, true})
+		return Sizes{}, options.failure(status, fault, piece{capture, 0, true})
 	}
 	length := uint64(sizes.text_low)
 	if sizes.text_high != 0 {
@@ -171,23 +77,17 @@ func (l Limit) Measure(capture []byte) (Sizes, error) {
 }
 
 // Same reports whether two legal captures mean the same, which is if and only if their normal texts are equal. Else it
-// returns the first fault of the first one, or of the second if the first is legal.
-func (l Limit) Same(first, second []byte) (bool, error) { return l.same(first, second, 0) }
-
-// SameIgnoringNumbers reports whether two legal captures mean the same after zeroing the sequence and port number of each
-// message, and those of the request's header that an NLMSG_ERROR repeats, which change from run to run. Its errors are
-// those of Same.
-func (l Limit) SameIgnoringNumbers(first, second []byte) (bool, error) {
-	return l.same(first, second, C.LINKCAP_WITHOUT_NUMBERS)
-}
-
-func (l Limit) same(first, second []byte, flags C.uint32_t) (bool, error) {
-	if !l.isValid() {
-		return false, ErrLimit
+// returns the first fault of the first one, or of the second if the first is legal. It uses the limit and Numbers:
+// WithoutNumbers zeroes the sequence number and the netlink port ID of each message, and those of the request's header that an
+// NLMSG_ERROR repeats, first.
+func (o Options) Same(first, second []byte) (bool, error) {
+	options, err := o.forText("Numbers")
+	if err != nil {
+		return false, err
 	}
 	var fault C.struct_linkcap_finding
-	status := C.linkcap_go_same(address(first), C.size_t(len(first)), address(second), C.size_t(len(second)), C.uint32_t(l), flags,
-		&fault)
+	status := C.linkcap_go_same(address(first), C.size_t(len(first)), address(second), C.size_t(len(second)), options.limit(),
+		options.numbers.flags, &fault)
 	switch status {
 	case C.LINKCAP_OK:
 		return true, nil
@@ -198,33 +98,35 @@ func (l Limit) same(first, second []byte, flags C.uint32_t) (bool, error) {
 	if fault.side == 2 {
 		capture = second
 	}
-	return false, l.failure(status, fault, piece{capture, 0, true})
+	return false, options.failure(status, fault, piece{capture, 0, true})
 }
 
-// AppendNormal appends a legal capture's normal text to dst. If the capture has a fault, the text before it is appended.
-func (l Limit) AppendNormal(dst, capture []byte) ([]byte, error) {
-	if !l.isValid() {
-		return dst, ErrLimit
+// AppendNormal appends a legal capture's normal text to dst. If the capture has a fault, the normal text before it is
+// appended. It uses the limit.
+func (o Options) AppendNormal(dst, capture []byte) ([]byte, error) {
+	options, err := o.forText()
+	if err != nil {
+		return dst, err
 	}
-	return appendAll(l.forText(), dst, capture)
+	return appendAll(options, dst, capture)
 }
 
-// Normalize returns a legal capture's normal text. Else it returns nil and the first fault, whose Written has the text
-// before it.
-func (l Limit) Normalize(capture []byte) ([]byte, error) {
-	text, err := l.AppendNormal(nil, capture)
+// Normalize returns a legal capture's normal text. Else it returns nil and the first fault, whose Written has the normal
+// text before it. It uses the limit.
+func (o Options) Normalize(capture []byte) ([]byte, error) {
+	text, err := o.AppendNormal(nil, capture)
 	if err != nil {
 		return nil, err
 	}
 	return text, nil
 }
 
-// Lines returns the lines of a legal capture that options select, as the program linkshow writes them. Else it returns the first
-// fault, whose Written has the lines before it, or with KeepGoing all lines up to a fault of a header. Options that aren't valid
-// have an [UnknownNameError], or [ErrTooMany].
-func (l Limit) Lines(capture []byte, o LineOptions) (string, error) {
-	options := l.forLines(o)
-	if err := options.check(); err != nil {
+// Lines returns the lines of a legal capture that the options select, as the program linkshow writes them, or the lines of JSON.
+// Else it returns the first fault, whose Written has the lines before it, or with KeepGoing all lines up to a fault of a header.
+// It uses all options; those that aren't valid have an [UnknownNameError], or [ErrTooMany].
+func (o Options) Lines(capture []byte) (string, error) {
+	options, err := o.forLines(ofLines...)
+	if err != nil {
 		return "", err
 	}
 	lines, err := appendAll(options, nil, capture)
@@ -234,20 +136,21 @@ func (l Limit) Lines(capture []byte, o LineOptions) (string, error) {
 	return string(lines), nil
 }
 
-// Why returns the refusal of a capture's first fault if this is of the kind [Refused]; else nil.
-func (l Limit) Why(capture []byte) (*Refusal, error) {
-	if !l.isValid() {
-		return nil, ErrLimit
+// Why returns the refusal of a capture's first fault if this is of the kind [Refused]; else nil. It uses the limit.
+func (o Options) Why(capture []byte) (*Refusal, error) {
+	options, err := o.forText()
+	if err != nil {
+		return nil, err
 	}
-	return l.whyIn(piece{capture, 0, true})
+	return options.whyIn(piece{capture, 0, true})
 }
 
 // whyIn returns the refusal of the first fault of a piece, if this is of the kind [Refused]; else nil.
-func (l Limit) whyIn(p piece) (*Refusal, error) {
+func (o *callOptions) whyIn(p piece) (*Refusal, error) {
 	words := make([]byte, 512)
 	for {
 		var written, offset C.uint64_t
-		status := C.linkcap_go_why(C.uint32_t(l), address(p.bytes), C.size_t(len(p.bytes)), C.uint64_t(p.offset), address(words),
+		status := C.linkcap_go_why(o.limit(), address(p.bytes), C.size_t(len(p.bytes)), C.uint64_t(p.offset), address(words),
 			C.size_t(len(words)), &written, &offset)
 		switch status {
 		case C.LINKCAP_NONE:
@@ -266,33 +169,28 @@ func (l Limit) whyIn(p piece) (*Refusal, error) {
 	}
 }
 
-// Check is DefaultLimit.Check.
-func Check(capture []byte) error { return DefaultLimit.Check(capture) }
+// Check is Options{}.Check.
+func Check(capture []byte) error { return Options{}.Check(capture) }
 
-// Measure is DefaultLimit.Measure.
-func Measure(capture []byte) (Sizes, error) { return DefaultLimit.Measure(capture) }
+// Measure is Options{}.Measure.
+func Measure(capture []byte) (Sizes, error) { return Options{}.Measure(capture) }
 
-// Same is DefaultLimit.Same.
-func Same(first, second []byte) (bool, error) { return DefaultLimit.Same(first, second) }
+// Same is Options{}.Same.
+func Same(first, second []byte) (bool, error) { return Options{}.Same(first, second) }
 
-// SameIgnoringNumbers is DefaultLimit.SameIgnoringNumbers.
-func SameIgnoringNumbers(first, second []byte) (bool, error) {
-	return DefaultLimit.SameIgnoringNumbers(first, second)
-}
+// Quirks is Options{}.Quirks.
+func Quirks(capture []byte) ([]Quirk, error) { return Options{}.Quirks(capture) }
 
-// Quirks is DefaultLimit.Quirks.
-func Quirks(capture []byte) ([]Quirk, error) { return DefaultLimit.Quirks(capture) }
+// Normalize is Options{}.Normalize.
+func Normalize(capture []byte) ([]byte, error) { return Options{}.Normalize(capture) }
 
-// Normalize is DefaultLimit.Normalize.
-func Normalize(capture []byte) ([]byte, error) { return DefaultLimit.Normalize(capture) }
+// Lines is Options{}.Lines.
+func Lines(capture []byte) (string, error) { return Options{}.Lines(capture) }
 
-// Lines is DefaultLimit.Lines.
-func Lines(capture []byte, o LineOptions) (string, error) { return DefaultLimit.Lines(capture, o) }
+// Why is Options{}.Why.
+func Why(capture []byte) (*Refusal, error) { return Options{}.Why(capture) }
 
-// Why is DefaultLimit.Why.
-func Why(capture []byte) (*Refusal, error) { return DefaultLimit.Why(capture) }
-
-// Messages is DefaultLimit.Messages.
+// Messages is Options{}.Messages.
 func Messages(capture []byte) func(yield func(Message, error) bool) {
-	return DefaultLimit.Messages(capture)
+	return Options{}.Messages(capture)
 }

@@ -60,7 +60,7 @@ func requireFault(t testing.TB, err error) *linkcap.Error {
 func TestSamples(t *testing.T) {
 	for _, name := range sampleNames {
 		capture := readSample(t, name)
-		lines, err := linkcap.Lines(capture, linkcap.LineOptions{})
+		lines, err := linkcap.Lines(capture)
 		if err != nil || lines != string(readFile(t, "samples/"+name+".lines")) {
 			t.Errorf("%s: %v, lines differ", name, err)
 		}
@@ -93,7 +93,7 @@ func TestFaults(t *testing.T) {
 	if _, err := linkcap.Same(capture, cut); err == nil || err.Error() != "second: "+words {
 		t.Error(err)
 	}
-	if err := linkcap.Limit(16).Check(capture); !errors.Is(err, linkcap.OverLimit) {
+	if err := (linkcap.Options{Limit: 16}).Check(capture); !errors.Is(err, linkcap.OverLimit) {
 		t.Error(err)
 	}
 	for kind := linkcap.Cut; kind <= linkcap.TextOverLimit; kind++ {
@@ -107,30 +107,30 @@ func TestFaults(t *testing.T) {
 func TestLineOptions(t *testing.T) {
 	request := []byte("\x28\x00\x00\x00\x12\x00\x01\x00\x01\x00\x00\x00" + strings.Repeat("\x00", 20) + "\x07\x00\x03\x00lo\x00\x00")
 	both := append(append([]byte(nil), refusedRequest...), request...)
-	for want, options := range map[string]linkcap.LineOptions{
+	for want, options := range map[string]linkcap.Options{
 		`RTM_NEWLINK flags 0x0 offset 0
   refused: IFLA_MTU: a payload of 3 bytes
   body 000000000000000000000000000000000700040001020300
 RTM_GETLINK flags 0x1 (REQUEST) offset 40
   ifinfomsg family 0 (AF_UNSPEC) type 0 (netrom) index 0 flags 0x0 change 0x0
   IFLA_IFNAME "lo"
-`: {WithoutNumbers: true, Offsets: true, KeepGoing: true},
+`: {Numbers: linkcap.WithoutNumbers, Offsets: true, KeepGoing: true},
 		`RTM_GETLINK flags 0x1 (REQUEST) seq 1 port 0
   ifinfomsg family 0 (AF_UNSPEC) type 0 (netrom) flags 0x0 change 0x0
   IFLA_IFNAME "lo"
 `: {Only: "getlink,77", Link: "lo", Without: "indexes", KeepGoing: true},
 		`{"type": "RTM_NEWLINK", "flags": {"value": 0, "flags": []}, "offset": 0, "refused": "IFLA_MTU: a payload of 3 bytes", "body": "000000000000000000000000000000000700040001020300", "attributes": []}
 {"type": "RTM_GETLINK", "flags": {"value": 1, "flags": ["REQUEST"]}, "offset": 40, "header": {"struct": "ifinfomsg", "family": {"value": 0, "text": "AF_UNSPEC"}, "type": {"value": 0, "text": "netrom"}, "index": 0, "flags": {"value": 0, "flags": []}, "change": {"value": 0, "flags": []}}, "attributes": [{"name": "IFLA_IFNAME", "value": "lo", "quoted": true}]}
-`: {WithoutNumbers: true, Offsets: true, KeepGoing: true, JSON: true},
+`: {Numbers: linkcap.WithoutNumbers, Offsets: true, KeepGoing: true, JSON: true},
 		"": {Offsets: true},
 	} {
-		lines, err := linkcap.Lines(both, options)
+		lines, err := options.Lines(both)
 		fault := requireFault(t, err)
 		if lines != "" || string(fault.Written) != want || fault.Kind != linkcap.Refused || fault.Offset != 0 {
 			t.Errorf("%+v: %q, %v, %s", options, lines, fault, fault.Written)
 		}
 		for _, size := range []int{1, 7, 16, 4096} {
-			got, err := io.ReadAll(linkcap.NewLineReader(&chunks{both, size}, options))
+			got, err := io.ReadAll(options.NewLineReader(&chunks{both, size}))
 			inPieces := requireFault(t, err)
 			if string(got) != want || inPieces.Error() != fault.Error() || inPieces.Offset != 0 {
 				t.Errorf("%+v in pieces of %d: %q, %v", options, size, got, err)
@@ -141,34 +141,31 @@ RTM_GETLINK flags 0x1 (REQUEST) offset 40
 		want := readFile(t, "samples/"+name+".lines")
 		for _, size := range []int{1, 7, 16, 4096} {
 			source := &chunks{readSample(t, name), size}
-			got, err := io.ReadAll(linkcap.NewLineReader(source, linkcap.LineOptions{KeepGoing: true}))
+			got, err := io.ReadAll(linkcap.Options{KeepGoing: true}.NewLineReader(source))
 			if err != nil || !bytes.Equal(got, want) {
 				t.Errorf("%s in pieces of %d: %v", name, size, err)
 			}
 		}
 	}
-	if lines, err := linkcap.Lines(request, linkcap.LineOptions{Link: "1"}); lines != "" || err != nil {
+	if lines, err := (linkcap.Options{Link: "1"}).Lines(request); lines != "" || err != nil {
 		t.Error(lines, err)
 	}
 	// The last one isn't UTF-8.
 	for _, unknown := range []string{"mtu", "\xff"} {
-		options := linkcap.LineOptions{Without: "counters," + unknown}
-		_, err := linkcap.Lines(request, options)
-		_, readErr := io.ReadAll(linkcap.NewLineReader(bytes.NewReader(request), options))
+		options := linkcap.Options{Without: "counters," + unknown}
+		_, err := options.Lines(request)
+		_, readErr := io.ReadAll(options.NewLineReader(bytes.NewReader(request)))
 		for _, err := range []error{err, readErr} {
 			if name := linkcap.UnknownNameError(""); !errors.As(err, &name) || string(name) != unknown {
 				t.Error(err)
 			}
 		}
 	}
-	if _, err := linkcap.Lines(request, linkcap.LineOptions{Only: "newlink,links", Without: "mtu"}); err != linkcap.UnknownNameError("links") {
+	if _, err := (linkcap.Options{Only: "newlink,links", Without: "mtu"}).Lines(request); err != linkcap.UnknownNameError("links") {
 		t.Error(err)
 	}
-	many := linkcap.LineOptions{Only: strings.Repeat("18,", 32) + "18"}
-	if _, err := linkcap.Lines(request, many); err != linkcap.ErrTooMany {
-		t.Error(err)
-	}
-	if _, err := linkcap.Limit(15).Lines(request, linkcap.LineOptions{}); err != linkcap.ErrLimit {
+	many := linkcap.Options{Only: strings.Repeat("18,", 32) + "18"}
+	if _, err := many.Lines(request); err != linkcap.ErrTooMany {
 		t.Error(err)
 	}
 }
@@ -195,24 +192,52 @@ func TestReasons(t *testing.T) {
 	}
 }
 
+// errorsOf returns the error of each call with options, of nothing.
+func errorsOf(o linkcap.Options) map[string]error {
+	_, measureErr := o.Measure(nil)
+	_, sameErr := o.Same(nil, nil)
+	_, normalErr := o.Normalize(nil)
+	_, linesErr := o.Lines(nil)
+	_, whyErr := o.Why(nil)
+	_, messagesErr := collect(o.Messages(nil))
+	_, attributesErr := o.Attributes(nil).Any(func(linkcap.Attribute) bool { return true })
+	_, readErr := io.ReadAll(o.NewReader(bytes.NewReader(nil)))
+	_, quirksErr := o.Quirks(nil)
+	_, lineReaderErr := io.ReadAll(o.NewLineReader(bytes.NewReader(nil)))
+	return map[string]error{
+		"Check": o.Check(nil), "Measure": measureErr, "Same": sameErr, "Normalize": normalErr, "Lines": linesErr, "Why": whyErr,
+		"Messages": messagesErr, "Attributes": attributesErr, "NewReader": readErr, "Quirks": quirksErr, "NewLineReader": lineReaderErr,
+	}
+}
+
 func TestLimits(t *testing.T) {
-	for _, limit := range []linkcap.Limit{0, 15} {
-		_, measureErr := limit.Measure(nil)
-		_, sameErr := limit.Same(nil, nil)
-		_, normalErr := limit.Normalize(nil)
-		_, linesErr := limit.Lines(nil, linkcap.LineOptions{})
-		_, whyErr := limit.Why(nil)
-		_, messagesErr := collect(limit.Messages(nil))
-		_, readErr := io.ReadAll(limit.NewReader(bytes.NewReader(nil)))
-		_, unnumberedErr := limit.SameIgnoringNumbers(nil, nil)
-		_, quirksErr := limit.Quirks(nil)
-		_, lineReaderErr := io.ReadAll(limit.NewLineReader(bytes.NewReader(nil), linkcap.LineOptions{}))
-		for i, err := range []error{
-			limit.Check(nil), measureErr, sameErr, normalErr, linesErr, whyErr, messagesErr, readErr, unnumberedErr, quirksErr,
-			lineReaderErr,
-		} {
-			if err != linkcap.ErrLimit {
-				t.Errorf("call %d: %v", i, err)
+	for limit, want := range map[uint32]error{0: nil, 1: linkcap.ErrLimit, 15: linkcap.ErrLimit, 16: nil} {
+		for call, err := range errorsOf(linkcap.Options{Limit: limit}) {
+			if err != want {
+				t.Errorf("%s under %d: %v", call, limit, err)
+			}
+		}
+	}
+}
+
+// TestUnusedOptions checks that no call ignores an option.
+func TestUnusedOptions(t *testing.T) {
+	users := map[string]string{
+		"Only": "Lines NewLineReader Attributes", "Link": "Lines NewLineReader Attributes", "Without": "Lines NewLineReader Attributes",
+		"Numbers": "Lines NewLineReader Same", "Offsets": "Lines NewLineReader", "KeepGoing": "Lines NewLineReader",
+		"JSON": "Lines NewLineReader",
+	}
+	for name, options := range map[string]linkcap.Options{
+		"Only": {Only: "newlink"}, "Link": {Link: "lo"}, "Without": {Without: "counters"}, "Numbers": {Numbers: linkcap.WithNumbers},
+		"Offsets": {Offsets: true}, "KeepGoing": {KeepGoing: true}, "JSON": {JSON: true},
+	} {
+		for call, err := range errorsOf(options) {
+			want := error(linkcap.UnusedOptionError(name))
+			if strings.Contains(" "+users[name]+" ", " "+call+" ") {
+				want = nil
+			}
+			if err != want {
+				t.Errorf("%s with %s: %v", call, name, err)
 			}
 		}
 	}
@@ -224,7 +249,7 @@ func TestEmpty(t *testing.T) {
 			t.Error(err)
 		}
 		text, err := linkcap.Normalize(empty)
-		lines, linesErr := linkcap.Lines(empty, linkcap.LineOptions{})
+		lines, linesErr := linkcap.Lines(empty)
 		same, sameErr := linkcap.Same(empty, nil)
 		why, whyErr := linkcap.Why(empty)
 		messages, messagesErr := collect(linkcap.Messages(empty))
@@ -258,22 +283,23 @@ func TestQuirks(t *testing.T) {
 	}
 }
 
-func TestSameIgnoringNumbers(t *testing.T) {
+func TestSameWithoutNumbers(t *testing.T) {
+	withoutNumbers := linkcap.Options{Numbers: linkcap.WithoutNumbers}
 	capture := readSample(t, "lo-request")
 	for i := 8; i < 16; i++ { // netlink.h, struct nlmsghdr
 		other := append([]byte(nil), capture...)
 		other[i] ^= 1
-		same, err := linkcap.SameIgnoringNumbers(capture, other)
+		same, err := withoutNumbers.Same(capture, other)
 		if exact, _ := linkcap.Same(capture, other); !same || exact || err != nil {
 			t.Error(i, same, exact, err)
 		}
 	}
 	other := append([]byte(nil), capture...)
 	other[7] ^= 1
-	if same, err := linkcap.SameIgnoringNumbers(capture, other); same || err != nil {
+	if same, err := withoutNumbers.Same(capture, other); same || err != nil {
 		t.Error(same, err)
 	}
-	_, err := linkcap.SameIgnoringNumbers(capture, refusedRequest)
+	_, err := withoutNumbers.Same(capture, refusedRequest)
 	if fault := requireFault(t, err); fault.Side != 2 || fault.Why == nil {
 		t.Error(err)
 	}
@@ -287,12 +313,12 @@ func TestFormat(t *testing.T) {
 
 func TestAppendNormal(t *testing.T) {
 	capture := readSample(t, "req-veth")
-	out, err := linkcap.DefaultLimit.AppendNormal([]byte("before"), capture)
+	out, err := linkcap.Options{}.AppendNormal([]byte("before"), capture)
 	if err != nil || string(out) != "before"+string(capture) {
 		t.Error(err, len(out))
 	}
 	cut := append(append([]byte(nil), capture...), 1)
-	out, err = linkcap.DefaultLimit.AppendNormal([]byte("before"), cut)
+	out, err = linkcap.Options{}.AppendNormal([]byte("before"), cut)
 	if !errors.Is(err, linkcap.Cut) || string(out) != "before"+string(capture) {
 		t.Error(err, len(out))
 	}
@@ -418,7 +444,7 @@ func peers(levels int) []byte {
 // Lines of a deep capture are at most 44 times as long. bindings/check.sh runs this with a stack of 256 KiB for each thread.
 func TestDeepCaptures(t *testing.T) {
 	capture := peers(1600)
-	lines, err := linkcap.Lines(capture, linkcap.LineOptions{})
+	lines, err := linkcap.Lines(capture)
 	if err != nil || len(lines) <= len(capture) || len(lines) > 44*len(capture) {
 		t.Fatalf("%d bytes of lines, %v", len(lines), err)
 	}

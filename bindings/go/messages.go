@@ -13,32 +13,33 @@ const headerLen = 16
 type Message struct {
 	Offset         int    // its start, in bytes from the capture's start
 	Bytes          []byte // the message without its padding: a slice of the capture, and a capture, too
-	Type           uint16 // as unix.RTM_NEWLINK
+	Type           uint16 // for example unix.RTM_NEWLINK
 	Flags          uint16
 	SequenceNumber uint32
-	PortNumber     uint32
+	PortNumber     uint32 // the netlink port ID
 }
 
 // Messages returns an iterator over a capture's messages, which it reads one after the other. After the last one before a fault it
-// yields the fault. With Go 1.23 or later:
+// yields the fault. It uses the limit. With Go 1.23 or later:
 //
 //	for message, err := range linkcap.Messages(capture) {
-func (l Limit) Messages(capture []byte) func(yield func(Message, error) bool) {
+func (o Options) Messages(capture []byte) func(yield func(Message, error) bool) {
 	return func(yield func(Message, error) bool) {
-		if !l.isValid() {
-			yield(Message{}, ErrLimit)
+		options, err := o.forText()
+		if err != nil {
+			yield(Message{}, err)
 			return
 		}
 		for offset := 0; ; {
 			var found C.struct_linkcap_message
 			var fault C.struct_linkcap_finding
-			status := C.linkcap_go_next_message(address(capture), C.size_t(len(capture)), C.uint32_t(l), C.uint64_t(offset), &found,
+			status := C.linkcap_go_next_message(address(capture), C.size_t(len(capture)), options.limit(), C.uint64_t(offset), &found,
 				&fault)
 			if status == C.LINKCAP_NONE {
 				return
 			}
 			if status != C.LINKCAP_OK {
-				yield(Message{}, l.failure(status, fault, piece{capture, 0, true}))
+				yield(Message{}, options.failure(status, fault, piece{capture, 0, true}))
 				return
 			}
 			if !yield(newMessage(offset, capture[offset:][:found.length:found.length]), nil) {

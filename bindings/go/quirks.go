@@ -36,7 +36,7 @@ type Quirk struct {
 	Offset uint64 // the start of the attribute that has it, or the header's byte, in bytes from the capture's start
 }
 
-// String returns the words of the quirk and its offset, as "flag with a payload at 76".
+// String returns the words of the quirk and its offset, for example "flag with a payload at 76".
 func (q Quirk) String() string {
 	words := wordsOf(C.struct_linkcap_finding{kind: C.uint32_t(q.Kind), offset: C.uint64_t(q.Offset)})
 	if words == "" {
@@ -46,22 +46,23 @@ func (q Quirk) String() string {
 }
 
 // Quirks returns each encoding of a legal capture that some kernels treat differently from its normal text, in the order of
-// the bytes; else the first fault. A normal text has none.
-func (l Limit) Quirks(capture []byte) ([]Quirk, error) {
-	if !l.isValid() {
-		return nil, ErrLimit
+// the bytes; else the first fault. A normal text has none. It uses the limit.
+func (o Options) Quirks(capture []byte) ([]Quirk, error) {
+	options, err := o.forText()
+	if err != nil {
+		return nil, err
 	}
 	buffer := make([]C.struct_linkcap_finding, 16)
 	for {
 		var count C.uint64_t
 		var fault C.struct_linkcap_finding
-		status := C.linkcap_go_quirks(address(capture), C.size_t(len(capture)), C.uint32_t(l), &buffer[0], C.size_t(len(buffer)),
+		status := C.linkcap_go_quirks(address(capture), C.size_t(len(capture)), options.limit(), &buffer[0], C.size_t(len(buffer)),
 			&count, &fault)
 		switch {
 		case status == C.LINKCAP_OK:
 			return convertQuirks(buffer[:count]), nil
 		case status != C.LINKCAP_NO_ROOM:
-			return nil, l.failure(status, fault, piece{capture, 0, true})
+			return nil, options.failure(status, fault, piece{capture, 0, true})
 		case count > math.MaxInt/2/C.sizeof_struct_linkcap_finding:
 			return nil, ErrMemory
 		}

@@ -13,7 +13,7 @@ import (
 // It keeps the bytes of the message that is cut, and the output for one piece.
 type Reader struct {
 	source     io.Reader
-	options    options
+	options    callOptions
 	piece      []byte // bytes that were read, and aren't used yet
 	messageLen int    // if the piece is shorter, no call writes anything
 	output     []byte // texts or lines that calls wrote
@@ -24,25 +24,24 @@ type Reader struct {
 	buffer     [16 << 10]byte
 }
 
-// NewReader returns a Reader with DefaultLimit.
-func NewReader(source io.Reader) *Reader { return DefaultLimit.NewReader(source) }
+// NewReader is Options{}.NewReader.
+func NewReader(source io.Reader) *Reader { return Options{}.NewReader(source) }
 
-// NewReader returns a Reader. For a limit that isn't valid, Read returns ErrLimit.
-func (l Limit) NewReader(source io.Reader) *Reader { return newReader(source, l.forText()) }
-
-// NewLineReader returns a Reader of lines, with DefaultLimit.
-func NewLineReader(source io.Reader, o LineOptions) *Reader {
-	return DefaultLimit.NewLineReader(source, o)
+// NewReader returns a Reader of a capture's normal text. It uses the limit. If the options aren't valid, Read returns the error of
+// Normalize.
+func (o Options) NewReader(source io.Reader) *Reader {
+	options, err := o.forText()
+	return &Reader{source: source, options: options, err: err}
 }
+
+// NewLineReader is Options{}.NewLineReader.
+func NewLineReader(source io.Reader) *Reader { return Options{}.NewLineReader(source) }
 
 // NewLineReader returns a Reader of a capture's lines, as Lines returns them. With KeepGoing, Read returns the first fault after
 // the capture's lines, or after those before a fault of a header. If the options aren't valid, it returns the error of Lines.
-func (l Limit) NewLineReader(source io.Reader, o LineOptions) *Reader {
-	return newReader(source, l.forLines(o))
-}
-
-func newReader(source io.Reader, o options) *Reader {
-	return &Reader{source: source, options: o, err: o.check()}
+func (o Options) NewLineReader(source io.Reader) *Reader {
+	options, err := o.forLines(ofLines...)
+	return &Reader{source: source, options: options, err: err}
 }
 
 // Read reads further bytes of the normal text, or of the lines.

@@ -16,8 +16,8 @@ import (
 
 // A vector is a stored case of crates/vectors, as docs/vectors.md describes it, and its expected output.
 type vector struct {
-	limit    linkcap.Limit
-	choice   string // for the kind show, the lines that are selected
+	options  linkcap.Options // with the limit alone
+	choice   string          // for the kind show, the lines that are selected
 	captures [][]byte
 	output   string
 }
@@ -63,7 +63,7 @@ func parseVector(t *testing.T, kind string, columns []string) vector {
 	if err != nil {
 		t.Fatal(err)
 	}
-	v, captures := vector{limit: linkcap.Limit(limit)}, columns[1:]
+	v, captures := vector{options: linkcap.Options{Limit: uint32(limit)}}, columns[1:]
 	if kind == "show" && len(captures) == 2 {
 		v.choice, captures = captures[0], captures[1:]
 	}
@@ -91,6 +91,12 @@ func joinLines(lines []string) []string {
 	return outputs
 }
 
+// with returns options with the vector's limit.
+func (v vector) with(o linkcap.Options) linkcap.Options {
+	o.Limit = v.options.Limit
+	return o
+}
+
 func (v vector) check(t *testing.T, got string) {
 	t.Helper()
 	if got != v.output {
@@ -109,12 +115,12 @@ func faultWords(t *testing.T, err error) string {
 func TestNormVectors(t *testing.T) {
 	for _, v := range readVectors(t, "norm") {
 		capture := v.captures[0]
-		text, err := v.limit.Normalize(capture)
+		text, err := v.options.Normalize(capture)
 		if err != nil {
 			text = requireFault(t, err).Written
 			v.check(t, fmt.Sprintf("%x %s", text, faultWords(t, err)))
 		} else {
-			sizes, _ := v.limit.Measure(capture)
+			sizes, _ := v.options.Measure(capture)
 			v.check(t, fmt.Sprintf("%x %d %d %d", text, sizes.Frames, sizes.Attributes, sizes.TextLen))
 		}
 		checkOtherCalls(t, v, err)
@@ -127,14 +133,14 @@ func TestNormVectors(t *testing.T) {
 // checkOtherCalls checks that other calls return the same error as Normalize.
 func checkOtherCalls(t *testing.T, v vector, want error) {
 	t.Helper()
-	_, measureErr := v.limit.Measure(v.captures[0])
-	messages, messagesErr := collect(v.limit.Messages(v.captures[0]))
-	for _, err := range []error{v.limit.Check(v.captures[0]), measureErr, messagesErr} {
+	_, measureErr := v.options.Measure(v.captures[0])
+	messages, messagesErr := collect(v.options.Messages(v.captures[0]))
+	for _, err := range []error{v.options.Check(v.captures[0]), measureErr, messagesErr} {
 		if fmt.Sprint(err) != fmt.Sprint(want) {
 			t.Errorf("%x: %v, want %v", v.captures[0], err, want)
 		}
 	}
-	sizes, _ := v.limit.Measure(v.captures[0])
+	sizes, _ := v.options.Measure(v.captures[0])
 	if want == nil && uint64(len(messages)) != sizes.Frames {
 		t.Errorf("%x: %d messages, want %d", v.captures[0], len(messages), sizes.Frames)
 	}
@@ -142,7 +148,7 @@ func checkOtherCalls(t *testing.T, v vector, want error) {
 
 func checkPieces(t *testing.T, v vector, size int, text []byte, want error) {
 	t.Helper()
-	got, err := io.ReadAll(v.limit.NewReader(&chunks{v.captures[0], size}))
+	got, err := io.ReadAll(v.options.NewReader(&chunks{v.captures[0], size}))
 	if fmt.Sprint(err) != fmt.Sprint(want) || !bytes.Equal(got, text) {
 		t.Errorf("%x in pieces of %d: %x %v, want %x %v", v.captures[0], size, got, err, text, want)
 	}
@@ -169,7 +175,7 @@ func (c *chunks) Read(to []byte) (int, error) {
 
 func TestSameVectors(t *testing.T) {
 	for _, v := range readVectors(t, "same") {
-		same, err := v.limit.Same(v.captures[0], v.captures[1])
+		same, err := v.options.Same(v.captures[0], v.captures[1])
 		switch {
 		case err != nil:
 			v.check(t, faultWords(t, err))
@@ -182,18 +188,18 @@ func TestSameVectors(t *testing.T) {
 	}
 }
 
-// checkWithoutNumbers compares the result of SameIgnoringNumbers with the lines without numbers.
+// checkWithoutNumbers compares the result of Same without numbers with the lines without numbers.
 func checkWithoutNumbers(t *testing.T, v vector, same bool, want error) {
 	t.Helper()
-	unnumbered, err := v.limit.SameIgnoringNumbers(v.captures[0], v.captures[1])
+	unnumbered, err := v.with(linkcap.Options{Numbers: linkcap.WithoutNumbers}).Same(v.captures[0], v.captures[1])
 	if fmt.Sprint(err) != fmt.Sprint(want) {
 		t.Errorf("%x: %v, want %v", v.captures, err, want)
 	}
 	if err != nil {
 		return
 	}
-	one, _ := v.limit.Lines(v.captures[0], linkcap.LineOptions{WithoutNumbers: true})
-	other, _ := v.limit.Lines(v.captures[1], linkcap.LineOptions{WithoutNumbers: true})
+	one, _ := v.with(linkcap.Options{Numbers: linkcap.WithoutNumbers}).Lines(v.captures[0])
+	other, _ := v.with(linkcap.Options{Numbers: linkcap.WithoutNumbers}).Lines(v.captures[1])
 	if unnumbered != (one == other) || same && !unnumbered {
 		t.Errorf("%x: %v", v.captures, unnumbered)
 	}
@@ -202,13 +208,13 @@ func checkWithoutNumbers(t *testing.T, v vector, same bool, want error) {
 func TestQuirkVectors(t *testing.T) {
 	for _, v := range readVectors(t, "spelling") {
 		capture, end := v.captures[0], "legal"
-		if err := v.limit.Check(capture); err != nil {
-			if _, quirksErr := v.limit.Quirks(capture); fmt.Sprint(quirksErr) != fmt.Sprint(err) {
+		if err := v.options.Check(capture); err != nil {
+			if _, quirksErr := v.options.Quirks(capture); fmt.Sprint(quirksErr) != fmt.Sprint(err) {
 				t.Errorf("%x: %v, want %v", capture, quirksErr, err)
 			}
 			capture, end = capture[:requireFault(t, err).Offset], faultWords(t, err)
 		}
-		quirks, err := v.limit.Quirks(capture)
+		quirks, err := v.options.Quirks(capture)
 		if err != nil {
 			t.Fatal(err)
 		}
@@ -222,7 +228,7 @@ func TestQuirkVectors(t *testing.T) {
 
 func TestRefusalVectors(t *testing.T) {
 	for _, v := range readVectors(t, "refusal") {
-		why, err := v.limit.Why(v.captures[0])
+		why, err := v.options.Why(v.captures[0])
 		if err != nil {
 			t.Error(err)
 		} else if why == nil {
@@ -230,7 +236,7 @@ func TestRefusalVectors(t *testing.T) {
 		} else {
 			v.check(t, why.Words)
 		}
-		if err := v.limit.Check(v.captures[0]); (why != nil) != errors.Is(err, linkcap.Refused) {
+		if err := v.options.Check(v.captures[0]); (why != nil) != errors.Is(err, linkcap.Refused) {
 			t.Errorf("%x: %v", v.captures[0], err)
 		}
 	}
@@ -238,14 +244,14 @@ func TestRefusalVectors(t *testing.T) {
 
 func TestShowVectors(t *testing.T) {
 	for _, v := range readVectors(t, "show") {
-		lines, err := v.limit.Lines(v.captures[0], parseOptions(t, v.choice))
+		lines, err := v.with(parseOptions(v.choice)).Lines(v.captures[0])
 		if err != nil {
 			v.check(t, string(requireFault(t, err).Written)+faultWords(t, err))
 		} else {
 			v.check(t, lines+"legal")
 		}
 		for _, size := range []int{1, 7, 100} {
-			got, readErr := io.ReadAll(v.limit.NewLineReader(&chunks{v.captures[0], size}, parseOptions(t, v.choice)))
+			got, readErr := io.ReadAll(v.with(parseOptions(v.choice)).NewLineReader(&chunks{v.captures[0], size}))
 			if readErr != nil {
 				v.check(t, string(got)+faultWords(t, readErr))
 			} else {
@@ -255,10 +261,9 @@ func TestShowVectors(t *testing.T) {
 	}
 }
 
-func parseOptions(t *testing.T, choice string) linkcap.LineOptions {
-	t.Helper()
-	if choice == "" || choice == "without-numbers" {
-		return linkcap.LineOptions{WithoutNumbers: choice != ""}
+func parseOptions(choice string) linkcap.Options {
+	if choice == "without-numbers" {
+		return linkcap.Options{Numbers: linkcap.WithoutNumbers}
 	}
-	return linkcap.LineOptions{Only: choice}
+	return linkcap.Options{Only: choice}
 }

@@ -40,8 +40,8 @@ func reserve(dst []byte, capacity int) []byte {
 
 // appendOutput appends the output for the whole messages of a piece, and returns the number of its bytes that were used. The
 // first fault goes to kept, if messages after it are written too.
-func (o *options) appendOutput(dst []byte, p piece, kept *error) (output []byte, used int, err error) {
-	limit, wanted := Limit(o.numbers.limit), 0
+func (o *callOptions) appendOutput(dst []byte, p piece, kept *error) (output []byte, used int, err error) {
+	wanted := 0
 	for {
 		rest := p.from(used)
 		dst = reserve(dst, wanted+o.expansion()*len(rest.bytes)+headerLen)
@@ -58,7 +58,7 @@ func (o *options) appendOutput(dst []byte, p piece, kept *error) (output []byte,
 			return dst, used, nil
 		case status == C.LINKCAP_FAULT:
 			if *kept == nil {
-				*kept = limit.failure(status, fault, rest)
+				*kept = o.failure(status, fault, rest)
 			}
 			if uint64(fault.offset) == rest.offset+uint64(progress.used) {
 				return dst, used, *kept
@@ -73,7 +73,7 @@ func (o *options) appendOutput(dst []byte, p piece, kept *error) (output []byte,
 }
 
 // appendAll appends the output for a whole capture. The Written of a fault is what was appended.
-func appendAll(o options, dst, capture []byte) ([]byte, error) {
+func appendAll(o callOptions, dst, capture []byte) ([]byte, error) {
 	var kept error
 	output, _, err := o.appendOutput(dst, piece{capture, 0, true}, &kept)
 	if err == nil {

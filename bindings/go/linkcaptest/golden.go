@@ -32,50 +32,65 @@ const probes = "probes"
 
 var leftOutLine = regexp.MustCompile(`^# leaves out( what varies)?: ?([^\r\n]*)\r?\n`)
 
-// GoldenOptions choose what GoldenWith compares. The zero value chooses what Golden compares.
-type GoldenOptions struct {
-	// Numbers compares sequence and port numbers, which change from run to run, too.
-	Numbers bool
-	// Only, Link and Without select lines, as those of linkcap.LineOptions. The file's head has the names of Without.
-	Only, Link, Without string
-	// Replace puts fixed names in place of random names of links and hardware addresses: each word is REGEX=NAME, as for linkgold
-	// --replace.
-	Replace []string
-	// Limit is the greatest length in bytes that a message may have; of 0 it is linkcap.DefaultLimit.
-	Limit linkcap.Limit
+// A selection is what lines are compared: those that options select, with fixed names.
+type selection struct {
+	options linkcap.Options
+	names   *replacement
 }
 
-// lines returns the lines that the options select of a capture, without further attributes, and with fixed names.
-func (o *GoldenOptions) lines(capture []byte, without string, names *replacement) (string, error) {
-	limit := o.Limit
-	if limit == 0 {
-		limit = linkcap.DefaultLimit
+// check returns nil if golden files use all options that are set.
+func (s *selection) check() error {
+	switch {
+	case s.options.Offsets:
+		return linkcap.UnusedOptionError("Offsets")
+	case s.options.KeepGoing:
+		return linkcap.UnusedOptionError("KeepGoing")
+	case s.options.JSON:
+		return linkcap.UnusedOptionError("JSON")
 	}
-	lines, err := limit.Lines(capture,
-		linkcap.LineOptions{WithoutNumbers: !o.Numbers, Only: o.Only, Link: o.Link, Without: without})
-	return names.apply(lines), err
+	return nil
 }
 
-// Golden compares a capture's lines with those of a file, without sequence and port numbers, and fails with a diff if
-// they differ. It stops the test at a fault, at an empty capture, and if the file can't be read or written.
+// lines returns the lines of a capture, without these attributes.
+func (s *selection) lines(capture []byte, without string) (string, error) {
+	if err := s.check(); err != nil {
+		return "", err
+	}
+	options := s.options
+	options.Without = without
+	lines, err := options.Lines(capture)
+	return s.names.apply(lines), err
+}
+
+// Golden compares a capture's lines with those of a file, without sequence numbers and netlink port IDs, and fails with a
+// diff if they differ. It stops the test at a fault, at an empty capture, and if the file can't be read or written.
 //
 // The file's first line has the format version of the lines; a file without it, as linkshow writes it, will do. What the lines
 // after it say that linkgold left out is left out of the capture's lines.
 func Golden(t testing.TB, capture []byte, path string) {
 	t.Helper()
-	GoldenWith(t, capture, path, GoldenOptions{})
+	GoldenWith(t, capture, path, linkcap.Options{})
 }
 
-// GoldenWith is Golden with options. It stops the test if they aren't valid.
-func GoldenWith(t testing.TB, capture []byte, path string, options GoldenOptions) {
+// GoldenWith is Golden for the lines that options select. A file that is written names what Without leaves out. WithNumbers
+// compares sequence numbers and netlink port IDs too. It stops the test if the options aren't valid, or have Offsets, KeepGoing or
+// JSON, which it doesn't use.
+//
+// Each word of replace is REGEX=NAME, and puts a fixed name in place of names of links and hardware addresses that match, as the
+// option --replace of linkgold does.
+func GoldenWith(t testing.TB, capture []byte, path string, options linkcap.Options, replace ...string) {
 	t.Helper()
-	names, err := newReplacement(options.Replace)
+	names, err := newReplacement(replace)
 	if err != nil {
 		t.Fatalf("linkcap: %v", err)
 	}
-	lines, err := options.lines(capture, options.Without, names)
+	if options.Numbers == 0 {
+		options.Numbers = linkcap.WithoutNumbers
+	}
+	selected := &selection{options, names}
+	lines, err := selected.lines(capture, options.Without)
 	if err != nil {
-		t.Fatalf("linkcap: %v", err)
+		t.Fatalf("linkcap: %s", wordsOf(err))
 	}
 	if lines == "" {
 		t.Fatalf("linkcap: the capture is empty, or has no message that is selected")
@@ -86,11 +101,11 @@ func GoldenWith(t testing.TB, capture []byte, path string, options GoldenOptions
 		}
 		return
 	}
-	compare(t, capture, path, options, names, lines)
+	compare(t, capture, path, selected, lines)
 }
 
-// compare compares lines with those of a golden file: those of the options or, if the file's head leaves out more, without that.
-func compare(t testing.TB, capture []byte, path string, options GoldenOptions, names *replacement, lines string) {
+// compare compares lines with those of a golden file: those that are selected or, if the file's head leaves out more, without that.
+func compare(t testing.TB, capture []byte, path string, selected *selection, lines string) {
 	t.Helper()
 	text, err := os.ReadFile(path)
 	if errors.Is(err, fs.ErrNotExist) {
@@ -104,9 +119,9 @@ func compare(t testing.TB, capture []byte, path string, options GoldenOptions, n
 		t.Fatalf("linkcap: %s is of linkgold --effect, and leaves out what varies between two runs: compare it by linkgold", path)
 	}
 	if golden.without != "" {
-		without := joinNames([]string{golden.without, options.Without})
-		if lines, err = options.lines(capture, without, names); err != nil {
-			t.Fatalf("linkcap: %s: %v", path, err)
+		without := joinNames([]string{golden.without, selected.options.Without})
+		if lines, err = selected.lines(capture, without); err != nil {
+			t.Fatalf("linkcap: %s: %s", path, wordsOf(err))
 		}
 	}
 	if golden.lines != lines {
@@ -114,7 +129,10 @@ func compare(t testing.TB, capture []byte, path string, options GoldenOptions, n
 	}
 }
 
-// Same fails if two captures don't mean the same, with a diff of their lines; sequence and port numbers count.
+// wordsOf returns the words of an error of linkcap, without its name.
+func wordsOf(err error) string { return strings.TrimPrefix(err.Error(), "linkcap: ") }
+
+// Same fails if two captures don't mean the same, with a diff of their lines; sequence numbers and netlink port IDs count.
 func Same(t testing.TB, got, want []byte) {
 	t.Helper()
 	same, err := linkcap.Same(got, want)
@@ -125,8 +143,8 @@ func Same(t testing.TB, got, want []byte) {
 		return
 	}
 	// Both are legal.
-	wantLines, _ := linkcap.Lines(want, linkcap.LineOptions{})
-	gotLines, _ := linkcap.Lines(got, linkcap.LineOptions{})
+	wantLines, _ := linkcap.Lines(want)
+	gotLines, _ := linkcap.Lines(got)
 	t.Errorf("linkcap: the captures don't mean the same\n%s", Diff("want", "got", wantLines, gotLines))
 }
 

@@ -6,6 +6,8 @@ import (
 	"path/filepath"
 	"strings"
 	"testing"
+
+	"linkcap.invalid/linkcap"
 )
 
 // A fakeTest is a test that records its failure.
@@ -90,7 +92,7 @@ func TestLinesOfLinkshow(t *testing.T) {
 		if err != nil {
 			t.Fatal(err)
 		}
-		GoldenWith(t, capture, path+".lines", GoldenOptions{Numbers: true})
+		GoldenWith(t, capture, path+".lines", linkcap.Options{Numbers: linkcap.WithNumbers})
 		if f := runGolden(capture, path+".lines"); f.message == "" {
 			t.Errorf("%s: lines without numbers are those with numbers", name)
 		}
@@ -177,7 +179,7 @@ func TestWhatAHeadLeavesOut(t *testing.T) {
 
 func TestGoldenWith(t *testing.T) {
 	path := filepath.Join(t.TempDir(), "a.lines")
-	options := GoldenOptions{Without: "IFLA_MTU,counters"}
+	options := linkcap.Options{Without: "IFLA_MTU,counters"}
 	*update = true
 	GoldenWith(t, makeLink(1), path, options)
 	*update = false
@@ -189,17 +191,20 @@ func TestGoldenWith(t *testing.T) {
 	Golden(t, makeLink(2), path)
 	GoldenWith(t, makeLink(2), path, options)
 	for _, c := range []struct {
-		options GoldenOptions
+		options linkcap.Options
 		message string
 	}{
-		{GoldenOptions{Link: "v0"}, "has no message that is selected"},
-		{GoldenOptions{Only: "getlink"}, "has no message that is selected"},
-		{GoldenOptions{Limit: 16}, "frame over the limit at 0"},
-		{GoldenOptions{Without: "IFLA_NAM"}, `no type, attribute or group is called "IFLA_NAM"`},
-		{GoldenOptions{Without: "IFLA_MTU", Numbers: true}, "+RTM_NEWLINK flags 0x5 (REQUEST | ACK) seq 2305 port 0"},
+		{linkcap.Options{Link: "v0"}, "has no message that is selected"},
+		{linkcap.Options{Only: "getlink"}, "has no message that is selected"},
+		{linkcap.Options{Limit: 16}, "frame over the limit at 0"},
+		{linkcap.Options{Offsets: true}, "linkcap: the call doesn't use the option Offsets"},
+		{linkcap.Options{KeepGoing: true}, "linkcap: the call doesn't use the option KeepGoing"},
+		{linkcap.Options{JSON: true}, "linkcap: the call doesn't use the option JSON"},
+		{linkcap.Options{Without: "IFLA_NAM"}, `linkcap: no type, attribute or group is called "IFLA_NAM"`},
+		{linkcap.Options{Without: "IFLA_MTU", Numbers: linkcap.WithNumbers}, "+RTM_NEWLINK flags 0x5 (REQUEST | ACK) seq 2305 port 0"},
 	} {
 		f := runFake(func(t testing.TB) { GoldenWith(t, makeLink(1), path, c.options) })
-		if !strings.Contains(f.message, c.message) {
+		if !strings.Contains(f.message, c.message) || strings.Contains(f.message, "linkcap: linkcap") {
 			t.Errorf("%+v: %q", c.options, f.message)
 		}
 	}

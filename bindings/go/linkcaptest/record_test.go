@@ -73,7 +73,7 @@ func TestRecordOfIP(t *testing.T) {
 	}
 	t.Setenv("LINKREC", "../../../scripts/linkrec")
 	capture := Record(t, exec.Command(ip, "link", "set", "lo", "up"))
-	lines, err := linkcap.Lines(capture, linkcap.LineOptions{WithoutNumbers: true, Only: "newlink"})
+	lines, err := linkcap.Options{Numbers: linkcap.WithoutNumbers, Only: "newlink"}.Lines(capture)
 	if err != nil || !strings.HasPrefix(lines, "RTM_NEWLINK flags 0x5 (REQUEST | ACK)\n") {
 		t.Errorf("%v %q", err, lines)
 	}

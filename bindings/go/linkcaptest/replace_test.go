@@ -3,6 +3,8 @@ package linkcaptest
 import (
 	"strings"
 	"testing"
+
+	"linkcap.invalid/linkcap"
 )
 
 func TestNamesAreReplaced(t *testing.T) {
@@ -41,7 +43,7 @@ func TestReplace(t *testing.T) {
 	path := writeGolden(t, makeLink(1))
 	run := func(word string) *fakeTest {
 		return runFake(func(t testing.TB) {
-			GoldenWith(t, makeLink(1), path, GoldenOptions{Replace: []string{word}})
+			GoldenWith(t, makeLink(1), path, linkcap.Options{}, word)
 		})
 	}
 	if f := run("none=N"); f.message != "" {

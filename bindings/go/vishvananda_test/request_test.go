@@ -14,6 +14,7 @@ import (
 	"github.com/vishvananda/netlink/nl"
 	"golang.org/x/sys/unix"
 
+	"linkcap.invalid/linkcap"
 	"linkcap.invalid/linkcap/linkcaptest"
 )
 
@@ -113,7 +114,7 @@ func TestLinkAdd(t *testing.T) {
 	for name := range links {
 		t.Run(name, func(t *testing.T) {
 			capture := linkcaptest.Record(t, exec.Command(os.Args[0], "-add="+name))
-			options := linkcaptest.GoldenOptions{Only: "newlink"}
+			options := linkcap.Options{Only: "newlink"}
 			linkcaptest.GoldenWith(t, capture, filepath.Join("testdata", "linkadd-"+name+".lines"), options)
 		})
 	}

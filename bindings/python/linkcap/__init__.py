@@ -2,7 +2,9 @@
 
 A capture is a byte string of netlink messages, each at a multiple of 4: any bytes-like object whose bytes are contiguous,
 for example bytes, bytearray, memoryview, mmap, array or a numpy array. It isn't copied. Nobody may write to it while a call runs.
-`limit` is the greatest length in bytes that a message, read or written, may have, from 16 to 4294967295.
+A capture is legal if it has no `Fault`. Its normal text is its canonical form: two legal captures mean the same if and only if
+their normal texts are equal. `limit` is the greatest length in bytes that a message, read or written, may have, from 16 to
+4294967295.
 
 Calls are allowed
 
@@ -17,16 +19,17 @@ The package calls the library liblinkcap.so: the one in this package if there is
 LINKCAP_LIB_DIR names, otherwise the one that the loader finds. LIBRARY_PATH is its name. docs/languages.md of linkcap
 is the page for callers. `python -m linkcap` normalises, compares and shows files.
 """
-from ._calls import Measure, Message, Quirk, QuirkKind, check, lines, measure, messages, normalize, quirks, same, to_json, why
+from ._calls import Measure, Quirk, QuirkKind, check, lines, measure, normalize, quirks, same, to_json, why
 from ._fault import Fault, Kind, Refusal
 from ._golden import golden
+from ._messages import Attribute, Message, attributes, messages
 from ._native import FORMAT, LIBRARY_PATH, Capture
-from ._options import DEFAULT_LIMIT
+from ._options import DEFAULT_LIMIT, Options
 from ._reader import LineReader, Reader
 from ._record import RecordError, Recording, record
 
 __version__ = "0.1.0"
 
-__all__ = ["DEFAULT_LIMIT", "FORMAT", "LIBRARY_PATH", "Capture", "Fault", "Kind", "LineReader", "Measure", "Message", "Quirk",
-           "QuirkKind", "Reader", "RecordError", "Recording", "Refusal", "check", "golden", "lines", "measure", "messages", "normalize",
-           "quirks", "record", "same", "to_json", "why"]
+__all__ = ["DEFAULT_LIMIT", "FORMAT", "LIBRARY_PATH", "Attribute", "Capture", "Fault", "Kind", "LineReader", "Measure", "Message",
+           "Options", "Quirk", "QuirkKind", "Reader", "RecordError", "Recording", "Refusal", "attributes", "check", "golden", "lines",
+           "measure", "messages", "normalize", "quirks", "record", "same", "to_json", "why"]

@@ -1,7 +1,7 @@
 """`python -m linkcap`: captures of files or of standard input, with the statuses of the programs linkcap and linkshow."""
 import argparse
 import sys
-from typing import Any, BinaryIO, Dict, Iterator, List, NoReturn, Optional
+from typing import Any, BinaryIO, Iterator, List, NoReturn, Optional
 
 import linkcap
 
@@ -46,7 +46,7 @@ def _parser() -> argparse.ArgumentParser:
     commands = parser.add_subparsers(dest="command", required=True, metavar="norm|same|lines|json|messages|quirks")
     _add(commands, "norm", "write the normal text")
     same = _add(commands, "same", "compare two captures", "file", "other")
-    same.add_argument("--ignore-numbers", action="store_true", help="after zeroing sequence and port numbers")
+    same.add_argument("--without-numbers", action="store_true", help="after zeroing sequence numbers and netlink port IDs")
     for name, description in (("lines", "write lines for people"), ("json", "write each message as JSON, in a line")):
         lines = _add(commands, name, description)
         lines.add_argument("--without-numbers", action="store_true")
@@ -65,8 +65,8 @@ def _open(name: str) -> BinaryIO:
     return sys.stdin.buffer if name == "-" else open(name, "rb")
 
 
-def _options(args: Any) -> Dict[str, Any]:
-    """The options of `lines`."""
+def _options(args: Any) -> linkcap.Options:
+    """The options of lines, from those of the command."""
     return {"numbers": not args.without_numbers, "only": args.only, "link": args.link, "without": args.without,
             "offsets": args.offsets, "keep_going": args.keep_going, "json": args.command == "json"}
 
@@ -91,7 +91,7 @@ def _output(args: Any, file: BinaryIO) -> Iterator[bytes]:
         yield from _lines(args, file)
     elif args.command == "messages":
         for message in linkcap.messages(file.read(), args.limit):
-            yield f"{message.offset} {message.length} {message.type}\n".encode()
+            yield f"{message.offset} {len(message.bytes)} {message.type}\n".encode()
     else:
         for quirk in linkcap.quirks(file.read(), args.limit):
             yield f"{quirk.words}\n".encode()
@@ -101,7 +101,7 @@ def _run(args: Any) -> int:
     with _open(args.file) as file:
         if args.command == "same":
             with _open(args.other) as other:
-                is_same = linkcap.same(file.read(), other.read(), args.limit, ignore_numbers=args.ignore_numbers)
+                is_same = linkcap.same(file.read(), other.read(), args.limit, numbers=not args.without_numbers)
             sys.stdout.buffer.write(b"same\n" if is_same else b"different\n")
             return LEGAL if is_same else DIFFERENT
         for piece in _output(args, file):

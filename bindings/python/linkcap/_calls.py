@@ -1,16 +1,16 @@
 """The calls over a capture in memory."""
-import ctypes
 import enum
-import json as json_module
-import struct
-from typing import Any, Dict, Iterable, Iterator, List, NamedTuple, Optional, SupportsIndex, Union
+import json
+from typing import TYPE_CHECKING, Any, Dict, List, NamedTuple, Optional, SupportsIndex
 
 from . import _native
 from ._fault import Refusal, failure, refusal, words_of
-from ._native import BorrowedBytes, Capture, address_of
-from ._options import DEFAULT_LIMIT, Options, selected, with_limit
-from ._types import MessageType
+from ._native import BorrowedBytes, Capture, address_of, whole
+from ._options import DEFAULT_LIMIT, OF_JSON, OF_LINES, CallOptions, Options, check_use, of_lines, with_limit
 from ._writing import write_all
+
+if TYPE_CHECKING:
+    from typing_extensions import Unpack
 
 
 class Measure(NamedTuple):
@@ -24,26 +24,7 @@ class Measure(NamedTuple):
     text_len: int
 
 
-class Message(NamedTuple):
-    """The position and the header of a message."""
-
-    #: where it begins, in bytes from the capture's start
-    offset: int
-    #: its length in bytes, header included and padding not
-    length: int
-    #: as 16 for RTM_NEWLINK
-    type: int
-    flags: int
-    sequence_number: int
-    port_number: int
-
-
-def _whole(capture: BorrowedBytes) -> _native.PieceStruct:
-    """A whole capture as a piece."""
-    return _native.PieceStruct(capture.at, capture.length, 0, True, 0)
-
-
-def _judge(capture: Capture, options: Options) -> _native.Workspace:
+def _judge(capture: Capture, options: CallOptions) -> _native.Workspace:
     """The workspace of a call that found a capture legal, with its sizes; else raises its first `Fault`."""
     workspace = _native.take_workspace()
     if type(capture) is bytes:  # whose address ctypes passes by itself; a fault is found again below
@@ -53,7 +34,7 @@ def _judge(capture: Capture, options: Options) -> _native.Workspace:
     with BorrowedBytes(capture) as borrowed:
         status = _native.library.linkcap_check(borrowed.at, borrowed.length, options.at, workspace.sizes_at, workspace.fault_at)
         if status != _native.OK:
-            raise failure(status, workspace.fault, options, _whole(borrowed))
+            raise failure(status, workspace.fault, options, whole(borrowed))
     return workspace
 
 
@@ -72,51 +53,39 @@ def measure(capture: Capture, limit: SupportsIndex = DEFAULT_LIMIT) -> Measure:
 
 
 def normalize(capture: Capture, limit: SupportsIndex = DEFAULT_LIMIT) -> bytes:
-    """The normal text of a legal capture; else raises its first `Fault`, whose `written` is the text before it."""
+    """The normal text of a legal capture; else raises its first `Fault`, whose `written` is the normal text before it."""
     return write_all(with_limit(limit), capture)
 
 
-def same(first: Capture, second: Capture, limit: SupportsIndex = DEFAULT_LIMIT, *, ignore_numbers: bool = False) -> bool:
+def same(first: Capture, second: Capture, limit: SupportsIndex = DEFAULT_LIMIT, *, numbers: bool = True) -> bool:
     """Whether two legal captures mean the same: whether their normal texts are equal.
 
-    With `ignore_numbers`, sequence and port numbers, which change from run to run, are zeroed first, also those of the
-    request's header that an NLMSG_ERROR repeats.
+    Without `numbers`, the sequence number and the netlink port ID of each message, and those of the request's header that an
+    NLMSG_ERROR repeats, are zeroed first: they change from run to run.
 
     If a capture isn't legal, raises the first `Fault` of the first one, or of the second one if the first is legal; its
     `side` is 1 or 2.
     """
-    options = Options(limit, flags=_native.WITHOUT_NUMBERS) if ignore_numbers else with_limit(limit)
+    options = with_limit(limit) if numbers else CallOptions(limit, flags=_native.WITHOUT_NUMBERS)
     workspace = _native.take_workspace()
     fault, fault_at = workspace.fault, workspace.fault_at
     with BorrowedBytes(first) as one, BorrowedBytes(second) as other:
         status = _native.library.linkcap_same(one.at, one.length, other.at, other.length, options.at, fault_at)
         if status > _native.DIFFERENT:
-            raise failure(status, fault, options, _whole(other if fault.side == 2 else one))
+            raise failure(status, fault, options, whole(other if fault.side == 2 else one))
     _native.keep_workspace(workspace)
     return bool(status == _native.OK)
 
 
-def lines(capture: Capture, limit: SupportsIndex = DEFAULT_LIMIT, *, numbers: bool = True,
-          only: Optional[Iterable[MessageType]] = None, link: Union[str, int, None] = None, without: Iterable[str] = (),
-          offsets: bool = False, keep_going: bool = False, json: bool = False) -> str:
-    """The lines of a legal capture, as `linkshow` writes them; else raises its first `Fault`.
+def lines(capture: Capture, limit: SupportsIndex = DEFAULT_LIMIT, **options: "Unpack[Options]") -> str:
+    """The lines of a legal capture that the keywords of `Options` select, as `linkshow` writes them; else raises its first `Fault`,
+    whose `written` has the lines before it.
 
-    Without `numbers` they lack sequence and port numbers, which change from run to run. With `only` they are only those of
-    messages of these types, by name or number: `only=["newlink", 17]`. The other options are those of `linkshow`:
-
-    - `link`: only messages about this link, by name, alternative name or index;
-    - `without`: no attributes of these names, and none of the groups "numbers", "counters" and "indexes";
-    - `offsets`: each message's first line ends with its offset in the capture, in bytes;
-    - `keep_going`: messages with a fault in their body are shown too, and those after them: the first `Fault` is raised
-      nevertheless, and its `written` has all these lines;
-    - `json`: each message is an object of JSON, in a line of its own.
-
-    `only` has at most 32 types, and `without` at most 32 names. Raises ValueError for a name that isn't known.
-
-    >>> lines(bytes.fromhex("10000000030002000100000000000000"), without=["numbers"], offsets=True).splitlines()
+    >>> lines(bytes.fromhex("10000000030002000100000000000000"), numbers=False, offsets=True).splitlines()
     ['NLMSG_DONE flags 0x2 (MULTI) offset 0', '  code 0']
     """
-    return write_all(selected(limit, numbers, only, link, without, offsets, keep_going, json), capture).decode("ascii")
+    check_use(options, OF_LINES, "lines")
+    return write_all(of_lines(limit, options), capture).decode("ascii")
 
 
 class QuirkKind(enum.IntEnum):
@@ -142,7 +111,7 @@ class Quirk(NamedTuple):
     kind: QuirkKind
     #: the start of its attribute, or the header's byte, in bytes from the capture's start
     offset: int
-    #: as "flag with a payload at 76"
+    #: for example "flag with a payload at 76"
     words: str
 
 
@@ -166,20 +135,22 @@ def quirks(capture: Capture, limit: SupportsIndex = DEFAULT_LIMIT) -> List[Quirk
                                                     address_of(count), address_of(fault))
             capacity = count.value
         if status != _native.OK:
-            raise failure(status, fault, options, _whole(borrowed))
+            raise failure(status, fault, options, whole(borrowed))
     return [_quirk(found[index]) for index in range(count.value)]
 
 
-def to_json(capture: Capture, limit: SupportsIndex = DEFAULT_LIMIT, **options: Any) -> List[Dict[str, Any]]:
+def to_json(capture: Capture, limit: SupportsIndex = DEFAULT_LIMIT, **options: "Unpack[Options]") -> List[Dict[str, Any]]:
     """The messages of a legal capture as data, a dictionary each that `json.dumps` writes; else raises its first `Fault`.
 
-    The keys are those of the program linkjson; the options are those of `lines`. The fault's `written` has a line of JSON for
-    each message before it. For a long capture, `LineReader` with `json` returns these lines in pieces.
+    The keys are those of the program linkjson. The keywords are those of `Options` but `json`. The fault's `written` has a line
+    of JSON for each message before it. For a long capture, `LineReader` with `json` returns these lines in pieces.
 
     >>> to_json(bytes.fromhex("10000000030002000000000000000000"), numbers=False)[0]["type"]
     'NLMSG_DONE'
     """
-    return [json_module.loads(line) for line in lines(capture, limit, json=True, **options).splitlines()]
+    check_use(options, OF_JSON, "to_json")
+    options["json"] = True
+    return [json.loads(line) for line in write_all(of_lines(limit, options), capture).splitlines()]
 
 
 def why(capture: Capture, limit: SupportsIndex = DEFAULT_LIMIT) -> Optional[Refusal]:
@@ -190,35 +161,4 @@ def why(capture: Capture, limit: SupportsIndex = DEFAULT_LIMIT) -> Optional[Refu
     """
     options = with_limit(limit)
     with BorrowedBytes(capture) as borrowed:
-        return refusal(options, _whole(borrowed))
-
-
-_HEADER = struct.Struct("<IHHII")
-
-
-def messages(capture: Capture, limit: SupportsIndex = DEFAULT_LIMIT) -> Iterator[Message]:
-    """Yields the messages of a legal capture, one after the other; of any other those before the first `Fault`, which it then
-    raises.
-
-    A message's bytes are `capture[message.offset:message.offset + message.length]`, which is a capture. A bytes-like object
-    can't be resized until the iterator has ended or is closed.
-
-    >>> list(messages(bytes.fromhex("10000000030002000100000000000000")))
-    [Message(offset=0, length=16, type=3, flags=2, sequence_number=1, port_number=0)]
-    """
-    options, found, fault = with_limit(limit), _native.MessageStruct(), _native.FindingStruct()
-    return _messages(BorrowedBytes(capture), options, found, fault)
-
-
-def _messages(capture: BorrowedBytes, options: Options, found: _native.MessageStruct,
-              fault: _native.FindingStruct) -> Iterator[Message]:
-    offset, at, fault_at = 0, address_of(found), address_of(fault)
-    with capture:
-        while True:
-            status = _native.library.linkcap_next_message(capture.at, capture.length, options.at, offset, at, fault_at)
-            if status == _native.NONE:
-                return
-            if status != _native.OK:
-                raise failure(status, fault, options, _whole(capture))
-            yield Message(offset, *_HEADER.unpack(ctypes.string_at(capture.at + offset, _HEADER.size)))
-            offset = found.next
+        return refusal(options, whole(borrowed))

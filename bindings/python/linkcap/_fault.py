@@ -4,11 +4,11 @@ import enum
 from typing import Any, NamedTuple, Optional, Tuple
 
 from . import _native
-from ._options import Options
+from ._options import CallOptions
 
 
 class Kind(enum.IntEnum):
-    """The kinds of faults. Captures in memory have the first seven."""
+    """The kinds of faults. Calls raise the first seven; the others are those of the program linkcap."""
 
     CUT = 1
     SHORT_LENGTH = 2
@@ -41,7 +41,7 @@ class Fault(Exception):
     offset: int
     #: of two captures 1 for the first and 2 for the second
     side: Optional[int]
-    #: as "cut frame at 48"
+    #: for example "cut frame at 48"
     words: str
     #: the output before it: normal text, or lines in ASCII
     written: bytes
@@ -67,7 +67,7 @@ def words_of(finding: _native.FindingStruct) -> str:
     return out.take(size.value).decode("ascii")
 
 
-def refusal(options: Options, piece: _native.PieceStruct) -> Optional[Refusal]:
+def refusal(options: CallOptions, piece: _native.PieceStruct) -> Optional[Refusal]:
     """Why a body is refused, if that is the first fault of a piece; else None. Raises MemoryError if there is no memory for the
     words."""
     size, offset = _native.Count(), _native.Count()
@@ -84,7 +84,7 @@ def refusal(options: Options, piece: _native.PieceStruct) -> Optional[Refusal]:
     return Refusal(out.take(size.value).decode("ascii"), None if offset.value == (1 << 64) - 1 else offset.value)
 
 
-def first_fault(fault: _native.FindingStruct, options: Options, piece: _native.PieceStruct, written: bytes = b"") -> Fault:
+def first_fault(fault: _native.FindingStruct, options: CallOptions, piece: _native.PieceStruct, written: bytes = b"") -> Fault:
     """The first fault of a piece, with its reason."""
     reason = None
     if fault.kind == Kind.REFUSED:
@@ -95,7 +95,7 @@ def first_fault(fault: _native.FindingStruct, options: Options, piece: _native.P
     return Fault(fault.kind, fault.offset, fault.side or None, written, reason)
 
 
-def failure(status: int, fault: _native.FindingStruct, options: Options, piece: _native.PieceStruct,
+def failure(status: int, fault: _native.FindingStruct, options: CallOptions, piece: _native.PieceStruct,
             written: bytes = b"") -> Exception:
     """The exception for a status that isn't a success, over a piece."""
     if status == _native.NO_MEMORY:

@@ -1,30 +1,31 @@
 """Golden files of lines, for tests."""
 import difflib
 import os
-from typing import Iterable, List, Optional, SupportsIndex, Tuple, Union
+from typing import TYPE_CHECKING, Iterable, List, SupportsIndex, Tuple, Union
 
 from . import lines_filter, lines_golden, lines_record
-from ._calls import lines
 from ._native import FORMAT, Capture
-from ._options import DEFAULT_LIMIT
+from ._options import DEFAULT_LIMIT, OF_GOLDEN, Options, check_use, of_lines
 from ._record import Recording
-from ._types import MessageType
+from ._writing import write_all
 from .lines_replace import Replacement
+
+if TYPE_CHECKING:
+    from typing_extensions import Unpack
 
 # Frames of this module are left out of tracebacks, by unittest and by pytest.
 __unittest = True
 
 
-def golden(capture: Capture, path: Union[str, "os.PathLike[str]"], *, update: bool = False, numbers: bool = False,
-           only: Optional[Iterable[MessageType]] = None, link: Union[str, int, None] = None, without: Iterable[str] = (),
-           replace: Iterable[str] = (), limit: SupportsIndex = DEFAULT_LIMIT) -> None:
+def golden(capture: Capture, path: Union[str, "os.PathLike[str]"], *, update: bool = False, replace: Iterable[str] = (),
+           limit: SupportsIndex = DEFAULT_LIMIT, **options: "Unpack[Options]") -> None:
     """Compares a capture's lines with those of a file; if they differ, raises AssertionError with a unified diff.
 
-    With `update` it writes the file instead, and its folder. Lines have sequence and port numbers with `numbers`; with `only`,
-    `link` and `without` they are those that `lines` selects, and the file's head has the names of `without`. Each `REGEX=NAME`
-    of `replace` puts NAME in place of the names of links and hardware addresses that match, as `linkgold --replace`;
-    ValueError names one that is malformed. A capture that isn't legal raises its `Fault`, and one without lines AssertionError:
-    the test has captured nothing.
+    With `update` it writes the file instead, and its folder. The keywords are `only`, `link`, `without` and `numbers` of `Options`;
+    by default lines lack sequence numbers and netlink port IDs. The file's head has the names of `without`. Each `REGEX=NAME` of `replace`
+    puts NAME in place of the names of links and hardware addresses that match, as `linkgold --replace` does; ValueError names one that
+    is malformed. A capture that isn't legal raises its `Fault`, and one without lines AssertionError: the test has captured
+    nothing.
 
     Of a `Recording` the lines are those of linkgold: names of links in place of indexes, a line `# namespace 2` where the
     namespace changes, and a line `refused: ENODEV` after a request that the kernel refused.
@@ -33,11 +34,9 @@ def golden(capture: Capture, path: Union[str, "os.PathLike[str]"], *, update: bo
     after it say that linkgold left out is left out of the capture's lines.
     """
     __tracebackhide__ = True
-    replacement, excluded = Replacement(replace), _Excluded(without)
-    if isinstance(capture, Recording):
-        text = _recorded_lines(capture, lines(capture, limit, only=only, link=link, offsets=True), numbers)
-    else:
-        text = lines(capture, limit, numbers=numbers, only=only, link=link)
+    check_use(options, OF_GOLDEN, "golden")
+    replacement, excluded = Replacement(replace), _Excluded(options.pop("without", ()))
+    text = _lines(capture, limit, options)
     made = replacement.apply(text.splitlines())
     if not made:
         raise AssertionError("the capture is empty, or has no message that is selected")
@@ -65,6 +64,15 @@ class _Excluded:
             raise TypeError(f"without is a list of names, as ['IFLA_MTU'], and not {without!r}")
         self.words = list(without)
         self.names = lines_filter.names_of(",".join(self.words)) if self.words else set()
+
+
+def _lines(capture: Capture, limit: SupportsIndex, options: Options) -> str:
+    """The lines of a capture; of a recording those of linkgold."""
+    numbers = options.setdefault("numbers", False)
+    if not isinstance(capture, Recording):
+        return write_all(of_lines(limit, options), capture).decode("ascii")
+    options["numbers"] = options["offsets"] = True
+    return _recorded_lines(capture, write_all(of_lines(limit, options), capture).decode("ascii"), numbers)
 
 
 def _text(made: List[str]) -> str:

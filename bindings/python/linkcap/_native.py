@@ -104,6 +104,11 @@ class BorrowedBytes:
             self._held.release()
 
 
+def whole(capture: BorrowedBytes) -> PieceStruct:
+    """A whole capture as a piece."""
+    return PieceStruct(capture.at, capture.length, 0, True, 0)
+
+
 #: a number that a call writes
 Count = ctypes.c_uint64
 

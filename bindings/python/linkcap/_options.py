@@ -1,6 +1,6 @@
-"""Options of calls, as the library reads them."""
+"""Options of calls."""
 import operator
-from typing import Iterable, Optional, SupportsIndex, Union
+from typing import AbstractSet, Iterable, Optional, SupportsIndex, TypedDict, Union
 
 from . import _native
 from ._native import BorrowedBytes
@@ -21,8 +21,35 @@ def checked_limit(limit: SupportsIndex) -> int:
     return number
 
 
-class Options:
-    """A struct of options. Its address is valid as long as this exists, and calls only read it."""
+class Options(TypedDict, total=False):
+    """The keywords of `lines`, `to_json` and `LineReader`; `attributes`, `golden` and `same` take those that they name. They are the
+    options of the program linkshow:
+
+    - `only`: only messages of these types, at most 32 of them, by name or number: `only=["newlink", 17]`;
+    - `link`: only messages about this link, by name, alternative name or index;
+    - `without`: no attributes of these names, at most 32 of them, with all that they nest, and none of the groups "numbers",
+      "counters" and "indexes": `without=["IFLA_MTU", "counters"]`;
+    - `numbers`: whether sequence numbers and netlink port IDs, which change from run to run, are shown or compared. By default
+      they are, except in golden files;
+    - `offsets`: each message's first line ends with its offset in the capture, in bytes;
+    - `keep_going`: messages with a fault in their body are shown too, in hex, and those after them. The first `Fault` is raised
+      nevertheless, and its `written` has all these lines;
+    - `json`: each message is an object of JSON, on a line of its own.
+
+    A keyword that a call doesn't take raises TypeError, and a name that isn't known ValueError.
+    """
+
+    only: Optional[Iterable[MessageType]]
+    link: Union[str, int, None]
+    without: Iterable[str]
+    numbers: bool
+    offsets: bool
+    keep_going: bool
+    json: bool
+
+
+class CallOptions:
+    """The options of a call as the library reads them, in a struct. Its address is valid as long as this exists, and calls only read it."""
 
     __slots__ = ("at", "expansion", "_struct", "_texts")
 
@@ -36,12 +63,12 @@ class Options:
         self.expansion = 1 if form == _native.TEXT else 4
 
 
-_DEFAULT = Options(DEFAULT_LIMIT)
+_DEFAULT = CallOptions(DEFAULT_LIMIT)
 
 
-def with_limit(limit: SupportsIndex) -> Options:
+def with_limit(limit: SupportsIndex) -> CallOptions:
     """The options with a limit. Those with the default limit are made once."""
-    return _DEFAULT if limit is DEFAULT_LIMIT else Options(limit)
+    return _DEFAULT if limit is DEFAULT_LIMIT else CallOptions(limit)
 
 
 def _joined(words: Iterable[object]) -> bytes:
@@ -66,7 +93,7 @@ def _excluded(without: Iterable[str]) -> bytes:
             raise TypeError(f"a name of an attribute or a group is a text, and not {word!r}")
     names = _joined(words)
     if names:
-        options, size, out = Options(DEFAULT_LIMIT, without=names), _native.Count(), _native.Output(len(names))
+        options, size, out = CallOptions(DEFAULT_LIMIT, without=names), _native.Count(), _native.Output(len(names))
         status = _native.library.linkcap_unknown_word(options.at, out.at, out.capacity, _native.address_of(size))
         if status != _native.NONE:
             raise ValueError(f"no attribute or group is called {out.take(size.value).decode()!r}")
@@ -86,11 +113,26 @@ def _word(link: Union[str, int, None]) -> bytes:
     return str(operator.index(link)).encode()
 
 
-def selected(limit: SupportsIndex, numbers: bool, only: Optional[Iterable[MessageType]], link: Union[str, int, None],
-             without: Iterable[str], offsets: bool, keep_going: bool, json: bool) -> Options:
-    """The options that the keywords of `lines` are."""
-    flags = 0 if numbers else _native.WITHOUT_NUMBERS
-    flags |= _native.OFFSETS if offsets else 0
-    flags |= _native.KEEP_GOING if keep_going else 0
+#: the keywords that some calls use
+OF_ATTRIBUTES = frozenset({"only", "link", "without"})
+OF_GOLDEN = OF_ATTRIBUTES | {"numbers"}
+OF_JSON = OF_GOLDEN | {"offsets", "keep_going"}
+OF_LINES = OF_JSON | {"json"}
+
+
+def check_use(options: Options, used: AbstractSet[str], call: str) -> None:
+    """Raises TypeError for a keyword that a call doesn't take."""
+    for name in options:
+        if name not in used:
+            raise TypeError(f"{call}() got an unexpected keyword argument {name!r}")
+
+
+def of_lines(limit: SupportsIndex, options: Options) -> CallOptions:
+    """The options of a call that writes lines."""
+    flags = 0 if options.get("numbers", True) else _native.WITHOUT_NUMBERS
+    flags |= _native.OFFSETS if options.get("offsets") else 0
+    flags |= _native.KEEP_GOING if options.get("keep_going") else 0
+    only = options.get("only")
     types = b"" if only is None else _joined(type_numbers(only))
-    return Options(limit, _native.JSON if json else _native.LINES, flags, types, _word(link), _excluded(without))
+    form = _native.JSON if options.get("json") else _native.LINES
+    return CallOptions(limit, form, flags, types, _word(options.get("link")), _excluded(options.get("without", ())))

@@ -1,12 +1,14 @@
 """Captures that come in pieces."""
 import ctypes
-from typing import Dict, Generic, Iterable, Iterator, Optional, Protocol, SupportsIndex, TypeVar, Union
+from typing import TYPE_CHECKING, Dict, Generic, Iterator, Optional, Protocol, SupportsIndex, TypeVar
 
 from ._fault import Fault
 from ._native import BorrowedBytes, Capture
-from ._options import DEFAULT_LIMIT, Options, selected, with_limit
-from ._types import MessageType
+from ._options import DEFAULT_LIMIT, OF_LINES, CallOptions, Options, check_use, of_lines, with_limit
 from ._writing import Written, write
+
+if TYPE_CHECKING:
+    from typing_extensions import Unpack
 
 _HEADER = 16
 
@@ -28,13 +30,9 @@ ResultT = TypeVar("ResultT", bytes, str)
 class _Pieces(Generic[ResultT]):
     """The common part of readers. Between pieces it keeps the bytes of a cut message. The time is linear in the capture's
     length, for pieces of any sizes.
-
-    A reader runs one call at a time: a call that is made while another one runs, by a thread, a finaliser or a signal
-    handler, raises RuntimeError and changes nothing. After a call that raised a fault or another exception, and after
-    `finish`, each call raises ValueError. A piece of a wrong type changes nothing.
     """
 
-    def __init__(self, options: Options) -> None:
+    def __init__(self, options: CallOptions) -> None:
         self._options = options
         self._rest = bytearray()
         self._start = 0  # of the rest, in bytes from the capture's start
@@ -161,19 +159,17 @@ class Reader(_Pieces[bytes]):
 class LineReader(_Pieces[str]):
     """Shows a capture that comes in pieces, as `Reader` normalises one: `feed`, `finish` and `read_file` return its lines.
 
-    The keywords are those of `lines`. With `keep_going`, a fault is raised at the capture's end, or at a fault of a header:
-    the first one, with what is written then. A reader takes memory for one piece, its lines and a cut message, for a capture
-    of any length.
+    The keywords are those of `Options`. With `keep_going`, the first fault is raised at the capture's end, or at a fault of a
+    header. A reader takes memory for one piece, its lines and a cut message, for a capture of any length.
 
     >>> import io
     >>> "".join(LineReader(numbers=False).read_file(io.BytesIO(bytes.fromhex("10000000030002000000000000000000"))))
     'NLMSG_DONE flags 0x2 (MULTI)\\n  code 0\\n'
     """
 
-    def __init__(self, limit: SupportsIndex = DEFAULT_LIMIT, *, numbers: bool = True,
-                 only: Optional[Iterable[MessageType]] = None, link: Union[str, int, None] = None, without: Iterable[str] = (),
-                 offsets: bool = False, keep_going: bool = False, json: bool = False) -> None:
-        super().__init__(selected(limit, numbers, only, link, without, offsets, keep_going, json))
+    def __init__(self, limit: SupportsIndex = DEFAULT_LIMIT, **options: "Unpack[Options]") -> None:
+        check_use(options, OF_LINES, "LineReader")
+        super().__init__(of_lines(limit, options))
 
     def _result(self, output: bytes) -> str:
         return output.decode("ascii")

@@ -2,7 +2,7 @@
 from typing import Dict, Iterable, List, SupportsIndex, Union
 import operator
 
-#: the names of linux/netlink.h and linux/rtnetlink.h, in lower case without NLMSG_ and RTM_, as `linkshow --only` has them
+#: the names of linux/netlink.h and linux/rtnetlink.h, in lower case without NLMSG_ and RTM_, which `linkshow --only` takes
 NAMES: Dict[str, int] = {
     "noop": 1, "error": 2, "done": 3, "overrun": 4, "tstamp": 15,
     "newlink": 16, "dellink": 17, "getlink": 18, "setlink": 19,

@@ -4,7 +4,7 @@ from typing import List, NamedTuple, Optional
 from . import _native
 from ._fault import Fault, failure, first_fault
 from ._native import BorrowedBytes, Capture, address_of
-from ._options import Options
+from ._options import CallOptions
 
 
 class Written(NamedTuple):
@@ -17,7 +17,7 @@ class Written(NamedTuple):
     kept: Optional[Fault]
 
 
-def write(options: Options, at: int, length: int, offset: int, is_last: bool, kept: Optional[Fault] = None) -> Written:
+def write(options: CallOptions, at: int, length: int, offset: int, is_last: bool, kept: Optional[Fault] = None) -> Written:
     """Writes the whole messages of the bytes at an address, which are a piece at an offset of a capture.
 
     Raises the fault at which the writing stops, or `kept`, the first fault of the pieces before, if there is one. Its `written`
@@ -47,7 +47,7 @@ def write(options: Options, at: int, length: int, offset: int, is_last: bool, ke
     return Written(used, output, kept)
 
 
-def _write_small(options: Options, capture: bytes) -> Optional[bytes]:
+def _write_small(options: CallOptions, capture: bytes) -> Optional[bytes]:
     """The output of a capture; None if it is longer than a workspace's buffer, or the capture has a fault."""
     workspace = _native.take_workspace()
     out, piece = workspace.out, workspace.piece
@@ -59,7 +59,7 @@ def _write_small(options: Options, capture: bytes) -> Optional[bytes]:
     return output
 
 
-def write_all(options: Options, capture: Capture) -> bytes:
+def write_all(options: CallOptions, capture: Capture) -> bytes:
     """Writes a whole capture. Raises its first fault, whose `written` is what was written."""
     if type(capture) is bytes and options.expansion * len(capture) <= _native.Workspace.SMALL:
         output = _write_small(options, capture)

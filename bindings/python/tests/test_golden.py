@@ -84,6 +84,9 @@ class Golden(unittest.TestCase):
             linkcap.golden(other, self.path, link="lo")
         with self.assertRaisesRegex(ValueError, "IFLA_NAM"):
             linkcap.golden(other, self.path, without=["IFLA_NAM"])
+        for name in ("json", "offsets", "keep_going", "onyl"):
+            with self.assertRaisesRegex(TypeError, "golden.. got an unexpected keyword argument '" + name):
+                linkcap.golden(other, self.path, **{name: True})  # type: ignore[arg-type]
         for without in ("IFLA_MTU", b"IFLA_MTU"):
             with self.assertRaisesRegex(TypeError, "a list of names"):
                 linkcap.golden(other, self.path, without=without)  # type: ignore[arg-type]
@@ -197,7 +200,7 @@ class Program(unittest.TestCase):
             (["lines", "--without", "IFLA_STAT", other], b"", 3, b"",
              b"linkcap: no attribute or group is called 'IFLA_STAT'\n"),
             (["messages", other], b"", 0, b"0 48 18\n", b""),
-            (["same", "--ignore-numbers", other, "-"], self.with_other_numbers(), 0, b"same\n", b""),
+            (["same", "--without-numbers", other, "-"], self.with_other_numbers(), 0, b"same\n", b""),
             (["same", other, "-"], self.with_other_numbers(), 1, b"different\n", b""),
             (["quirks"], sample("lo-request.bin")[:17] + b"\1" + sample("lo-request.bin")[18:], 0,
              b"second byte of the header of RTM_GETLINK at 17\n", b""),

@@ -1,5 +1,6 @@
 """Tests of the calls, over the stored vectors and at the edges: `python3 -m unittest` in this folder, or pytest."""
 import array
+import doctest
 import io
 import json
 import mmap
@@ -85,6 +86,13 @@ def norm_line(capture: bytes, limit: int, text: bytes, fault: Optional[linkcap.F
     return f"{text.hex()} {fault.words}"
 
 
+def load_tests(loader: unittest.TestLoader, tests: unittest.TestSuite, pattern: Optional[str]) -> unittest.TestSuite:
+    """The tests, and the examples of docstrings."""
+    for name in ("_calls", "_messages", "_reader", "lines_json"):
+        tests.addTest(doctest.DocTestSuite(f"linkcap.{name}"))
+    return tests
+
+
 class Vectors(unittest.TestCase):
     maxDiff = 200
 
@@ -110,18 +118,18 @@ class Vectors(unittest.TestCase):
                 self.assertEqual({1: "first", 2: "second"}[fault.side or 0], fault.words.split(":")[0])
                 self.assertEqual(fault.words + "\n", line)
 
-    def test_same_ignoring_numbers(self) -> None:
+    def test_same_without_numbers(self) -> None:
         """The result is that of the independent implementation for captures whose numbers are zero."""
         comparisons = 0
         for number, (limit, (first, second)) in enumerate(captures("same")):
             if not is_legal(first, limit) or not is_legal(second, limit):
                 with self.assertRaises(linkcap.Fault):
-                    linkcap.same(first, second, limit, ignore_numbers=True)
+                    linkcap.same(first, second, limit, numbers=False)
                 continue
             # every second case gets other numbers
             renumbered = bytes(byte ^ (number & 1) if at in range(8, 16) else byte for at, byte in enumerate(second))
             expected = means_the_same(clear_numbers(first), clear_numbers(renumbered), limit)
-            self.assertEqual(linkcap.same(first, renumbered, limit, ignore_numbers=True), expected, (limit, first, renumbered))
+            self.assertEqual(linkcap.same(first, renumbered, limit, numbers=False), expected, (limit, first, renumbered))
             comparisons += 1
         self.assertGreater(comparisons, 1000)
 
@@ -237,7 +245,8 @@ class Edges(unittest.TestCase):
 
     def test_limits(self) -> None:
         calls: Tuple[Call, ...] = (
-            linkcap.check, linkcap.measure, linkcap.normalize, linkcap.lines, linkcap.why, linkcap.messages, linkcap.quirks)
+            linkcap.check, linkcap.measure, linkcap.normalize, linkcap.lines, linkcap.why, linkcap.messages, linkcap.quirks,
+            linkcap.attributes)
         for limit in (15, 0, -1, 1 << 32, True):
             for call in calls:
                 with self.assertRaises(ValueError):
@@ -360,20 +369,20 @@ class Edges(unittest.TestCase):
             reader.feed(REFUSED[9:])
         self.assertEqual(str(raised.exception), "refused body at 48" + reason + "80")
 
-    def test_same_ignoring_numbers(self) -> None:
+    def test_same_without_numbers(self) -> None:
         capture = sample("lo-request.bin")
         for at in range(4, 48):
             other = bytearray(capture)
             other[at] ^= 1
             try:
-                is_same = linkcap.same(capture, other, ignore_numbers=True)
+                is_same = linkcap.same(capture, other, numbers=False)
             except linkcap.Fault:
                 continue
             # netlink.h, struct nlmsghdr: the sequence and the port number are the bytes 8 to 16
             self.assertEqual(is_same, 8 <= at < 16 or linkcap.same(capture, other), at)
             self.assertEqual(is_same, linkcap.lines(capture, numbers=False) == linkcap.lines(other, numbers=False))
         with self.assertRaises(linkcap.Fault) as raised:
-            linkcap.same(capture, REFUSED, ignore_numbers=True)
+            linkcap.same(capture, REFUSED, numbers=False)
         self.assertEqual((raised.exception.side, str(raised.exception)[:24]), (2, "second: refused body at 0"[:24]))
         assert raised.exception.why is not None
 
@@ -434,6 +443,14 @@ class Edges(unittest.TestCase):
                 linkcap.lines(capture, **options)  # type: ignore[arg-type]
         with self.assertRaisesRegex(TypeError, "without is a list"):
             linkcap.lines(capture, without="numbers")
+        for call in (linkcap.lines, linkcap.to_json, linkcap.LineReader, linkcap.attributes):
+            with self.assertRaisesRegex(TypeError, "unexpected keyword argument 'onyl'"):
+                call(capture, onyl=["getlink"])  # type: ignore[operator]
+        with self.assertRaisesRegex(TypeError, "unexpected keyword argument 'json'"):
+            linkcap.to_json(capture, json=True)
+        for name in ("numbers", "offsets", "keep_going", "json"):
+            with self.assertRaisesRegex(TypeError, f"unexpected keyword argument '{name}'"):
+                linkcap.attributes(capture, **{name: True})  # type: ignore[arg-type]
         for wrong in ({"link": b"lo"}, {"link": ["lo"]}, {"link": 1.0}, {"link": True}, {"link": object()}, {"only": b"getlink"},
                       {"only": bytearray(b"\x12")}, {"only": ["getlink", b"getlink"]}, {"only": [18.0]}, {"without": b"numbers"},
                       {"without": [b"numbers"]}, {"without": ["numbers", 3]}):
@@ -487,16 +504,18 @@ class Messages(unittest.TestCase):
     def test_headers(self) -> None:
         capture = sample("lo-request.bin")
         # the numbers that samples/lo-request.lines has
-        message = linkcap.Message(0, 48, 18, 0x301, 1526271540, 0)
+        message = linkcap.Message(0, capture, 18, 0x301, 1526271540, 0)
         self.assertEqual(list(linkcap.messages(capture)), [message])
         self.assertEqual(list(linkcap.messages(capture * 3)), [message._replace(offset=offset) for offset in (0, 48, 96)])
-        self.assertEqual(list(linkcap.messages(DONE)), [linkcap.Message(0, 16, 3, 2, 0, 0)])
+        unpadded = bytes.fromhex("11000000140000000200000000000000") + b"a"
+        self.assertEqual([message.bytes for message in linkcap.messages(unpadded + bytes(3) + DONE)], [unpadded, DONE])
+        self.assertEqual(list(linkcap.messages(DONE)), [linkcap.Message(0, DONE, 3, 2, 0, 0)])
 
     def test_parts_are_captures(self) -> None:
         capture = sample("get-veth.bin")
         messages = list(linkcap.messages(capture))
         self.assertGreater(len(messages), 1)
-        texts = [linkcap.normalize(memoryview(capture)[one.offset:one.offset + one.length]) for one in messages]
+        texts = [linkcap.normalize(one.bytes) for one in messages]
         self.assertEqual(b"".join(texts), linkcap.normalize(capture))
 
     def test_only_by_name(self) -> None:

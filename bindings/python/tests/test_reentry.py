@@ -58,9 +58,11 @@ def calls(capture: bytes, other: bytes) -> List[Call]:
         lambda: fault_of(capture + capture[:20]),
         lambda: fault_of(REFUSED + capture),
         lambda: in_pieces(capture),
-        lambda: linkcap.same(capture, other, ignore_numbers=True),
+        lambda: linkcap.same(capture, other, numbers=False),
         lambda: lines_in_pieces(capture),
         lambda: linkcap.quirks(with_quirk(capture)),
+        lambda: next(linkcap.messages(capture)).attributes(),
+        lambda: next(linkcap.attributes(capture)),
     ]
 
 

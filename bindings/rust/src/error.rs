@@ -1,6 +1,6 @@
 //! Faults of captures, and other errors.
 
-use crate::options::Options;
+use crate::options::CallOptions;
 use crate::writing::{why_in, words_of, Piece};
 use crate::{ffi, Refusal};
 use std::{fmt, io};
@@ -32,8 +32,8 @@ pub enum Side {
     Second,
 }
 
-/// A capture's first fault. It is displayed as its words, as `cut frame at 48` or `second: cut frame at 48`, followed by the
-/// reason if a body is refused: `refused body at 48: IFLA_MTU: a payload of 3 bytes at 80`.
+/// A capture's first fault. It is displayed as its words, for example `cut frame at 48` or `second: cut frame at 48`, followed by
+/// the reason if a body is refused: `refused body at 48: IFLA_MTU: a payload of 3 bytes at 80`.
 #[derive(Clone, Debug, PartialEq, Eq)]
 #[non_exhaustive]
 pub struct Fault {
@@ -42,7 +42,7 @@ pub struct Fault {
     pub side: Option<Side>,
     /// The start of the message that has it, in bytes from the capture's start.
     pub offset: u64,
-    /// The output of the call before it: texts, or lines in ASCII.
+    /// The output of the call before it: normal text, or lines in ASCII.
     pub written: Vec<u8>,
     /// The attribute that isn't accepted and the reason, if the kind is [`Kind::Refused`] and there is memory for the words.
     pub why: Option<Refusal>,
@@ -61,13 +61,15 @@ pub enum Error {
     UnknownName(String),
     /// Options have more than 32 types or names.
     TooMany,
+    /// The call doesn't use this option, which is set.
+    UnusedOption(&'static str),
     /// The reader has returned an error before.
     Failed,
 }
 
 impl Error {
     /// Returns the error of a call for a whole capture, which had a fault or no memory.
-    pub(crate) fn from_status(status: u32, fault: &ffi::Finding, capture: &[u8], options: &Options<'_>) -> Error {
+    pub(crate) fn from_status(status: u32, fault: &ffi::Finding, capture: &[u8], options: &CallOptions<'_>) -> Error {
         match status {
             ffi::FAULT => Error::Fault(Fault::found(fault, Piece::whole(capture), options)),
             _ => Error::Memory,
@@ -104,11 +106,11 @@ impl Error {
     /// Returns the attribute that isn't accepted, and why, if the fault is one of the kind [`Kind::Refused`].
     ///
     /// ```
-    /// use linkcap::{check, Error, Kind, DEFAULT_LIMIT};
+    /// use linkcap::{check, Error, Kind};
     ///
     /// // An IFLA_MTU of 3 bytes.
     /// let request = b"\x28\0\0\0\x10\0\0\0\0\0\0\0\0\0\0\0\0\0\0\0\0\0\0\0\0\0\0\0\0\0\0\0\x07\0\x04\0\x01\x02\x03\0";
-    /// let error = check(request, DEFAULT_LIMIT).unwrap_err();
+    /// let error = check(request).unwrap_err();
     /// assert_eq!((error.kind(), error.offset(), error.side()), (Some(Kind::Refused), Some(0), None));
     /// assert_eq!(error.reason().map(|reason| reason.words.as_str()), Some("IFLA_MTU: a payload of 3 bytes at 32"));
     /// assert_eq!(Error::Limit.kind(), None);
@@ -134,7 +136,7 @@ fn decode_kind(number: u32) -> Kind {
 
 impl Fault {
     /// Returns the first fault of a piece, with its reason.
-    pub(crate) fn found(fault: &ffi::Finding, piece: Piece<'_>, options: &Options<'_>) -> Fault {
+    pub(crate) fn found(fault: &ffi::Finding, piece: Piece<'_>, options: &CallOptions<'_>) -> Fault {
         let kind = decode_kind(fault.kind);
         let why = || why_in(options, piece.skip(usize::try_from(fault.offset - piece.offset).ok()?)).ok()?;
         Fault {
@@ -146,7 +148,7 @@ impl Fault {
         }
     }
 
-    /// Returns its words without the reason, as `refused body at 48`.
+    /// Returns its words without the reason, for example `refused body at 48`.
     #[must_use]
     pub fn words(&self) -> String {
         words_of(&ffi::Finding {
@@ -174,6 +176,7 @@ impl fmt::Display for Error {
             Error::Limit => f.pad("limit under 16"),
             Error::UnknownName(name) => f.pad(&format!("no type, attribute or group is called {name:?}")),
             Error::TooMany => f.pad("more than 32 types or names"),
+            Error::UnusedOption(name) => f.pad(&format!("the call doesn't use the option {name:?}")),
             Error::Failed => f.pad("failed before"),
         }
     }
@@ -194,7 +197,7 @@ impl From<Error> for io::Error {
         let kind = match error {
             Error::Fault(_) => io::ErrorKind::InvalidData,
             Error::Memory => io::ErrorKind::OutOfMemory,
-            Error::Limit | Error::UnknownName(_) | Error::TooMany => io::ErrorKind::InvalidInput,
+            Error::Limit | Error::UnknownName(_) | Error::TooMany | Error::UnusedOption(_) => io::ErrorKind::InvalidInput,
             Error::Failed => io::ErrorKind::Other,
         };
         io::Error::new(kind, error)

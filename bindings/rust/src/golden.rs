@@ -1,7 +1,8 @@
 //! Golden files of lines, for tests.
 
 use crate::diff::unified_diff;
-use crate::{format, lines_with, LineOptions, DEFAULT_LIMIT};
+use crate::writing::{into_string, write_all};
+use crate::{format, Options};
 use std::path::Path;
 use std::{env, fs, io};
 
@@ -16,34 +17,8 @@ const VARIES: &str = "# leaves out what varies:";
 /// What heads call the probes of iproute2, which aren't looked for here.
 const PROBES: &str = "probes";
 
-/// What [`golden_with`] compares: by default all lines, but without sequence and port numbers.
-///
-/// ```
-/// let options = linkcap::GoldenOptions { only: "newlink", without: "IFLA_ADDRESS", ..linkcap::GoldenOptions::default() };
-/// assert!(!options.numbers);
-/// ```
-#[derive(Clone, Copy, Debug, PartialEq, Eq)]
-pub struct GoldenOptions<'a> {
-    /// Compare sequence and port numbers, which change from run to run, too.
-    pub numbers: bool,
-    /// Compare only messages of these types, as [`LineOptions::only`] names them; all if it is empty.
-    pub only: &'a str,
-    /// Compare only messages about this link, by name, alternative name or index; about any if it is empty.
-    pub link: &'a str,
-    /// Leave out attributes, as [`LineOptions::without`] does. The file's head names them.
-    pub without: &'a str,
-    /// The greatest length in bytes that a message, read or written, may have.
-    pub limit: u32,
-}
-
-impl Default for GoldenOptions<'_> {
-    fn default() -> Self {
-        GoldenOptions { numbers: false, only: "", link: "", without: "", limit: DEFAULT_LIMIT }
-    }
-}
-
-/// Compares a capture's lines with those of a file, without sequence and port numbers. If the environment variable
-/// `LINKCAP_UPDATE` is set, and neither empty nor `0`, it writes the file instead, and its folder. `cargo test` runs tests in the
+/// Compares a capture's lines with those of a file, without sequence numbers and netlink port IDs. If the environment
+/// variable `LINKCAP_UPDATE` is set, and neither empty nor `0`, it writes the file instead, and its folder. `cargo test` runs tests in the
 /// folder of their package, so a path from there will do.
 ///
 /// The file is the one that Python's `golden`, Go's `linkcaptest` and `linkgold` have. Its first line has the format version; it
@@ -62,27 +37,29 @@ impl Default for GoldenOptions<'_> {
 /// ```
 #[track_caller]
 pub fn golden(capture: impl AsRef<[u8]>, path: impl AsRef<Path>) {
-    golden_with(capture, path, GoldenOptions::default());
+    Options::new().golden(capture, path);
 }
 
-/// Compares the lines that options select with those of a file, as [`golden`] does.
-///
-/// # Panics
-///
-/// As [`golden`], and for options that aren't valid.
-///
-/// ```no_run
-/// use linkcap::{golden_with, GoldenOptions};
-///
-/// let request = b"\x28\0\0\0\x12\0\x01\0\x01\0\0\0\0\0\0\0\0\0\0\0\0\0\0\0\0\0\0\0\0\0\0\0\x07\0\x03\0lo\0\0";
-/// let options = GoldenOptions { numbers: true, ..GoldenOptions::default() };
-/// golden_with(request, "tests/golden/lo_with_numbers.lines", options);
-/// ```
-#[track_caller]
-pub fn golden_with(capture: impl AsRef<[u8]>, path: impl AsRef<Path>, options: GoldenOptions<'_>) {
-    let call = if is_updating() { update } else { compare };
-    if let Err(message) = call(capture.as_ref(), path.as_ref(), options) {
-        panic!("linkcap: {message}");
+impl Options<'_> {
+    /// Does what [`golden`](crate::golden()) does with the lines that these options select. A file that is written names what
+    /// [`without`](Options::without) leaves out. [`numbers(true)`](Options::numbers) compares sequence numbers and netlink
+    /// port IDs too.
+    ///
+    /// # Panics
+    ///
+    /// As [`golden`](crate::golden()), for options that aren't valid, and for [`offsets`](Options::offsets),
+    /// [`keep_going`](Options::keep_going) and [`json`](Options::json), which it doesn't use.
+    ///
+    /// ```no_run
+    /// let request = b"\x28\0\0\0\x12\0\x01\0\x01\0\0\0\0\0\0\0\0\0\0\0\0\0\0\0\0\0\0\0\0\0\0\0\x07\0\x03\0lo\0\0";
+    /// linkcap::Options::new().only("getlink").without("IFLA_EXT_MASK").golden(request, "tests/golden/lo.lines");
+    /// ```
+    #[track_caller]
+    pub fn golden(self, capture: impl AsRef<[u8]>, path: impl AsRef<Path>) {
+        let call = if is_updating() { update } else { compare };
+        if let Err(message) = call(capture.as_ref(), path.as_ref(), self.without_numbers_by_default()) {
+            panic!("linkcap: {message}");
+        }
     }
 }
 
@@ -90,20 +67,19 @@ fn is_updating() -> bool {
     env::var_os(UPDATE).map_or(false, |value| !value.is_empty() && value != "0")
 }
 
-/// Returns the lines that options select, without further attributes; or the words of an error.
-fn select_lines(capture: &[u8], options: GoldenOptions<'_>, without: &str) -> Result<String, String> {
-    let GoldenOptions { numbers, only, link, .. } = options;
-    let lines = LineOptions { without_numbers: !numbers, only, link, without, ..LineOptions::default() };
-    let text = lines_with(capture, options.limit, lines).map_err(|error| error.to_string())?;
+/// Returns the lines that options select; or the words of an error.
+fn select_lines(capture: &[u8], options: Options<'_>) -> Result<String, String> {
+    let options = options.for_lines(&["only", "link", "without", "numbers"]);
+    let text = options.and_then(|options| write_all(&options, capture)).map_err(|error| error.to_string())?;
     if text.is_empty() {
         return Err("the capture is empty, or has no message that is selected".to_string());
     }
-    Ok(text)
+    Ok(into_string(text))
 }
 
 /// Writes a golden file, and its folder.
-fn update(capture: &[u8], path: &Path, options: GoldenOptions<'_>) -> Result<(), String> {
-    let lines = select_lines(capture, options, options.without)?;
+fn update(capture: &[u8], path: &Path, options: Options<'_>) -> Result<(), String> {
+    let lines = select_lines(capture, options)?;
     let mut text = format!("{FIRST_LINE}, format {}\n", format());
     if !options.without.is_empty() {
         text += &format!("{LEFT_OUT} {}\n", split_names(options.without).collect::<Vec<_>>().join(", "));
@@ -117,8 +93,8 @@ fn update(capture: &[u8], path: &Path, options: GoldenOptions<'_>) -> Result<(),
 }
 
 /// Compares the lines of a capture with those of a golden file. Returns as an Err what is wrong.
-fn compare(capture: &[u8], path: &Path, options: GoldenOptions<'_>) -> Result<(), String> {
-    let mut lines = select_lines(capture, options, options.without)?;
+fn compare(capture: &[u8], path: &Path, options: Options<'_>) -> Result<(), String> {
+    let mut lines = select_lines(capture, options)?;
     let name = path.display().to_string();
     let bytes = fs::read(path).map_err(|error| match error.kind() {
         io::ErrorKind::NotFound => format!("no golden file {name}: write it with {UPDATE}=1"),
@@ -132,7 +108,7 @@ fn compare(capture: &[u8], path: &Path, options: GoldenOptions<'_>) -> Result<()
     if !file.without.is_empty() {
         let mut without = file.without.clone();
         without.extend(split_names(options.without).filter(|name| !file.without.contains(name)));
-        lines = select_lines(capture, options, &without.join(",")).map_err(|words| format!("{name}: {words}"))?;
+        lines = select_lines(capture, options.without(&without.join(","))).map_err(|words| format!("{name}: {words}"))?;
     }
     if file.lines == lines {
         Ok(())

@@ -1,8 +1,8 @@
 //! The messages of a capture.
 
-use crate::options::Options;
+use crate::options::CallOptions;
 use crate::writing::to_length;
-use crate::{ffi, Error};
+use crate::{ffi, Error, Options};
 
 /// A legal message of a capture, and its header.
 #[derive(Clone, Copy, Debug, PartialEq, Eq)]
@@ -12,10 +12,11 @@ pub struct Message<'a> {
     pub offset: usize,
     /// The message without its padding, which is a capture, too.
     pub bytes: &'a [u8],
-    /// As 16 for `RTM_NEWLINK`.
+    /// For example 16 for `RTM_NEWLINK`.
     pub message_type: u16,
     pub flags: u16,
     pub sequence_number: u32,
+    /// The netlink port ID.
     pub port_number: u32,
 }
 
@@ -23,31 +24,38 @@ pub struct Message<'a> {
 #[derive(Clone, Debug)]
 pub struct Messages<'a> {
     capture: &'a [u8],
-    options: Options<'static>,
+    options: CallOptions<'static>,
     /// The start of the next message; the capture's length after the last one and after a fault.
     offset: usize,
 }
 
-/// Returns the messages of a capture, which are read one after the other. It allocates nothing.
-///
-/// # Errors
-///
-/// [`Error::Limit`]. Each item is an `Ok` with a message, or an `Err` with the capture's first fault, which is the last item.
+/// Returns the messages of a capture, which are read one after the other. Each item is an `Ok` with a message, or an `Err` with
+/// the capture's first fault, which is the last item. It allocates nothing.
 ///
 /// ```
-/// use linkcap::{messages, DEFAULT_LIMIT};
-///
 /// let capture = b"\x11\0\0\0\x14\0\0\0\x02\0\0\0\0\0\0\0a\0\0\0\x10\0\0\0\x01\0\0\0\x01\0\0\0\0\0\0\0";
 /// let mut found = Vec::new();
-/// for message in messages(capture, DEFAULT_LIMIT)? {
+/// for message in linkcap::messages(capture) {
 ///     let message = message?;
 ///     found.push((message.offset, message.bytes.len(), message.message_type));
 /// }
 /// assert_eq!(found, [(0, 17, 20), (20, 16, 1)]);
 /// # Ok::<(), linkcap::Error>(())
 /// ```
-pub fn messages(capture: &[u8], limit: u32) -> Result<Messages<'_>, Error> {
-    Ok(Messages { capture, options: Options::new(limit)?, offset: 0 })
+#[must_use]
+pub fn messages(capture: &[u8]) -> Messages<'_> {
+    Messages::new(capture, CallOptions::default())
+}
+
+impl Options<'_> {
+    /// Does what [`messages`](crate::messages()) does, with the limit.
+    ///
+    /// # Errors
+    ///
+    /// [`Error::Limit`] and [`Error::UnusedOption`].
+    pub fn messages(self, capture: &[u8]) -> Result<Messages<'_>, Error> {
+        Ok(Messages::new(capture, self.for_call(&[])?.into_owned()))
+    }
 }
 
 /// Returns the number in two bytes of a header, little-endian.
@@ -61,6 +69,15 @@ fn read_u32(header: &[u8], at: usize) -> u32 {
 }
 
 impl<'a> Messages<'a> {
+    pub(crate) fn new(capture: &'a [u8], options: CallOptions<'static>) -> Messages<'a> {
+        Messages { capture, options, offset: 0 }
+    }
+
+    /// Ends them: there is no next message.
+    pub(crate) fn end(&mut self) {
+        self.offset = self.capture.len();
+    }
+
     /// Reads the next message; `None` if there is none.
     fn read(&mut self) -> Result<Option<Message<'a>>, Error> {
         let (mut found, mut fault) = (ffi::Message::default(), ffi::Finding::default());
@@ -90,7 +107,7 @@ impl<'a> Iterator for Messages<'a> {
     fn next(&mut self) -> Option<Result<Message<'a>, Error>> {
         let item = self.read().transpose();
         if matches!(item, Some(Err(_))) {
-            self.offset = self.capture.len();
+            self.end();
         }
         item
     }

@@ -1,11 +1,11 @@
 //! A reader of normal text.
 
-use crate::{Error, Reader};
+use crate::{Error, Options, Reader};
 use std::io::{self, Read};
 
 const PIECE: usize = 1 << 16;
 
-/// Reads a capture from another reader, and returns its normal text. After the text before a fault each read returns an
+/// Reads a capture from another reader, and returns its normal text. After the normal text before a fault each read returns an
 /// [`io::Error`] of the kind `InvalidData`, whose `get_ref` is an [`Error`]. An error of the other reader is passed on, and
 /// the next read continues after it.
 ///
@@ -15,7 +15,7 @@ const PIECE: usize = 1 << 16;
 /// // The body of an NLMSG_NOOP means nothing.
 /// let noop = b"\x14\0\0\0\x01\0\0\0\x01\0\0\0\0\0\0\0\xaa\xbb\xcc\xdd";
 /// let mut text = Vec::new();
-/// linkcap::NormalReader::new(&noop[..], linkcap::DEFAULT_LIMIT)?.read_to_end(&mut text)?;
+/// linkcap::NormalReader::new(&noop[..], linkcap::Options::new())?.read_to_end(&mut text)?;
 /// assert_eq!(text, b"\x10\0\0\0\x01\0\0\0\x01\0\0\0\0\0\0\0");
 /// # Ok::<(), Box<dyn std::error::Error>>(())
 /// ```
@@ -32,14 +32,13 @@ pub struct NormalReader<R> {
 }
 
 impl<R: Read> NormalReader<R> {
-    /// Returns a reader of the normal text of the capture that `source` yields. `limit` is the greatest length in bytes that a
-    /// message may have.
+    /// Returns a reader of the normal text of the capture that `source` yields. It uses the limit.
     ///
     /// # Errors
     ///
-    /// [`Error::Limit`].
-    pub fn new(source: R, limit: u32) -> Result<NormalReader<R>, Error> {
-        let reader = Some(Reader::new(limit)?);
+    /// [`Error::Limit`] and [`Error::UnusedOption`].
+    pub fn new(source: R, options: Options<'_>) -> Result<NormalReader<R>, Error> {
+        let reader = Some(Reader::new(options)?);
         Ok(NormalReader { source, reader, outcome: Ok(()), piece: vec![0; PIECE], texts: Vec::new(), position: 0 })
     }
 

@@ -1,8 +1,8 @@
 //! Encodings that some kernels treat differently from their normal texts.
 
-use crate::options::Options;
+use crate::options::CallOptions;
 use crate::writing::{to_length, words_of};
-use crate::{ffi, Error};
+use crate::{ffi, Error, Options};
 use std::fmt;
 
 /// The rows of linkcap's `docs/kernels.md`, numbered as in linkcap.h.
@@ -35,8 +35,8 @@ pub enum QuirkKind {
     ShortMap,
 }
 
-/// An encoding that some kernels treat differently from its normal text. It is displayed as its words and its offset, as
-/// `flag with a payload at 76`.
+/// An encoding that some kernels treat differently from its normal text. It is displayed as its words and its offset, for
+/// example `flag with a payload at 76`.
 #[derive(Clone, Copy, Debug, PartialEq, Eq, Hash)]
 #[non_exhaustive]
 pub struct Quirk {
@@ -74,20 +74,34 @@ impl fmt::Display for Quirk {
 ///
 /// # Errors
 ///
-/// [`Error::Fault`] with the capture's first fault; [`Error::Limit`], or [`Error::Memory`].
+/// [`Error::Fault`] with the capture's first fault, or [`Error::Memory`].
 ///
 /// ```
-/// use linkcap::{quirks, QuirkKind, DEFAULT_LIMIT};
+/// use linkcap::{quirks, QuirkKind};
 ///
 /// // An RTM_GETLINK whose header of a link has 1 in its second byte.
 /// let request = b"\x20\0\0\0\x12\0\x01\0\x01\0\0\0\0\0\0\0\0\x01\0\0\0\0\0\0\0\0\0\0\0\0\0\0";
-/// let found = quirks(request, DEFAULT_LIMIT)?;
+/// let found = quirks(request)?;
 /// assert_eq!((found[0].kind, found[0].offset), (QuirkKind::HeaderByte, 17));
 /// assert_eq!(found[0].to_string(), "second byte of the header of RTM_GETLINK at 17");
 /// # Ok::<(), linkcap::Error>(())
 /// ```
-pub fn quirks(capture: &[u8], limit: u32) -> Result<Vec<Quirk>, Error> {
-    let options = Options::new(limit)?;
+pub fn quirks(capture: &[u8]) -> Result<Vec<Quirk>, Error> {
+    Options::new().quirks(capture)
+}
+
+impl Options<'_> {
+    /// Does what [`quirks`](crate::quirks()) does, with the limit.
+    ///
+    /// # Errors
+    ///
+    /// Those of [`quirks`](crate::quirks()), [`Error::Limit`] and [`Error::UnusedOption`].
+    pub fn quirks(self, capture: &[u8]) -> Result<Vec<Quirk>, Error> {
+        find_quirks(&self.for_call(&[])?, capture)
+    }
+}
+
+fn find_quirks(options: &CallOptions<'_>, capture: &[u8]) -> Result<Vec<Quirk>, Error> {
     let mut array: Vec<ffi::Finding> = Vec::new();
     let mut required = 16;
     loop {
@@ -102,7 +116,7 @@ pub fn quirks(capture: &[u8], limit: u32) -> Result<Vec<Quirk>, Error> {
                 return Ok(array.iter().take(to_length(number)?).map(quirk).collect());
             }
             ffi::NO_ROOM => required = to_length(number)?,
-            status => return Err(Error::from_status(status, &fault, capture, &options)),
+            status => return Err(Error::from_status(status, &fault, capture, options)),
         }
     }
 }

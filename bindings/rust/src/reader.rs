@@ -1,13 +1,13 @@
 //! Captures in pieces.
 
-use crate::options::Options;
+use crate::options::CallOptions;
 use crate::writing::{reserve, write, Piece};
-use crate::{Error, LineOptions};
+use crate::{Error, Options};
 
 /// Between pieces, the bytes of the message that is cut.
 #[derive(Debug)]
 struct Pieces {
-    options: Options<'static>,
+    options: CallOptions<'static>,
     rest: Vec<u8>,
     start: u64,
     has_failed: bool,
@@ -16,7 +16,7 @@ struct Pieces {
 }
 
 impl Pieces {
-    fn new(options: Options<'_>) -> Pieces {
+    fn new(options: CallOptions<'_>) -> Pieces {
         Pieces { options: options.into_owned(), rest: Vec::new(), start: 0, has_failed: false, kept: None }
     }
 
@@ -66,11 +66,11 @@ impl Pieces {
 /// Normalises a capture that comes in pieces of any sizes. Between pieces it keeps the bytes of the message that is cut.
 ///
 /// ```
-/// use linkcap::{Reader, DEFAULT_LIMIT};
+/// use linkcap::{Options, Reader};
 ///
 /// let noop = b"\x14\0\0\0\x01\0\0\0\x01\0\0\0\0\0\0\0\xaa\xbb\xcc\xdd";
 /// let mut text = Vec::new();
-/// let mut reader = Reader::new(DEFAULT_LIMIT)?;
+/// let mut reader = Reader::new(Options::new())?;
 /// reader.feed(&noop[..7], &mut text)?;
 /// assert!(text.is_empty());
 /// reader.feed(&noop[7..], &mut text)?;
@@ -84,27 +84,26 @@ pub struct Reader {
 }
 
 impl Reader {
-    /// Returns a reader at the start of a capture. `limit` is the greatest length in bytes that a message, read or written,
-    /// may have.
+    /// Returns a reader at the start of a capture. It uses the limit.
     ///
     /// # Errors
     ///
-    /// [`Error::Limit`].
-    pub fn new(limit: u32) -> Result<Reader, Error> {
-        Ok(Reader { pieces: Pieces::new(Options::new(limit)?) })
+    /// [`Error::Limit`] and [`Error::UnusedOption`].
+    pub fn new(options: Options<'_>) -> Result<Reader, Error> {
+        Ok(Reader { pieces: Pieces::new(options.for_call(&[])?) })
     }
 
-    /// Takes the next piece. The texts of the messages that are whole now, with their padding, are appended to `out`.
+    /// Takes the next piece. The normal text of the messages that are whole now, with their padding, is appended to `out`.
     ///
     /// # Errors
     ///
-    /// [`Error::Fault`] with the capture's first fault, whose `written` is empty: the texts before it are in `out`; or
+    /// [`Error::Fault`] with the capture's first fault, whose `written` is empty: the normal text before it is in `out`; or
     /// [`Error::Memory`]. After an error each later call returns [`Error::Failed`].
     pub fn feed(&mut self, piece: &[u8], out: &mut Vec<u8>) -> Result<(), Error> {
         self.pieces.feed(piece, out)
     }
 
-    /// The capture ends here: the text of a last message that lacks padding is appended to `out`.
+    /// The capture ends here: the normal text of a last message that lacks padding is appended to `out`.
     ///
     /// # Errors
     ///
@@ -114,17 +113,15 @@ impl Reader {
     }
 }
 
-/// Shows a capture that comes in pieces, as [`Reader`] normalises one: the lines that options select, as
-/// [`lines_with`](crate::lines_with) does, are appended in ASCII. It allocates memory for a piece, its lines and the message that
-/// is cut.
+/// Shows a capture that comes in pieces, as [`Reader`] normalises one: what [`Options::lines`] returns is appended, in ASCII. It
+/// allocates memory for a piece, its lines and the message that is cut.
 ///
 /// ```
-/// use linkcap::{LineOptions, LineReader, DEFAULT_LIMIT};
+/// use linkcap::{LineReader, Options};
 ///
 /// let noop = b"\x10\0\0\0\x01\0\0\0\x01\0\0\0\0\0\0\0";
 /// let mut lines = Vec::new();
-/// let options = LineOptions { without: "numbers", offsets: true, ..LineOptions::default() };
-/// let mut reader = LineReader::new(DEFAULT_LIMIT, options)?;
+/// let mut reader = LineReader::new(Options::new().numbers(false).offsets(true))?;
 /// reader.feed(&noop[..7], &mut lines)?;
 /// reader.feed(&noop[7..], &mut lines)?;
 /// reader.feed(noop, &mut lines)?;
@@ -142,16 +139,16 @@ impl LineReader {
     ///
     /// # Errors
     ///
-    /// [`Error::UnknownName`] or [`Error::TooMany`] for options that aren't valid; [`Error::Limit`].
-    pub fn new(limit: u32, options: LineOptions<'_>) -> Result<LineReader, Error> {
-        Ok(LineReader { pieces: Pieces::new(Options::of_lines(limit, options)?) })
+    /// Those of options that aren't valid: [`Error::Limit`], [`Error::UnknownName`] and [`Error::TooMany`].
+    pub fn new(options: Options<'_>) -> Result<LineReader, Error> {
+        Ok(LineReader { pieces: Pieces::new(options.for_lines(Options::OF_LINES)?) })
     }
 
     /// Takes the next piece. The lines of the messages that are whole now, with their padding, are appended to `out`.
     ///
     /// # Errors
     ///
-    /// Those of [`Reader::feed`]; but with [`LineOptions::keep_going`] a fault of a message's body is kept, and the first one
+    /// Those of [`Reader::feed`]; but with [`Options::keep_going`] a fault of a message's body is kept, and the first one
     /// is returned at a fault of another kind, or by [`LineReader::finish`].
     pub fn feed(&mut self, piece: &[u8], out: &mut Vec<u8>) -> Result<(), Error> {
         self.pieces.feed(piece, out)

@@ -1,8 +1,8 @@
 //! Calls that write normal text, lines and words.
 
 use crate::error::Fault;
-use crate::options::Options;
-use crate::{ffi, Error, LineOptions};
+use crate::options::CallOptions;
+use crate::{ffi, Error, Options};
 
 /// Reserves capacity for `additional` bytes after those of a vector.
 pub(crate) fn reserve(out: &mut Vec<u8>, additional: usize) -> Result<(), Error> {
@@ -64,7 +64,7 @@ impl<'a> Piece<'a> {
 
 /// Appends the output for the whole messages of a piece, and returns the number of its bytes that were used. `kept` gets the
 /// first fault, if messages after it are written too.
-pub(crate) fn write(options: &Options<'_>, piece: Piece<'_>, out: &mut Vec<u8>, kept: &mut Option<Error>) -> Result<usize, Error> {
+pub(crate) fn write(options: &CallOptions<'_>, piece: Piece<'_>, out: &mut Vec<u8>, kept: &mut Option<Error>) -> Result<usize, Error> {
     let mut used = 0;
     let mut wanted = 0;
     loop {
@@ -95,7 +95,7 @@ pub(crate) fn write(options: &Options<'_>, piece: Piece<'_>, out: &mut Vec<u8>, 
 }
 
 /// Returns the output for a whole capture.
-fn write_all(options: &Options<'_>, capture: &[u8]) -> Result<Vec<u8>, Error> {
+pub(crate) fn write_all(options: &CallOptions<'_>, capture: &[u8]) -> Result<Vec<u8>, Error> {
     let (mut out, mut kept) = (Vec::new(), None);
     let outcome = write(options, Piece::whole(capture), &mut out, &mut kept);
     match kept.map_or(outcome.map(|_| ()), Err) {
@@ -109,59 +109,72 @@ fn write_all(options: &Options<'_>, capture: &[u8]) -> Result<Vec<u8>, Error> {
 ///
 /// # Errors
 ///
-/// [`Error::Fault`] with the capture's first fault, whose `written` are the texts before it; [`Error::Limit`], or
-/// [`Error::Memory`].
+/// [`Error::Fault`] with the capture's first fault, whose `written` is the normal text before it; or [`Error::Memory`].
 ///
 /// ```
-/// use linkcap::{normalize, DEFAULT_LIMIT};
-///
 /// // The body of an NLMSG_NOOP means nothing.
 /// let noop = b"\x14\0\0\0\x01\0\0\0\x01\0\0\0\0\0\0\0\xaa\xbb\xcc\xdd";
-/// assert_eq!(normalize(noop, DEFAULT_LIMIT)?, b"\x10\0\0\0\x01\0\0\0\x01\0\0\0\0\0\0\0");
+/// assert_eq!(linkcap::normalize(noop)?, b"\x10\0\0\0\x01\0\0\0\x01\0\0\0\0\0\0\0");
 /// # Ok::<(), linkcap::Error>(())
 /// ```
-pub fn normalize(capture: &[u8], limit: u32) -> Result<Vec<u8>, Error> {
-    write_all(&Options::new(limit)?, capture)
+pub fn normalize(capture: &[u8]) -> Result<Vec<u8>, Error> {
+    Options::new().normalize(capture)
 }
 
 /// Returns the lines of a legal capture, as `linkshow` writes them.
 ///
 /// # Errors
 ///
-/// [`Error::Fault`] with the capture's first fault, whose `written` are the lines before it; [`Error::Limit`], or
-/// [`Error::Memory`].
+/// [`Error::Fault`] with the capture's first fault, whose `written` are the lines before it; or [`Error::Memory`].
 ///
 /// ```
 /// let noop = b"\x10\0\0\0\x01\0\0\0\x01\0\0\0\0\0\0\0";
-/// assert_eq!(linkcap::lines(noop, linkcap::DEFAULT_LIMIT)?, "NLMSG_NOOP flags 0x0 seq 1 port 0\n");
+/// assert_eq!(linkcap::lines(noop)?, "NLMSG_NOOP flags 0x0 seq 1 port 0\n");
 /// # Ok::<(), linkcap::Error>(())
 /// ```
-pub fn lines(capture: &[u8], limit: u32) -> Result<String, Error> {
-    lines_with(capture, limit, LineOptions::default())
+pub fn lines(capture: &[u8]) -> Result<String, Error> {
+    Options::new().lines(capture)
 }
 
-/// Returns the lines of a legal capture that options select.
-///
-/// # Errors
-///
-/// [`Error::Fault`] with the capture's first fault, whose `written` are the lines before it, or with `keep_going` all lines
-/// up to a fault of a header; [`Error::UnknownName`] or [`Error::TooMany`] for options that aren't valid; [`Error::Limit`],
-/// or [`Error::Memory`].
-///
-/// ```
-/// use linkcap::{lines_with, LineOptions, DEFAULT_LIMIT};
-///
-/// let noop = b"\x10\0\0\0\x01\0\0\0\x01\0\0\0\0\0\0\0";
-/// let options = LineOptions { without: "numbers", offsets: true, ..LineOptions::default() };
-/// assert_eq!(lines_with(noop, DEFAULT_LIMIT, options)?, "NLMSG_NOOP flags 0x0 offset 0\n");
-///
-/// let options = LineOptions { without: "numbers", json: true, ..LineOptions::default() };
-/// let object = r#"{"type": "NLMSG_NOOP", "flags": {"value": 0, "flags": []}, "attributes": []}"#;
-/// assert_eq!(lines_with(noop, DEFAULT_LIMIT, options)?.trim_end(), object);
-/// # Ok::<(), linkcap::Error>(())
-/// ```
-pub fn lines_with(capture: &[u8], limit: u32, options: LineOptions<'_>) -> Result<String, Error> {
-    write_all(&Options::of_lines(limit, options)?, capture).map(into_string)
+impl Options<'_> {
+    /// Does what [`normalize`](crate::normalize()) does, with the limit.
+    ///
+    /// # Errors
+    ///
+    /// Those of [`normalize`](crate::normalize()), [`Error::Limit`] and [`Error::UnusedOption`].
+    pub fn normalize(self, capture: &[u8]) -> Result<Vec<u8>, Error> {
+        write_all(&self.for_call(&[])?, capture)
+    }
+
+    /// Returns the lines of a legal capture that these options select, or the lines of JSON.
+    ///
+    /// # Errors
+    ///
+    /// Those of [`lines`](crate::lines()), and of options that aren't valid: [`Error::Limit`], [`Error::UnknownName`] and
+    /// [`Error::TooMany`]. With [`keep_going`](Options::keep_going) the `written` of a fault are all lines up to a fault of a
+    /// header.
+    ///
+    /// ```
+    /// use linkcap::Options;
+    ///
+    /// let noop = b"\x10\0\0\0\x01\0\0\0\x01\0\0\0\0\0\0\0";
+    /// let json = r#"{"type": "NLMSG_NOOP", "flags": {"value": 0, "flags": []}, "attributes": []}"#;
+    /// assert_eq!(Options::new().numbers(false).json(true).lines(noop)?.trim_end(), json);
+    /// assert_eq!(Options::new().only("newlink,dellink").lines(noop)?, "");
+    /// # Ok::<(), linkcap::Error>(())
+    /// ```
+    pub fn lines(self, capture: &[u8]) -> Result<String, Error> {
+        write_all(&self.for_lines(Self::OF_LINES)?, capture).map(into_string)
+    }
+
+    /// Does what [`why`](crate::why()) does, with the limit.
+    ///
+    /// # Errors
+    ///
+    /// [`Error::Memory`], [`Error::Limit`] and [`Error::UnusedOption`].
+    pub fn why(self, capture: &[u8]) -> Result<Option<Refusal>, Error> {
+        why_in(&self.for_call(&[])?, Piece::whole(capture))
+    }
 }
 
 /// Why a body is refused. It is displayed as its words.
@@ -181,7 +194,7 @@ impl std::fmt::Display for Refusal {
 }
 
 /// Returns why a body is refused, if that is the first fault of a piece; else `None`.
-pub(crate) fn why_in(options: &Options<'_>, piece: Piece<'_>) -> Result<Option<Refusal>, Error> {
+pub(crate) fn why_in(options: &CallOptions<'_>, piece: Piece<'_>) -> Result<Option<Refusal>, Error> {
     let mut words = Vec::new();
     let mut capacity = 256;
     loop {
@@ -207,16 +220,16 @@ pub(crate) fn why_in(options: &Options<'_>, piece: Piece<'_>) -> Result<Option<R
 ///
 /// # Errors
 ///
-/// [`Error::Limit`], or [`Error::Memory`].
+/// [`Error::Memory`].
 ///
 /// ```
 /// // An IFLA_MTU of 3 bytes.
 /// let request = b"\x28\0\0\0\x10\0\0\0\0\0\0\0\0\0\0\0\0\0\0\0\0\0\0\0\0\0\0\0\0\0\0\0\x07\0\x04\0\x01\x02\x03\0";
-/// let refusal = linkcap::why(request, linkcap::DEFAULT_LIMIT)?.expect("a refused body");
+/// let refusal = linkcap::why(request)?.expect("a refused body");
 /// assert_eq!(refusal.to_string(), "IFLA_MTU: a payload of 3 bytes at 32");
 /// assert_eq!(refusal.offset, Some(32));
 /// # Ok::<(), linkcap::Error>(())
 /// ```
-pub fn why(capture: &[u8], limit: u32) -> Result<Option<Refusal>, Error> {
-    why_in(&Options::new(limit)?, Piece::whole(capture))
+pub fn why(capture: &[u8]) -> Result<Option<Refusal>, Error> {
+    Options::new().why(capture)
 }

@@ -1,6 +1,6 @@
 //! Tests golden files.
 
-use linkcap::{golden, golden_with, GoldenOptions};
+use linkcap::{golden, Options};
 use std::panic::{self, AssertUnwindSafe};
 use std::path::{Path, PathBuf};
 use std::process::{Command, Output};
@@ -52,8 +52,8 @@ impl Drop for Folder {
 }
 
 /// Returns the message of a comparison that fails, or nothing.
-fn failure(capture: &[u8], path: &Path, options: GoldenOptions<'_>) -> String {
-    let payload = match panic::catch_unwind(AssertUnwindSafe(|| golden_with(capture, path, options))) {
+fn failure(capture: &[u8], path: &Path, options: Options<'_>) -> String {
+    let payload = match panic::catch_unwind(AssertUnwindSafe(|| options.golden(capture, path))) {
         Ok(()) => return String::new(),
         Err(payload) => payload,
     };
@@ -61,7 +61,7 @@ fn failure(capture: &[u8], path: &Path, options: GoldenOptions<'_>) -> String {
 }
 
 fn default_failure(capture: &[u8], path: &Path) -> String {
-    failure(capture, path, GoldenOptions::default())
+    failure(capture, path, Options::new())
 }
 
 #[test]
@@ -88,7 +88,7 @@ fn lines_of_linkshow() {
         let samples = Path::new(env!("CARGO_MANIFEST_DIR")).join("../../samples");
         let capture = fs::read(samples.join(format!("{name}.bin"))).expect(name);
         let path = samples.join(format!("{name}.lines"));
-        golden_with(&capture, &path, GoldenOptions { numbers: true, ..GoldenOptions::default() });
+        Options::new().numbers(true).golden(&capture, &path);
         assert!(default_failure(&capture, &path).contains("\n-RTM_"), "{name}");
     }
 }
@@ -134,16 +134,22 @@ fn options() {
     let folder = Folder::new("options");
     let both = [new_link(1), b"\x10\0\0\0\x01\0\0\0\x02\0\0\0\x03\0\0\0".to_vec()].concat();
     let path = folder.file(&lines_of(1));
-    golden_with(&both, &path, GoldenOptions { only: "newlink", ..GoldenOptions::default() });
+    Options::new().only("newlink").golden(&both, &path);
     assert!(default_failure(&both, &path).ends_with("\n+NLMSG_NOOP flags 0x0\n"));
-    let numbers = GoldenOptions { numbers: true, only: "1", ..GoldenOptions::default() };
-    golden_with(&both, folder.file("NLMSG_NOOP flags 0x0 seq 2 port 3\n"), numbers);
+    Options::new().numbers(true).only("1").golden(&both, folder.file("NLMSG_NOOP flags 0x0 seq 2 port 3\n"));
     let path = folder.file(&(HEAD.to_string() + "# leaves out: IFLA_MTU\n" + &lines_of(1).replace("  IFLA_MTU 1281\n", "")));
-    golden_with(new_link(7), &path, GoldenOptions { without: "IFLA_MTU", ..GoldenOptions::default() });
-    let unknown = failure(&both, &path, GoldenOptions { without: "IFLA_NAM", ..GoldenOptions::default() });
+    Options::new().without("IFLA_MTU").golden(new_link(7), &path);
+    let unknown = failure(&both, &path, Options::new().without("IFLA_NAM"));
     assert_eq!(unknown, "linkcap: no type, attribute or group is called \"IFLA_NAM\"");
-    let limited = failure(&both, &path, GoldenOptions { limit: 20, ..GoldenOptions::default() });
+    let limited = failure(&both, &path, Options::new().limit(20));
     assert_eq!(limited, "linkcap: frame over the limit at 0");
+    for (unused, name) in [
+        (Options::new().offsets(true), "offsets"),
+        (Options::new().keep_going(true), "keep_going"),
+        (Options::new().json(true), "json"),
+    ] {
+        assert_eq!(failure(&both, &path, unused), format!("linkcap: the call doesn't use the option {name:?}"));
+    }
 }
 
 #[test]
@@ -155,8 +161,8 @@ fn faults_and_captures_without_lines() {
     assert_eq!(default_failure(&short, &path), "linkcap: refused body at 0: IFLA_MTU: a payload of 3 bytes at 32");
     let nothing = "linkcap: the capture is empty, or has no message that is selected";
     assert_eq!(default_failure(&[], &path), nothing);
-    assert_eq!(failure(&new_link(1), &path, GoldenOptions { only: "getlink", ..GoldenOptions::default() }), nothing);
-    let about_v0 = GoldenOptions { link: "v0", ..GoldenOptions::default() };
+    assert_eq!(failure(&new_link(1), &path, Options::new().only("getlink")), nothing);
+    let about_v0 = Options::new().link("v0");
     assert_eq!(failure(&new_link(1), &path, about_v0), nothing);
 }
 
@@ -165,8 +171,7 @@ fn faults_and_captures_without_lines() {
 fn files_of_the_environment() {
     if let Some(folder) = env::var_os("LINKCAP_GOLDEN_FOLDER").map(PathBuf::from) {
         golden(new_link(1), folder.join("new/a.lines"));
-        let options = GoldenOptions { numbers: true, without: "counters,IFLA_MTU", ..GoldenOptions::default() };
-        golden_with(new_link(1), folder.join("new/b.lines"), options);
+        Options::new().numbers(true).without("counters,IFLA_MTU").golden(new_link(1), folder.join("new/b.lines"));
     }
 }
 

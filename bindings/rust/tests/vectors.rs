@@ -1,6 +1,6 @@
 //! Tests the calls with the stored vectors, and edge cases.
 
-use linkcap::{Error, Kind, LineOptions, LineReader, Message, NormalReader, QuirkKind, Reader, Side, DEFAULT_LIMIT};
+use linkcap::{Error, Kind, LineReader, Message, NormalReader, Options, QuirkKind, Reader, Side};
 use std::fs;
 use std::io::{self, Read};
 use std::path::Path;
@@ -52,17 +52,22 @@ fn read_vectors(kind: &str) -> Vec<(u32, Vec<Vec<u8>>, String)> {
         .collect()
 }
 
+/// Returns the options with a limit alone.
+fn under(limit: u32) -> Options<'static> {
+    Options::new().limit(limit)
+}
+
 type Output = (Vec<u8>, Option<Error>);
 
 fn normalize_whole(capture: &[u8], limit: u32) -> Output {
-    match linkcap::normalize(capture, limit) {
+    match under(limit).normalize(capture) {
         Ok(text) => (text, None),
         Err(error) => (error.fault().expect("a fault").written.clone(), Some(error)),
     }
 }
 
 fn normalize_pieces(capture: &[u8], limit: u32, size: usize) -> Output {
-    let mut reader = Reader::new(limit).expect("a limit");
+    let mut reader = Reader::new(under(limit)).expect("a limit");
     let mut out = Vec::new();
     for piece in capture.chunks(size) {
         if let Err(error) = reader.feed(piece, &mut out) {
@@ -94,7 +99,7 @@ impl Read for Chunks<'_> {
 
 fn normalize_by_reader(capture: &[u8], limit: u32, size: usize) -> Output {
     let source = Chunks { rest: capture, size, is_interrupted: false };
-    let mut reader = NormalReader::new(source, limit).expect("a limit");
+    let mut reader = NormalReader::new(source, under(limit)).expect("a limit");
     let mut out = Vec::new();
     // `read_to_end` reads again after an interruption.
     let error = reader.read_to_end(&mut out).err().map(|error| {
@@ -106,12 +111,12 @@ fn normalize_by_reader(capture: &[u8], limit: u32, size: usize) -> Output {
 }
 
 fn count_messages(capture: &[u8], limit: u32) -> Result<u64, Error> {
-    linkcap::messages(capture, limit)?.try_fold(0, |count, message| message.map(|_| count + 1))
+    under(limit).messages(capture)?.try_fold(0, |count, message| message.map(|_| count + 1))
 }
 
 fn format_norm(capture: &[u8], limit: u32, (text, error): Output) -> String {
-    let measurement = linkcap::measure(capture, limit);
-    assert_eq!(linkcap::check(capture, limit).err(), measurement.clone().err());
+    let measurement = under(limit).measure(capture);
+    assert_eq!(under(limit).check(capture).err(), measurement.clone().err());
     match (error, measurement) {
         (None, Ok(sizes)) if count_messages(capture, limit) == Ok(sizes.frames) => {
             format!("{} {} {} {}", encode_hex(&text), sizes.frames, sizes.attributes, sizes.text_len)
@@ -137,20 +142,20 @@ fn norm() {
 }
 
 fn lines_without_numbers(capture: &[u8], limit: u32) -> Result<String, Error> {
-    linkcap::lines_with(capture, limit, LineOptions { without_numbers: true, ..LineOptions::default() })
+    under(limit).numbers(false).lines(capture)
 }
 
 #[test]
 fn same() {
     for (limit, captures, line) in read_vectors("same") {
-        let output = match linkcap::same(&captures[0], &captures[1], limit) {
+        let output = match under(limit).same(&captures[0], &captures[1]) {
             Ok(true) => "same".to_string(),
             Ok(false) => "different".to_string(),
             Err(error) => error.fault().expect("a fault").words(),
         };
         assert_eq!(output, line);
-        let unnumbered = linkcap::same_ignoring_numbers(&captures[0], &captures[1], limit);
-        match linkcap::same(&captures[0], &captures[1], limit) {
+        let unnumbered = under(limit).numbers(false).same(&captures[0], &captures[1]);
+        match under(limit).same(&captures[0], &captures[1]) {
             Ok(is_same) => {
                 let are_lines_equal = lines_without_numbers(&captures[0], limit) == lines_without_numbers(&captures[1], limit);
                 assert_eq!(unnumbered, Ok(is_same || are_lines_equal));
@@ -161,9 +166,12 @@ fn same() {
 }
 
 /// Returns the options that a stored case has.
-fn choose_lines(choice: &str) -> LineOptions<'_> {
-    let without_numbers = choice == "without-numbers";
-    LineOptions { without_numbers, only: if without_numbers { "" } else { choice }, ..LineOptions::default() }
+fn choose_lines<'a>(limit: &str, choice: &'a str) -> Options<'a> {
+    let options = under(limit.parse().expect("a limit"));
+    match choice {
+        "without-numbers" => options.numbers(false),
+        only => options.only(only),
+    }
 }
 
 #[test]
@@ -173,7 +181,7 @@ fn show() {
     for case in cases {
         let (prefix, capture) = case.rsplit_once(' ').expect("a capture");
         let (limit, choice) = prefix.split_once(' ').unwrap_or((prefix, ""));
-        match linkcap::lines_with(&decode_hex(capture), limit.parse().expect("a limit"), choose_lines(choice)) {
+        match choose_lines(limit, choice).lines(&decode_hex(capture)) {
             Ok(lines) => output += &(lines + "legal\n"),
             Err(error) => {
                 output += std::str::from_utf8(&error.fault().expect("a fault").written).expect("lines");
@@ -195,19 +203,19 @@ fn show_selected() {
         ifinfomsg family 0 (AF_UNSPEC) type 0 (netrom) index 0 flags 0x0 change 0x0\n  IFLA_IFNAME \"lo\"\n";
     let about_lo = "RTM_GETLINK flags 0x1 (REQUEST) seq 1 port 0\n  \
         ifinfomsg family 0 (AF_UNSPEC) type 0 (netrom) flags 0x0 change 0x0\n  IFLA_IFNAME \"lo\"\n";
-    let default = LineOptions { keep_going: true, ..LineOptions::default() };
+    let default = Options::new().keep_going(true);
     for (options, expected) in [
-        (LineOptions { without_numbers: true, offsets: true, ..default }, all),
-        (LineOptions { only: "getlink,77", link: "lo", without: "indexes", ..default }, about_lo),
-        (LineOptions { keep_going: false, ..default }, ""),
+        (default.numbers(false).offsets(true), all),
+        (default.only("getlink,77").link("lo").without("indexes"), about_lo),
+        (default.keep_going(false), ""),
     ] {
         let capture = [&refused[..], request].concat();
-        let error = linkcap::lines_with(&capture, DEFAULT_LIMIT, options).expect_err("a fault");
+        let error = options.lines(&capture).expect_err("a fault");
         let fault = error.fault().expect("a fault");
         assert_eq!(std::str::from_utf8(&fault.written), Ok(expected));
         assert_eq!((fault.kind, fault.offset), (Kind::Refused, 0));
         for size in [1, 7, 16, 4096] {
-            let mut reader = LineReader::new(DEFAULT_LIMIT, options).expect("options");
+            let mut reader = LineReader::new(options).expect("options");
             let mut lines = Vec::new();
             let result = capture.chunks(size).try_for_each(|piece| reader.feed(piece, &mut lines));
             let in_pieces = result.and_then(|()| reader.finish(&mut lines)).expect_err("a fault");
@@ -219,23 +227,49 @@ fn show_selected() {
     for sample in ["samples/req-veth", "samples/get-veth"] {
         let (capture, expected) = (read_file(&format!("{sample}.bin")), read_file(&format!("{sample}.lines")));
         for size in [1, 7, 16, 4096] {
-            let (mut reader, mut lines) = (LineReader::new(DEFAULT_LIMIT, default).expect("options"), Vec::new());
+            let (mut reader, mut lines) = (LineReader::new(default).expect("options"), Vec::new());
             capture.chunks(size).try_for_each(|piece| reader.feed(piece, &mut lines)).expect("a legal capture");
             reader.finish(&mut lines).expect("a legal capture");
             assert!(lines == expected, "{sample} in pieces of {size}");
         }
     }
-    assert_eq!(linkcap::lines_with(request, DEFAULT_LIMIT, LineOptions { link: "1", ..default }), Ok(String::new()));
+    assert_eq!(default.link("1").lines(request), Ok(String::new()));
     for (only, without, unknown) in [("", "counters,mtu", "mtu"), ("newlink,links", "mtu", "links"), (",", "", "")] {
-        let options = LineOptions { only, without, ..default };
+        let options = default.only(only).without(without);
         let error = Error::UnknownName(unknown.to_string());
-        assert_eq!(linkcap::lines_with(request, DEFAULT_LIMIT, options), Err(error.clone()));
-        assert_eq!(LineReader::new(DEFAULT_LIMIT, options).expect_err("an unknown word"), error);
+        assert_eq!(options.lines(request), Err(error.clone()));
+        assert_eq!(LineReader::new(options).expect_err("an unknown word"), error);
     }
-    assert!(matches!(LineReader::new(15, default), Err(Error::Limit)));
     let types = vec!["18"; 33].join(",");
-    assert_eq!(linkcap::lines_with(request, DEFAULT_LIMIT, LineOptions { only: &types, ..default }), Err(Error::TooMany));
-    assert_eq!(linkcap::lines_with(request, 15, default), Err(Error::Limit));
+    assert_eq!(default.only(&types).lines(request), Err(Error::TooMany));
+}
+
+/// A call doesn't ignore an option: it returns an error for one that it doesn't use.
+#[test]
+fn unused_options() {
+    let unused = |name| Some(Error::UnusedOption(name));
+    for (options, name) in [
+        (Options::new().only("newlink"), "only"),
+        (Options::new().link("lo"), "link"),
+        (Options::new().without("counters"), "without"),
+        (Options::new().numbers(true), "numbers"),
+        (Options::new().offsets(true), "offsets"),
+        (Options::new().keep_going(true), "keep_going"),
+        (Options::new().json(true), "json"),
+    ] {
+        assert_eq!(options.normalize(&[]).err(), unused(name));
+        assert_eq!(options.measure(&[]).err(), unused(name));
+        assert_eq!(options.why(&[]).err(), unused(name));
+        assert_eq!(options.quirks(&[]).err(), unused(name));
+        assert_eq!(options.messages(&[]).err(), unused(name));
+        assert_eq!(Reader::new(options).err(), unused(name));
+        assert_eq!(NormalReader::new(&[][..], options).err(), unused(name));
+        assert_eq!(options.same(&[], &[]).err(), if name == "numbers" { None } else { unused(name) });
+        let of_attributes = ["only", "link", "without"];
+        assert_eq!(options.attributes(&[]).err(), if of_attributes.contains(&name) { None } else { unused(name) });
+        assert_eq!(options.lines(&[]), Ok(String::new()));
+    }
+    assert_eq!(Error::UnusedOption("json").to_string(), "the call doesn't use the option \"json\"");
 }
 
 /// Compares the lines of each case, shown in pieces.
@@ -246,7 +280,7 @@ fn show_in_pieces() {
     for (i, case) in cases.iter().enumerate() {
         let (prefix, capture) = case.rsplit_once(' ').expect("a capture");
         let (limit, choice) = prefix.split_once(' ').unwrap_or((prefix, ""));
-        let mut reader = LineReader::new(limit.parse().expect("a limit"), choose_lines(choice)).expect("a limit");
+        let mut reader = LineReader::new(choose_lines(limit, choice)).expect("a limit");
         let (capture, mut lines) = (decode_hex(capture), Vec::new());
         let result = capture.chunks([1, 7, 100][i % 3]).try_for_each(|piece| reader.feed(piece, &mut lines));
         let end = match result.and_then(|()| reader.finish(&mut lines)) {
@@ -261,12 +295,12 @@ fn show_in_pieces() {
 #[test]
 fn quirks() {
     for (limit, captures, line) in read_vectors("spelling") {
-        let (end, quirks) = match linkcap::quirks(&captures[0], limit) {
+        let (end, quirks) = match under(limit).quirks(&captures[0]) {
             Ok(quirks) => ("legal".to_string(), quirks),
             Err(error) => {
                 let fault = error.fault().expect("a fault");
                 let before = &captures[0][..usize::try_from(fault.offset).expect("an offset")];
-                (fault.words(), linkcap::quirks(before, limit).expect("legal messages"))
+                (fault.words(), under(limit).quirks(before).expect("legal messages"))
             }
         };
         let words: String = quirks.iter().map(|quirk| format!("{quirk}; ")).collect();
@@ -274,19 +308,19 @@ fn quirks() {
     }
     let mut request = read_file("samples/lo-request.bin");
     request[17] = 1;
-    let many = linkcap::quirks(&request.repeat(40), DEFAULT_LIMIT).expect("a legal capture");
+    let many = linkcap::quirks(&request.repeat(40)).expect("a legal capture");
     assert_eq!((many.len(), many[1].kind, many[1].offset), (40, QuirkKind::HeaderByte, 48 + 17));
 }
 
 #[test]
 fn refusal() {
     for (limit, captures, line) in read_vectors("refusal") {
-        match linkcap::why(&captures[0], limit).expect("memory") {
+        match under(limit).why(&captures[0]).expect("memory") {
             None => assert_eq!(line, "nothing"),
             Some(refusal) => {
                 assert_eq!(refusal.to_string(), line);
                 assert_eq!(refusal.offset, line.rsplit_once(" at ").and_then(|(_, offset)| offset.parse().ok()));
-                let error = linkcap::check(&captures[0], limit).expect_err("a refused body");
+                let error = under(limit).check(&captures[0]).expect_err("a refused body");
                 let fault = error.fault().expect("a fault");
                 assert_eq!((fault.kind, fault.why.as_ref()), (Kind::Refused, Some(&refusal)));
                 assert_eq!(error.to_string(), format!("{}: {line}", fault.words()));
@@ -302,25 +336,27 @@ fn refusal() {
 fn edges() {
     assert!(linkcap::is_known_version());
     assert!(read_text("bindings/c/linkcap.h").contains(&format!("\n#define LINKCAP_FORMAT {}\n", linkcap::format())));
-    assert_eq!(linkcap::normalize(&[], 16), Ok(Vec::new()));
-    assert_eq!(linkcap::lines(&[], 16), Ok(String::new()));
-    assert_eq!(linkcap::same(&[], &[], 16), Ok(true));
-    let sizes = linkcap::measure(&[], 16).expect("nothing");
+    assert_eq!(under(16).normalize(&[]), Ok(Vec::new()));
+    assert_eq!(under(16).lines(&[]), Ok(String::new()));
+    assert_eq!(under(16).same(&[], &[]), Ok(true));
+    let sizes = under(16).measure(&[]).expect("nothing");
     assert_eq!((sizes.frames, sizes.attributes, sizes.text_len), (0, 0, 0));
-    for limit in [0, 15] {
-        assert_eq!(linkcap::check(&[], limit), Err(Error::Limit));
-        assert_eq!(linkcap::measure(&[], limit), Err(Error::Limit));
-        assert_eq!(linkcap::normalize(&[], limit), Err(Error::Limit));
-        assert_eq!(linkcap::lines(&[], limit), Err(Error::Limit));
-        assert_eq!(linkcap::why(&[], limit), Err(Error::Limit));
-        assert_eq!(linkcap::same(&[], &[], limit), Err(Error::Limit));
-        assert!(matches!(Reader::new(limit), Err(Error::Limit)));
-        assert!(matches!(LineReader::new(limit, LineOptions::default()), Err(Error::Limit)));
-        assert_eq!(linkcap::quirks(&[], limit), Err(Error::Limit));
-        assert_eq!(linkcap::same_ignoring_numbers(&[], &[], limit), Err(Error::Limit));
+    for options in [under(0), under(15)] {
+        assert_eq!(options.check(&[]), Err(Error::Limit));
+        assert_eq!(options.measure(&[]), Err(Error::Limit));
+        assert_eq!(options.normalize(&[]), Err(Error::Limit));
+        assert_eq!(options.lines(&[]), Err(Error::Limit));
+        assert_eq!(options.why(&[]), Err(Error::Limit));
+        assert_eq!(options.same(&[], &[]), Err(Error::Limit));
+        assert_eq!(options.quirks(&[]), Err(Error::Limit));
+        assert_eq!(options.messages(&[]).err(), Some(Error::Limit));
+        assert_eq!(options.attributes(&[]).err(), Some(Error::Limit));
+        assert_eq!(Reader::new(options).err(), Some(Error::Limit));
+        assert_eq!(LineReader::new(options).err(), Some(Error::Limit));
+        assert_eq!(NormalReader::new(&[][..], options).err(), Some(Error::Limit));
     }
     let capture = read_file("samples/lo-request.bin");
-    let error = linkcap::same(&capture, &capture[..47], DEFAULT_LIMIT).expect_err("a cut frame");
+    let error = linkcap::same(&capture, &capture[..47]).expect_err("a cut frame");
     let fault = error.fault().expect("a fault");
     assert_eq!((fault.kind, fault.side, fault.offset), (Kind::Cut, Some(Side::Second), 0));
     assert_eq!((error.kind(), error.side(), error.offset(), error.reason()), (Some(Kind::Cut), Some(Side::Second), Some(0), None));
@@ -339,14 +375,13 @@ fn fields(message: Message<'_>) -> (usize, &[u8], u16, u16, u32, u32) {
 fn messages() {
     let capture = read_file("samples/lo-request.bin");
     let twice = [&capture[..], &capture[..]].concat();
-    let messages = |capture| linkcap::messages(capture, DEFAULT_LIMIT).expect("a limit");
-    let found: Vec<_> = messages(&twice).map(|message| fields(message.expect("a legal message"))).collect();
+    let found: Vec<_> = linkcap::messages(&twice).map(|message| fields(message.expect("a legal message"))).collect();
     // the numbers that samples/lo-request.lines has
     let message = |offset| (offset, &capture[..], 18, 0x301, 1_526_271_540, 0);
     assert_eq!(found, [message(0), message(48)]);
-    assert_eq!(messages(&[]).next(), None);
+    assert_eq!(linkcap::messages(&[]).next(), None);
     // The fault comes once, after the message before it.
-    let mut cut = messages(&twice[..95]);
+    let mut cut = linkcap::messages(&twice[..95]);
     assert_eq!(cut.next().map(|message| message.map(fields)), Some(Ok(message(0))));
     let fault = cut.next().expect("a fault").expect_err("a fault");
     assert_eq!((fault.kind(), fault.offset()), (Some(Kind::Cut), Some(48)));
@@ -362,11 +397,10 @@ fn broken_sources() {
         }
     }
     let capture = read_file("samples/req-veth.bin");
-    let mut reader = NormalReader::new(capture.chain(BrokenSource), DEFAULT_LIMIT).expect("a limit");
+    let mut reader = NormalReader::new(capture.chain(BrokenSource), Options::new()).expect("a limit");
     let mut out = Vec::new();
     assert_eq!(reader.read_to_end(&mut out).expect_err("a broken source").kind(), io::ErrorKind::BrokenPipe);
     assert_eq!(out, read_file("samples/req-veth.bin"));
-    assert_eq!(NormalReader::new(&[][..], 15).err(), Some(Error::Limit));
 }
 
 #[test]
@@ -376,7 +410,7 @@ fn a_capture_cut_at_each_byte() {
     while at < capture.len() {
         let length = u32::from_le_bytes(capture[at..at + 4].try_into().expect("four bytes")) as usize;
         for cut in at..(at + (length + 3) / 4 * 4).min(capture.len()) {
-            let (text, error) = normalize_whole(&capture[..cut], DEFAULT_LIMIT);
+            let (text, error) = normalize_whole(&capture[..cut], linkcap::DEFAULT_LIMIT);
             if at < cut && cut < at + length {
                 let error = error.expect("a cut frame");
                 let fault = error.fault().expect("a fault");
@@ -393,13 +427,13 @@ fn a_capture_cut_at_each_byte() {
 #[test]
 fn eight_threads() {
     let capture = read_file("samples/get-veth.bin");
-    let text = linkcap::normalize(&capture, DEFAULT_LIMIT).expect("a legal capture");
+    let text = linkcap::normalize(&capture).expect("a legal capture");
     std::thread::scope(|scope| {
         for _ in 0..8 {
             scope.spawn(|| {
                 for _ in 0..50 {
-                    assert_eq!(linkcap::normalize(&capture, DEFAULT_LIMIT).as_ref(), Ok(&text));
-                    assert_eq!(linkcap::same(&capture, &text, DEFAULT_LIMIT), Ok(true));
+                    assert_eq!(linkcap::normalize(&capture).as_ref(), Ok(&text));
+                    assert_eq!(linkcap::same(&capture, &text), Ok(true));
                 }
             });
         }
@@ -432,7 +466,7 @@ fn peers(levels: usize) -> Vec<u8> {
 fn deep_captures_are_shown_with_a_small_stack() {
     let capture = peers(1600);
     let size = capture.len();
-    let show = move || (linkcap::lines(&capture, DEFAULT_LIMIT).expect("a legal capture"), linkcap::normalize(&capture, DEFAULT_LIMIT));
+    let show = move || (linkcap::lines(&capture).expect("a legal capture"), linkcap::normalize(&capture));
     let thread = std::thread::Builder::new().stack_size(256 << 10).spawn(show).expect("a thread");
     let (lines, text) = thread.join().expect("lines");
     assert!(size < lines.len() && lines.len() <= 44 * size);

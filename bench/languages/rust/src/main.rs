@@ -1,6 +1,5 @@
 //! Times calls over a capture from standard input, by processor time: `calls SECONDS < CAPTURE`, as calls.c does.
 
-use linkcap::DEFAULT_LIMIT;
 use std::io::Read;
 
 extern "C" {
@@ -32,8 +31,8 @@ fn main() {
     let seconds = std::env::args().nth(1).map_or(1.0, |argument| argument.parse().expect("seconds"));
     let mut capture = Vec::new();
     std::io::stdin().read_to_end(&mut capture).expect("a capture");
-    measure("check", seconds, || linkcap::check(&capture, DEFAULT_LIMIT).expect("legal"));
-    measure("normalize", seconds, || linkcap::normalize(&capture, DEFAULT_LIMIT).expect("legal"));
-    measure("same", seconds, || linkcap::same(&capture, &capture, DEFAULT_LIMIT).expect("legal"));
-    measure("show", seconds, || linkcap::lines(&capture, DEFAULT_LIMIT).expect("legal"));
+    measure("check", seconds, || linkcap::check(&capture).expect("legal"));
+    measure("normalize", seconds, || linkcap::normalize(&capture).expect("legal"));
+    measure("same", seconds, || linkcap::same(&capture, &capture).expect("legal"));
+    measure("show", seconds, || linkcap::lines(&capture).expect("legal"));
 }

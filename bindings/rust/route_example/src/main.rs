@@ -1,6 +1,5 @@
 //! Normalises a request that netlink-packet-route emits, and shows it.
 
-use linkcap::DEFAULT_LIMIT;
 use netlink_packet_route::link::nlas::{Info, InfoKind, Nla};
 use netlink_packet_route::{LinkMessage, NetlinkHeader, NetlinkMessage, NetlinkPayload, RtnlMessage, NLM_F_CREATE, NLM_F_REQUEST};
 
@@ -22,9 +21,9 @@ fn make_request(name: &str) -> Vec<u8> {
 
 fn main() -> Result<(), Box<dyn std::error::Error>> {
     let capture = make_request("d0");
-    let text = linkcap::normalize(&capture, DEFAULT_LIMIT)?;
-    assert!(linkcap::same(&capture, &text, DEFAULT_LIMIT)?);
-    print!("{}", linkcap::lines(&capture, DEFAULT_LIMIT)?);
+    let text = linkcap::normalize(&capture)?;
+    assert!(linkcap::same(&capture, &text)?);
+    print!("{}", linkcap::lines(&capture)?);
     Ok(())
 }
 

@@ -1,6 +1,9 @@
 //! Tests the attributes of messages, with requests of iproute2, whose commands are in samples/kinds/index.tsv, and with the lines
 //! of the independent implementation.
 
+mod common;
+
+use common::attribute;
 use linkcap::{Attribute, Error, Kind, Message, Options};
 use std::fs;
 use std::path::Path;
@@ -120,15 +123,6 @@ fn lines() {
         let each: Vec<_> = messages.iter().flat_map(|message| message.attributes().expect("memory")).collect();
         assert_eq!(each, all(&capture), "{name}");
     }
-}
-
-/// Returns an attribute, with its padding.
-fn attribute(kind: u16, payload: &[u8]) -> Vec<u8> {
-    let length = u16::try_from(4 + payload.len()).expect("a short payload");
-    let mut bytes = [length.to_le_bytes(), kind.to_le_bytes()].concat();
-    bytes.extend_from_slice(payload);
-    bytes.resize((bytes.len() + 3) & !3, 0);
-    bytes
 }
 
 /// Returns an RTM_NEWLINK that creates a link, with these attributes.

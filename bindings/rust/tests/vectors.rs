@@ -1,5 +1,8 @@
 //! Tests the calls with the stored vectors, and edge cases.
 
+mod common;
+
+use common::attribute;
 use linkcap::{Error, Kind, LineReader, Message, NormalReader, Options, QuirkKind, Reader, Side};
 use std::fs;
 use std::io::{self, Read};
@@ -438,15 +441,6 @@ fn eight_threads() {
             });
         }
     });
-}
-
-/// Returns an attribute, with its padding.
-fn attribute(kind: u16, payload: &[u8]) -> Vec<u8> {
-    let length = u16::try_from(4 + payload.len()).expect("a short payload");
-    let mut bytes = [length.to_le_bytes(), kind.to_le_bytes()].concat();
-    bytes.extend_from_slice(payload);
-    bytes.resize((bytes.len() + 3) & !3, 0);
-    bytes
 }
 
 /// Returns a link message with peers in peers: IFLA_LINKINFO, IFLA_INFO_DATA and VETH_INFO_PEER at each level.

@@ -1,6 +1,9 @@
 -- Laws of the definitions of frames.
-use Rattle.std.proofs.Common.{◌≡◌, ◌≢◌, ℕ, zero, suc, ◌+◌, ◌-◌, ◌%◌, ◌<◌, ◌≤◌, ltb, cond, true, false, Bool, Result, Option, min, List, [], ◌∷◌, ◌++◌, length, take, drop, Some, None, Ok, Err, refl, sym, ap, subst, ◌∙◌, ◌⊎◌, inl, inr, arith, length-append, length-drop, append_assoc, zero-add}
-use Rattle.std.proofs.lemmas.List.{take-append-le, drop-append-le, drop_all, length-take, append-nil, drop_at, take-append-drop}
+use Rattle.std.proofs.Common.{◌≡◌, ◌≢◌, ℕ, zero, suc, ◌+◌, ◌-◌, ◌%◌, ◌<◌, ◌≤◌, ltb, cond, true, false, Bool, Result, Option, min, List, [], ◌∷◌, ◌++◌, length, take, drop, flat_map, Some, None, Ok, Err, refl, sym, ap, subst, ◌∙◌, ◌⊎◌, inl, inr, arith, length-append, length-drop}
+use Rattle.std.specs.Prelude.{option_map}
+use Rattle.std.proofs.lemmas.List.{take-append-le, drop-append-le, drop_all, drop-drop, drop-take, take-take, length-take, append-nil, drop_at, take-append-drop}
+use Rattle.std.proofs.lemmas.List.Concat.{flat_map-append}
+use Rattle.std.proofs.lemmas.List.Sums.{sum_by-append, sum_by-cons}
 use Rattle.std.proofs.lemmas.Bool.Decides.{nat_tests}
 use Rattle.std.proofs.lemmas.Bool.{cond_both, lt-ltb, ltb-false, ltb-true, cases_lt}
 use Rattle.netlink_packet_core_grammar.specs.Attributes.{nla_align}
@@ -12,7 +15,7 @@ use Rattle.link_capture_grammar.specs.declared.fault.FaultKind.{FaultKind}
 use Rattle.link_capture_grammar.specs.declared.fault.FaultKind.TheVariants.{Cut, ShortLength, OverLimit}
 use Rattle.link_capture_grammar.specs.declared.fault.CaptureFault.{CaptureFault}
 use Rattle.link_capture_grammar.specs.Bodies.{Refusal, refused, empty_ports, unfit, body_text_under}
-use Rattle.link_capture_grammar.specs.Captures.{Judged, Accepted, CutInBody, first_frame_under, judged_text, checked_header, next_fault, next_texts, shifted, fault_after_under, texts_after_under, first_fault_under, texts_under, reach_by, reach_under, IsLegalUnder, IsOfFrames}
+use Rattle.link_capture_grammar.specs.Captures.{Judged, Accepted, CutInBody, Frame, Split, first_frame_under, judged_text, checked_header, next_split, padded_size, shifted, split, split_within, first_fault_under, texts_under, reach_by, reach_under, IsLegalUnder, IsOfFrames}
 
 -- the order of the tests
 pub guard : {A : Type 0} (b : Bool) (x y z : A) → cond b x y ≡ z → ((b ≡ true) × (x ≡ z)) ⊎ ((b ≡ false) × (y ≡ z))
@@ -62,26 +65,24 @@ judged_text-more limit c d (Err why) h = refl
 judged_text-more limit c d (Ok body) h = rw (u32_at-append c d (omega arith), frame_text-more c d body h)
 
 -- faults at a larger offset
-pub shifted_zero : (f : Option CaptureFault) → shifted 0 f ≡ f
-shifted_zero None = refl
-shifted_zero (Some f) = ap (λ n. Some (record { kind = f.kind; offset = n })) (zero-add f.offset)
-
 pub shifted_add : (a b n : ℕ) (f : Option CaptureFault) → a + b ≡ n → shifted a (shifted b f) ≡ shifted n f
 shifted_add a b n None e = refl
 shifted_add a b n (Some f) e = let k : a + (b + f.offset) ≡ n + f.offset = omega arith in ap (λ m. Some (record { kind = f.kind; offset = m })) k
 
--- the offset of the bytes after the first frame
-abbrev offset_of_next : Judged → (ℕ → ℕ) → ℕ
-offset_of_next (Ok frame) after = suc (after (nla_align frame.0 - 1))
-offset_of_next (Err kind) after = 0
+fault_moved : (a b n : ℕ) (kind : Option FaultKind) → n ≡ a + b → option_map (λ k. record { kind = k; offset = n }) kind ≡ shifted a (option_map (λ k. record { kind = k; offset = b }) kind)
+fault_moved a b n None e = refl
+fault_moved a b n (Some k) e = ap (λ m. Some (record { kind = k; offset = m })) e
 
 -- whether a frame is accepted
 pub seen : (j : Judged) → ((frame : ℕ × List ℕ) × (j ≡ Ok frame)) ⊎ ((kind : FaultKind) × (j ≡ Err kind))
 seen (Ok frame) = inl (frame, refl)
 seen (Err kind) = inr (kind, refl)
 
-shifted_one : (kind : FaultKind) (n : ℕ) → shifted 1 (Some (record { kind = kind; offset = n })) ≡ Some (record { kind = kind; offset = suc n })
-shifted_one kind n = let e : 1 + n ≡ suc n = omega arith in ap (λ m. Some (record { kind = kind; offset = m })) e
+-- some bytes have the first frame of others: its header without the length, type and body
+pub record HasFrameOf (e c : List ℕ) : Type 0 where
+  pub header : take 12 (drop 4 e) ≡ take 12 (drop 4 c)
+  pub type : frame_type e ≡ frame_type c
+  pub body : frame_body e ≡ frame_body c
 
 pub not_cut : (j : Judged) (frame : ℕ × List ℕ) → j ≡ Ok frame → j ≢ Err Cut
 not_cut j frame h e = cc
@@ -167,71 +168,108 @@ module _ (r : Rule) where
       let claimed : frame_length c ≡ frame_length e = ap (u32_at 0) (sym whole) ∙ u32_at-append e more (omega arith) in
       sym (first_frame_whole limit e more (omega arith) (omega (arith, a.is, claimed))) ∙ ap (first_frame_under r limit) whole ∙ h
 
-  -- both recursions over the bytes after the first `skip`
-  pub texts_skip : (limit skip : ℕ) (c : List ℕ) → texts_after_under r limit skip c ≡ texts_under r limit (drop skip c)
-  unfolding texts_after_under
-  texts_skip limit zero c = refl
-  texts_skip limit (suc skip) [] = refl
-  texts_skip limit (suc skip) (b ∷ c) = texts_skip limit skip c
+  -- The bytes of an accepted frame have its header, type and body.
+  pub own_bytes : (limit : ℕ) (c : List ℕ) (frame : ℕ × List ℕ) → first_frame_under r limit c ≡ Ok frame → HasFrameOf (take frame.0 c) c
+  own_bytes limit c frame h =
+      let a = accepted limit c frame h in
+      let e : List ℕ = take frame.0 c in
+      let more : List ℕ = drop frame.0 c in
+      let whole : e ++ more ≡ c = take-append-drop frame.0 c in
+      let size : length e ≡ min frame.0 (length c) = length-take frame.0 c in
+      let claimed : frame_length c ≡ frame_length e = ap (u32_at 0) (sym whole) ∙ u32_at-append e more (omega (arith, size, a.low, a.whole)) in
+      let headed : 16 ≤ length e = omega (arith, size, a.low, a.whole) in
+      let inside : frame_length e ≤ length e = omega (arith, size, a.is, a.whole, claimed) in
+      record {
+        header = sym (frame_header-more e more headed) ∙ ap (λ x. take 12 (drop 4 x)) whole;
+        type = sym (frame_type-more e more headed) ∙ ap frame_type whole;
+        body = sym (frame_body-more e more headed inside) ∙ ap frame_body whole;
+      }
 
-  pub fault_skip : (limit skip : ℕ) (c : List ℕ) → fault_after_under r limit skip c ≡ shifted skip (first_fault_under r limit (drop skip c))
-  unfolding fault_after_under
-  fault_skip limit zero c = sym (shifted_zero (first_fault_under r limit c))
-  fault_skip limit (suc skip) [] = refl
-  fault_skip limit (suc skip) (b ∷ c) =
-      ap (shifted 1) (fault_skip limit skip c) ∙ shifted_add 1 skip (suc skip) (first_fault_under r limit (drop skip c)) (omega arith)
+  -- ---- one frame after the other
 
-  -- one step of both recursions
-  step_fault : (limit : ℕ) (b : ℕ) (c : List ℕ) (frame : ℕ × List ℕ) → first_frame_under r limit (b ∷ c) ≡ Ok frame → first_fault_under r limit (b ∷ c) ≡ shifted 1 (fault_after_under r limit (nla_align frame.0 - 1) c)
-  unfolding fault_after_under
-  step_fault limit b c frame h = ap (λ j. next_fault j (λ skip. fault_after_under r limit skip c)) h
+  -- More frames than there are bytes change nothing.
+  enough : (limit n m : ℕ) (c : List ℕ) → length c ≤ n → length c ≤ m → split_within r limit n c ≡ split_within r limit m c
+  unfolding split_within
+  enough limit n m [] l k = refl
+  enough limit zero m (b ∷ c) l k = absurd (omega arith)
+  enough limit (suc n) zero (b ∷ c) l k = absurd (omega arith)
+  enough limit (suc n) (suc m) (b ∷ c) l k =
+      elim (seen (first_frame_under r limit (b ∷ c))) [
+        | inl w ↦
+            let a = accepted limit (b ∷ c) w.0 w.1 in
+            let size = length-drop (nla_align w.0.0) (b ∷ c) in
+            ap (λ j. next_split j (b ∷ c) (split_within r limit n)) w.1
+            ∙ ap (λ x. next_split (Ok w.0) (b ∷ c) (λ _. x)) (enough limit n m (drop (nla_align w.0.0) (b ∷ c)) (omega (arith, a.low, size, l)) (omega (arith, a.low, size, k)))
+            ∙ sym (ap (λ j. next_split j (b ∷ c) (split_within r limit m)) w.1)
+        | inr w ↦ ap (λ j. next_split j (b ∷ c) (split_within r limit n)) w.1 ∙ sym (ap (λ j. next_split j (b ∷ c) (split_within r limit m)) w.1)
+      ]
 
-  pub step_texts : (limit : ℕ) (b : ℕ) (c : List ℕ) (frame : ℕ × List ℕ) → first_frame_under r limit (b ∷ c) ≡ Ok frame → texts_under r limit (b ∷ c) ≡ frame.1 ++ texts_after_under r limit (nla_align frame.0 - 1) c
-  unfolding texts_after_under
-  step_texts limit b c frame h = ap (λ j. next_texts j (λ skip. texts_after_under r limit skip c)) h
+  -- The frames of an accepted frame and of the bytes after it.
+  pub split_step : (limit : ℕ) (c : List ℕ) (frame : ℕ × List ℕ) → first_frame_under r limit c ≡ Ok frame → split r limit c ≡ next_split (Ok frame) c (split r limit)
+  unfolding split_within
+  split_step limit [] frame h = let a = accepted limit [] frame h in absurd (omega (arith, a.header))
+  split_step limit (b ∷ c) frame h =
+      let a = accepted limit (b ∷ c) frame h in
+      let rest = drop (nla_align frame.0) (b ∷ c) in
+      ap (λ j. next_split j (b ∷ c) (split_within r limit (length c))) h
+      ∙ ap (λ x. next_split (Ok frame) (b ∷ c) (λ _. x)) (enough limit (length c) (length rest) rest (omega (arith, a.low, length-drop (nla_align frame.0) (b ∷ c))) (omega arith))
 
-  stop_fault : (limit : ℕ) (b : ℕ) (c : List ℕ) (kind : FaultKind) → first_frame_under r limit (b ∷ c) ≡ Err kind → first_fault_under r limit (b ∷ c) ≡ Some (record { kind = kind; offset = 0 })
-  unfolding fault_after_under
-  stop_fault limit b c kind h = ap (λ j. next_fault j (λ skip. fault_after_under r limit skip c)) h
+  pub split_stop : (limit : ℕ) (c : List ℕ) (kind : FaultKind) → 0 < length c → first_frame_under r limit c ≡ Err kind → split r limit c ≡ record { frames = []; fault = Some kind }
+  unfolding split_within
+  split_stop limit [] kind p h = absurd (omega arith)
+  split_stop limit (b ∷ c) kind p h = ap (λ j. next_split j (b ∷ c) (split_within r limit (length c))) h
 
-  pub stop_texts : (limit : ℕ) (b : ℕ) (c : List ℕ) (kind : FaultKind) → first_frame_under r limit (b ∷ c) ≡ Err kind → texts_under r limit (b ∷ c) ≡ []
-  unfolding texts_after_under
-  stop_texts limit b c kind h = ap (λ j. next_texts j (λ skip. texts_after_under r limit skip c)) h
+  pub split_nil : (limit : ℕ) → split r limit [] ≡ record { frames = []; fault = None }
+  unfolding split_within
+  split_nil limit = refl
+
+  -- Without an accepted first frame there is no frame.
+  pub no_frames : (limit : ℕ) (c : List ℕ) (kind : FaultKind) → first_frame_under r limit c ≡ Err kind → (split r limit c).frames ≡ []
+  no_frames limit [] kind h = ap (λ s. s.frames) (split_nil limit)
+  no_frames limit (b ∷ c) kind h = ap (λ s. s.frames) (split_stop limit (b ∷ c) kind (omega arith) h)
 
   -- an empty capture has no first fault and no texts
-  pub fault_nil : (limit skip : ℕ) → fault_after_under r limit skip [] ≡ None
-  unfolding fault_after_under
-  fault_nil limit skip = refl
+  pub fault_nil : (limit : ℕ) → first_fault_under r limit [] ≡ None
+  fault_nil limit = ap (λ s. option_map (λ k. record { kind = k; offset = padded_size s.frames }) s.fault) (split_nil limit)
 
-  pub texts_nil : (limit skip : ℕ) → texts_after_under r limit skip [] ≡ []
-  unfolding texts_after_under
-  texts_nil limit skip = refl
+  pub texts_nil : (limit : ℕ) → texts_under r limit [] ≡ []
+  texts_nil limit = ap (λ s. flat_map (λ f. f.text) s.frames) (split_nil limit)
+
+  -- The offset that the whole frames reach, including the full padding of the last one: the first fault is there, or
+  -- would be if more bytes came.
+  abbrev pub end_offset : ℕ → List ℕ → ℕ
+  end_offset limit c = padded_size (split r limit c).frames
+
+  pub end_step : (limit : ℕ) (c : List ℕ) (frame : ℕ × List ℕ) → first_frame_under r limit c ≡ Ok frame → end_offset limit c ≡ nla_align frame.0 + end_offset limit (drop (nla_align frame.0) c)
+  end_step limit c frame h =
+      let a = accepted limit c frame h in
+      let rest = (split r limit (drop (nla_align frame.0) c)).frames in
+      let first : Frame = record { bytes = take frame.0 c; text = frame.1 } in
+      let size : length (take frame.0 c) ≡ frame.0 = omega (arith, length-take frame.0 c, a.whole) in
+      ap (λ s. padded_size s.frames) (split_step limit c frame h) ∙ sum_by-cons (λ f. nla_align (length f.bytes)) first rest ∙ ap (λ n. nla_align n + padded_size rest) size
+
+  pub end_stop : (limit : ℕ) (c : List ℕ) (kind : FaultKind) → first_frame_under r limit c ≡ Err kind → end_offset limit c ≡ 0
+  end_stop limit c kind h = ap padded_size (no_frames limit c kind h)
+
+  pub end_nil : (limit : ℕ) → end_offset limit [] ≡ 0
+  end_nil limit = ap (λ s. padded_size s.frames) (split_nil limit)
 
   -- If the first frame is accepted, the frames of the remaining bytes are the remaining frames.
   pub texts_step : (limit : ℕ) (c : List ℕ) (frame : ℕ × List ℕ) → first_frame_under r limit c ≡ Ok frame → texts_under r limit c ≡ frame.1 ++ texts_under r limit (drop (nla_align frame.0) c)
-  texts_step limit [] frame h = let a = accepted limit [] frame h in absurd (omega (arith, a.header))
-  texts_step limit (b ∷ c) frame h =
-      let a = accepted limit (b ∷ c) frame h in
-      let e : nla_align frame.0 ≡ suc (nla_align frame.0 - 1) = omega arith in
-      step_texts limit b c frame h ∙ ap (λ t. frame.1 ++ t) (texts_skip limit (nla_align frame.0 - 1) c) ∙ ap (λ n. frame.1 ++ texts_under r limit (drop n (b ∷ c))) (sym e)
+  texts_step limit c frame h = ap (λ s. flat_map (λ f. f.text) s.frames) (split_step limit c frame h)
 
   pub fault_step : (limit : ℕ) (c : List ℕ) (frame : ℕ × List ℕ) → first_frame_under r limit c ≡ Ok frame → first_fault_under r limit c ≡ shifted (nla_align frame.0) (first_fault_under r limit (drop (nla_align frame.0) c))
-  fault_step limit [] frame h = let a = accepted limit [] frame h in absurd (omega (arith, a.header))
-  fault_step limit (b ∷ c) frame h =
-      let a = accepted limit (b ∷ c) frame h in
-      let e : nla_align frame.0 ≡ suc (nla_align frame.0 - 1) = omega arith in
-      step_fault limit b c frame h ∙ ap (shifted 1) (fault_skip limit (nla_align frame.0 - 1) c)
-      ∙ shifted_add 1 (nla_align frame.0 - 1) (nla_align frame.0) _ (omega arith)
-      ∙ ap (λ n. shifted (nla_align frame.0) (first_fault_under r limit (drop n (b ∷ c)))) (sym e)
+  fault_step limit c frame h =
+      let rest = split r limit (drop (nla_align frame.0) c) in
+      ap (option_map (λ k. record { kind = k; offset = end_offset limit c })) (ap (λ s. s.fault) (split_step limit c frame h))
+      ∙ fault_moved (nla_align frame.0) (padded_size rest.frames) (end_offset limit c) rest.fault (end_step limit c frame h)
 
   -- The first frame has a fault.
   pub fault_stop : (limit : ℕ) (c : List ℕ) (kind : FaultKind) → 0 < length c → first_frame_under r limit c ≡ Err kind → first_fault_under r limit c ≡ Some (record { kind = kind; offset = 0 })
-  fault_stop limit [] kind p h = absurd (omega arith)
-  fault_stop limit (b ∷ c) kind p h = stop_fault limit b c kind h
+  fault_stop limit c kind p h = ap (λ s. option_map (λ k. record { kind = k; offset = padded_size s.frames }) s.fault) (split_stop limit c kind p h)
 
   pub texts_stop : (limit : ℕ) (c : List ℕ) (kind : FaultKind) → first_frame_under r limit c ≡ Err kind → texts_under r limit c ≡ []
-  texts_stop limit [] kind h = texts_nil limit 0
-  texts_stop limit (b ∷ c) kind h = stop_texts limit b c kind h
+  texts_stop limit c kind h = ap (flat_map (λ f. f.text)) (no_frames limit c kind h)
 
   -- Induction over frames: a property of all captures holds if it holds of the rest whenever it holds of a capture that
   -- begins with an accepted frame, and of every other capture.
@@ -251,134 +289,176 @@ module _ (r : Rule) where
             | inr w ↦ stop c w.0 w.1
           ]
 
-  -- The offset that the whole frames reach, including the full padding of the last one: the first fault is there, or
-  -- would be if more bytes came.
-  unfoldable pub offset_after : ℕ → ℕ → List ℕ → ℕ
-  offset_after limit skip [] = skip
-  offset_after limit (suc skip) (b ∷ c) = suc (offset_after limit skip c)
-  offset_after limit zero (b ∷ c) = offset_of_next (first_frame_under r limit (b ∷ c)) (λ skip. offset_after limit skip c)
-
-  abbrev pub end_offset : ℕ → List ℕ → ℕ
-  end_offset limit c = offset_after limit 0 c
-
-  pub step_offset : (limit : ℕ) (b : ℕ) (c : List ℕ) (frame : ℕ × List ℕ) → first_frame_under r limit (b ∷ c) ≡ Ok frame → end_offset limit (b ∷ c) ≡ suc (offset_after limit (nla_align frame.0 - 1) c)
-  unfolding offset_after
-  step_offset limit b c frame h = ap (λ j. offset_of_next j (λ skip. offset_after limit skip c)) h
-
-  pub stop_offset : (limit : ℕ) (b : ℕ) (c : List ℕ) (kind : FaultKind) → first_frame_under r limit (b ∷ c) ≡ Err kind → end_offset limit (b ∷ c) ≡ 0
-  unfolding offset_after
-  stop_offset limit b c kind h = ap (λ j. offset_of_next j (λ skip. offset_after limit skip c)) h
-
-  -- Induction over the offset: byte by byte over the bytes to be skipped, and then frame by frame.
-  by_offset : (limit : ℕ) (P : ℕ → List ℕ → ℕ → Type 0) → ((skip : ℕ) → P skip [] skip) → ((skip b : ℕ) (s : List ℕ) (p : ℕ) → P skip s p → P (suc skip) (b ∷ s) (suc p)) →
-      ((b : ℕ) (s : List ℕ) (frame : ℕ × List ℕ) (p : ℕ) → first_frame_under r limit (b ∷ s) ≡ Ok frame → P (nla_align frame.0 - 1) s p → P 0 (b ∷ s) (suc p)) →
-      ((b : ℕ) (s : List ℕ) (kind : FaultKind) → first_frame_under r limit (b ∷ s) ≡ Err kind → P 0 (b ∷ s) 0) → (skip : ℕ) (s : List ℕ) → P skip s (offset_after limit skip s)
-  unfolding offset_after
-  by_offset limit P nil pass step stop skip [] = nil skip
-  by_offset limit P nil pass step stop (suc skip) (b ∷ s) = pass skip b s _ (by_offset limit P nil pass step stop skip s)
-  by_offset limit P nil pass step stop zero (b ∷ s) =
-      elim (seen (first_frame_under r limit (b ∷ s))) [
-        | inl w ↦ subst (P 0 (b ∷ s)) (sym (step_offset limit b s w.0 w.1)) (step b s w.0 _ w.1 (by_offset limit P nil pass step stop (nla_align w.0.0 - 1) s))
-        | inr w ↦ subst (P 0 (b ∷ s)) (sym (stop_offset limit b s w.0 w.1)) (stop b s w.0 w.1)
-      ]
+  -- The same, where the padding of the last frame may be missing: then nothing follows the frame.
+  by_whole_frames : (limit : ℕ) (P : List ℕ → Type 0) →
+      ((c : List ℕ) (frame : ℕ × List ℕ) → first_frame_under r limit c ≡ Ok frame → nla_align frame.0 ≤ length c → P (drop (nla_align frame.0) c) → P c) →
+      ((c : List ℕ) (frame : ℕ × List ℕ) → first_frame_under r limit c ≡ Ok frame → length c < nla_align frame.0 → drop (nla_align frame.0) c ≡ [] → P c) →
+      ((c : List ℕ) (kind : FaultKind) → first_frame_under r limit c ≡ Err kind → P c) → (c : List ℕ) → P c
+  by_whole_frames limit P more last stop =
+      by_frames limit P
+      (λ c frame h following.
+      elim (cases_lt (length c) (nla_align frame.0)) [
+        | inl l ↦ last c frame h l (drop_all (nla_align frame.0) c (omega (arith, l)))
+        | inr l ↦ more c frame h (omega (arith, l)) following
+      ])
+      stop
 
   -- an accepted first frame stays accepted if bytes are appended
-  frame-more : (limit b : ℕ) (s p : List ℕ) (frame : ℕ × List ℕ) → first_frame_under r limit (b ∷ s) ≡ Ok frame → first_frame_under r limit (b ∷ (s ++ p)) ≡ Ok frame
-  frame-more limit b s p frame h = first_frame-more limit (b ∷ s) p (not_cut (first_frame_under r limit (b ∷ s)) frame h) ∙ h
+  frame-more : (limit : ℕ) (s p : List ℕ) (frame : ℕ × List ℕ) → first_frame_under r limit s ≡ Ok frame → first_frame_under r limit (s ++ p) ≡ Ok frame
+  frame-more limit s p frame h = first_frame-more limit s p (not_cut (first_frame_under r limit s) frame h) ∙ h
+
+  -- frames before those of other bytes
+  abbrev before : List Frame → Split → Split
+  before frames s = record { frames = frames ++ s.frames; fault = s.fault }
+
+  -- the first frame of some bytes
+  abbrev frame_in : List ℕ → ℕ × List ℕ → Frame
+  frame_in s frame = record { bytes = take frame.0 s; text = frame.1 }
+
+  first_frame_of : (limit : ℕ) (s q : List ℕ) (frame : ℕ × List ℕ) → first_frame_under r limit s ≡ Ok frame → frame_in (s ++ q) frame ≡ frame_in s frame
+  first_frame_of limit s q frame h = ap (λ b. record { bytes = b; text = frame.1 }) (take-append-le frame.0 s q (accepted limit s frame h).whole)
+
+  -- The frames of a longer string: those of its prefix, and those of the bytes after the prefix's whole frames.
+  split-append : (limit : ℕ) (q s : List ℕ) → split r limit (s ++ q) ≡ before (split r limit s).frames (split r limit (drop (end_offset limit s) (s ++ q)))
+  split-append limit q =
+      by_whole_frames limit (λ s. split r limit (s ++ q) ≡ before (split r limit s).frames (split r limit (drop (end_offset limit s) (s ++ q))))
+      (λ s frame h whole more.
+      let n = nla_align frame.0 in
+      let rest = drop n s in
+      let there : drop n (s ++ q) ≡ rest ++ q = drop-append-le n s q whole in
+      let first = first_frame_of limit s q frame h in
+      let far : drop (end_offset limit rest) (rest ++ q) ≡ drop (end_offset limit s) (s ++ q) =
+      ap (drop (end_offset limit rest)) (sym there) ∙ drop-drop (end_offset limit rest) n (s ++ q) ∙ ap (λ k. drop k (s ++ q)) (sym (end_step limit s frame h)) in
+      split_step limit (s ++ q) frame (frame-more limit s q frame h)
+      ∙ ap (λ f. before (f ∷ []) (split r limit (drop n (s ++ q)))) first
+      ∙ ap (λ x. before (frame_in s frame ∷ []) (split r limit x)) there
+      ∙ ap (before (frame_in s frame ∷ [])) more
+      ∙ ap (λ x. before (frame_in s frame ∷ (split r limit rest).frames) (split r limit x)) far
+      ∙ ap (λ x. before x.frames (split r limit (drop (end_offset limit s) (s ++ q)))) (sym (split_step limit s frame h)))
+      (λ s frame h short none.
+      let n = nla_align frame.0 in
+      let end : n ≡ end_offset limit s = omega (arith, end_step limit s frame h, ap (end_offset limit) none, end_nil limit) in
+      let alone : split r limit s ≡ record { frames = frame_in s frame ∷ []; fault = None } =
+      split_step limit s frame h ∙ ap (λ x. before (frame_in s frame ∷ []) (split r limit x)) none ∙ ap (before (frame_in s frame ∷ [])) (split_nil limit) in
+      split_step limit (s ++ q) frame (frame-more limit s q frame h)
+      ∙ ap (λ f. before (f ∷ []) (split r limit (drop n (s ++ q)))) (first_frame_of limit s q frame h)
+      ∙ ap (λ k. before (frame_in s frame ∷ []) (split r limit (drop k (s ++ q)))) end
+      ∙ ap (λ x. before x.frames (split r limit (drop (end_offset limit s) (s ++ q)))) (sym alone))
+      (λ s kind h.
+      ap (λ k. before [] (split r limit (drop k (s ++ q)))) (sym (end_stop limit s kind h))
+      ∙ ap (λ x. before x (split r limit (drop (end_offset limit s) (s ++ q)))) (sym (no_frames limit s kind h)))
 
   -- The texts of a longer string: those of its prefix, and those of the bytes after the prefix's whole frames.
-  pub texts-append : (limit skip : ℕ) (s p : List ℕ) → texts_after_under r limit skip (s ++ p) ≡ texts_after_under r limit skip s ++ texts_under r limit (drop (offset_after limit skip s) (s ++ p))
-  unfolding texts_after_under
-  texts-append limit skip s q =
-      by_offset limit (λ skip s p. texts_after_under r limit skip (s ++ q) ≡ texts_after_under r limit skip s ++ texts_under r limit (drop p (s ++ q)))
-      (λ skip. texts_skip limit skip q)
-      (λ skip b s p more. more)
-      (λ b s frame p h more.
-      step_texts limit b (s ++ q) frame (frame-more limit b s q frame h) ∙ ap (λ t. frame.1 ++ t) more ∙ sym (append_assoc frame.1 _ _)
-      ∙ ap (λ t. t ++ texts_under r limit (drop p (s ++ q))) (sym (step_texts limit b s frame h)))
-      (λ b s kind h. ap (λ t. t ++ texts_under r limit (b ∷ (s ++ q))) (sym (stop_texts limit b s kind h))) skip s
+  pub texts-append : (limit : ℕ) (s p : List ℕ) → texts_under r limit (s ++ p) ≡ texts_under r limit s ++ texts_under r limit (drop (end_offset limit s) (s ++ p))
+  texts-append limit s p = ap (λ x. flat_map (λ f. f.text) x.frames) (split-append limit p s) ∙ flat_map-append (λ f. f.text) (split r limit s).frames _
 
   -- The first fault of a longer string is that of the bytes after the prefix's whole frames.
-  pub fault-append : (limit skip : ℕ) (s p : List ℕ) → fault_after_under r limit skip (s ++ p) ≡ shifted (offset_after limit skip s) (first_fault_under r limit (drop (offset_after limit skip s) (s ++ p)))
-  unfolding fault_after_under
-  fault-append limit skip s q =
-      by_offset limit (λ skip s p. fault_after_under r limit skip (s ++ q) ≡ shifted p (first_fault_under r limit (drop p (s ++ q))))
-      (λ skip. fault_skip limit skip q)
-      (λ skip b s p more. ap (shifted 1) more ∙ shifted_add 1 p (suc p) _ (omega arith))
-      (λ b s frame p h more. step_fault limit b (s ++ q) frame (frame-more limit b s q frame h) ∙ ap (shifted 1) more ∙ shifted_add 1 p (suc p) _ (omega arith))
-      (λ b s kind h. sym (shifted_zero (first_fault_under r limit (b ∷ (s ++ q))))) skip s
+  pub fault-append : (limit : ℕ) (s p : List ℕ) → first_fault_under r limit (s ++ p) ≡ shifted (end_offset limit s) (first_fault_under r limit (drop (end_offset limit s) (s ++ p)))
+  fault-append limit s p =
+      let rest = split r limit (drop (end_offset limit s) (s ++ p)) in
+      ap (λ x. option_map (λ k. record { kind = k; offset = padded_size x.frames }) x.fault) (split-append limit p s)
+      ∙ fault_moved (end_offset limit s) (padded_size rest.frames) _ rest.fault (sum_by-append (λ f. nla_align (length f.bytes)) (split r limit s).frames rest.frames)
 
-  -- The bytes before the offset are legal and have these texts, and whole frames reach at least past the skipped bytes.
-  pub record Base (limit : ℕ) (q : List ℕ) (skip : ℕ) (s : List ℕ) (p : ℕ) : Type 0 where
-    pub low : skip ≤ p
-    pub legal : fault_after_under r limit skip (take p (s ++ q)) ≡ None
-    pub texts : texts_after_under r limit skip (take p (s ++ q)) ≡ texts_after_under r limit skip s
+  -- a frame with these bytes before those of other bytes
+  abbrev listed : List ℕ → ℕ × List ℕ → Split → Split
+  listed b frame rest = record { frames = record { bytes = b; text = frame.1 } ∷ rest.frames; fault = rest.fault }
 
-  pub base : (limit skip : ℕ) (s q : List ℕ) → Base limit q skip s (offset_after limit skip s)
-  unfolding fault_after_under texts_after_under
-  base limit skip s q =
-      by_offset limit (Base limit q)
-      (λ skip.
-      let none : drop skip (take skip q) ≡ [] = drop_all skip (take skip q) (omega (arith, length-take skip q)) in record {
-        low = omega arith;
-        legal = fault_skip limit skip (take skip q) ∙ ap (λ c. shifted skip (first_fault_under r limit c)) none;
-        texts = texts_skip limit skip (take skip q) ∙ ap (texts_under r limit) none;
-      })
-      (λ skip b s p more. record { low = omega (arith, more.low); legal = ap (shifted 1) more.legal; texts = more.texts })
-      (λ b s frame p h more.
-      let k = first_frame-take limit (b ∷ (s ++ q)) (suc p) frame (frame-more limit b s q frame h) (omega (arith, more.low)) in record {
-        low = omega arith;
-        legal = step_fault limit b (take p (s ++ q)) frame k ∙ ap (shifted 1) more.legal;
-        texts = step_texts limit b (take p (s ++ q)) frame k ∙ ap (λ t. frame.1 ++ t) more.texts ∙ sym (step_texts limit b s frame h);
-      })
-      (λ b s kind h. record { low = omega arith; legal = refl; texts = sym (stop_texts limit b s kind h) }) skip s
+  kept : (limit : ℕ) (s q : List ℕ) (frame : ℕ × List ℕ) → first_frame_under r limit s ≡ Ok frame → frame.0 ≤ end_offset limit s → take frame.0 (take (end_offset limit s) (s ++ q)) ≡ take frame.0 s
+  kept limit s q frame h l = take-take frame.0 (end_offset limit s) (s ++ q) l ∙ take-append-le frame.0 s q (accepted limit s frame h).whole
+
+  -- The bytes up to the offset have the same frames, and no fault.
+  split-base : (limit : ℕ) (q s : List ℕ) → split r limit (take (end_offset limit s) (s ++ q)) ≡ record { frames = (split r limit s).frames; fault = None }
+  split-base limit q =
+      by_whole_frames limit (λ s. split r limit (take (end_offset limit s) (s ++ q)) ≡ record { frames = (split r limit s).frames; fault = None })
+      (λ s frame h whole more.
+      let n = nla_align frame.0 in
+      let rest = drop n s in
+      let end = end_step limit s frame h in
+      let x = take (end_offset limit s) (s ++ q) in
+      let k = first_frame-take limit (s ++ q) (end_offset limit s) frame (frame-more limit s q frame h) (omega (arith, end)) in
+      let tail : drop n x ≡ take (end_offset limit rest) (rest ++ q) =
+      ap (λ m. drop n (take m (s ++ q))) end ∙ drop-take n (end_offset limit rest) (s ++ q) ∙ ap (take (end_offset limit rest)) (drop-append-le n s q whole) in
+      split_step limit x frame k ∙ ap (λ b. listed b frame (split r limit (drop n x))) (kept limit s q frame h (omega (arith, end)))
+      ∙ ap (λ y. listed (take frame.0 s) frame (split r limit y)) tail
+      ∙ ap (listed (take frame.0 s) frame) more
+      ∙ ap (λ y. record { frames = y.frames; fault = None }) (sym (split_step limit s frame h)))
+      (λ s frame h short none.
+      let n = nla_align frame.0 in
+      let end : end_offset limit s ≡ n = omega (arith, end_step limit s frame h, ap (end_offset limit) none, end_nil limit) in
+      let x = take (end_offset limit s) (s ++ q) in
+      let k = first_frame-take limit (s ++ q) (end_offset limit s) frame (frame-more limit s q frame h) (omega (arith, end)) in
+      let tail : drop n x ≡ [] = drop_all n x (omega (arith, length-take (end_offset limit s) (s ++ q), end)) in
+      split_step limit x frame k ∙ ap (λ b. listed b frame (split r limit (drop n x))) (kept limit s q frame h (omega (arith, end)))
+      ∙ ap (λ y. listed (take frame.0 s) frame (split r limit y)) tail
+      ∙ ap (listed (take frame.0 s) frame) (split_nil limit)
+      ∙ ap (λ y. record { frames = record { bytes = take frame.0 s; text = frame.1 } ∷ y.frames; fault = None }) (sym (ap (split r limit) none ∙ split_nil limit))
+      ∙ ap (λ y. record { frames = y.frames; fault = None }) (sym (split_step limit s frame h)))
+      (λ s kind h.
+      ap (λ k. split r limit (take k (s ++ q))) (end_stop limit s kind h) ∙ split_nil limit
+      ∙ ap (λ f. record { frames = f; fault = None }) (sym (no_frames limit s kind h)))
+
+  pub base_legal : (limit : ℕ) (s q : List ℕ) → first_fault_under r limit (take (end_offset limit s) (s ++ q)) ≡ None
+  base_legal limit s q = ap (λ x. option_map (λ k. record { kind = k; offset = padded_size x.frames }) x.fault) (split-base limit q s)
+
+  pub base_texts : (limit : ℕ) (s q : List ℕ) → texts_under r limit (take (end_offset limit s) (s ++ q)) ≡ texts_under r limit s
+  base_texts limit s q = ap (λ x. flat_map (λ f. f.text) x.frames) (split-base limit q s)
 
   -- the offset is a multiple of 4, and at most 3 past the end
   pub offset_fits : (limit : ℕ) (c : List ℕ) → (end_offset limit c % 4 ≡ 0) × (end_offset limit c ≤ length c + 3)
-  offset_fits limit c =
-      let f =
-      by_offset limit (λ skip s p. (a : ℕ) → (a + skip) % 4 ≡ 0 → skip ≤ length s + 3 → ((a + p) % 4 ≡ 0) × (p ≤ length s + 3))
-      (λ skip a h l. (h, l))
-      (λ skip b s p more a h l. let k = more (a + 1) (omega arith) (omega arith) in (omega (arith, k.0), omega (arith, k.1)))
-      (λ b s frame p h more a z l.
-      let f = accepted limit (b ∷ s) frame h in
-      let k = more (a + 1) (omega (arith, f.low)) (omega (arith, f.whole)) in (omega (arith, k.0), omega (arith, k.1)))
-      (λ b s kind h a z l. (z, omega arith)) 0 c 0 refl (omega arith) in (omega (arith, f.0), f.1)
+  offset_fits limit =
+      by_whole_frames limit (λ c. (end_offset limit c % 4 ≡ 0) × (end_offset limit c ≤ length c + 3))
+      (λ c frame h whole more.
+      let end = end_step limit c frame h in
+      let size = length-drop (nla_align frame.0) c in
+      (omega (arith, end, more.0), omega (arith, end, more.1, size, whole)))
+      (λ c frame h short none.
+      let end : end_offset limit c ≡ nla_align frame.0 = omega (arith, end_step limit c frame h, ap (end_offset limit) none, end_nil limit) in
+      (omega (arith, end), omega (arith, end, (accepted limit c frame h).whole)))
+      (λ c kind h. let end = end_stop limit c kind h in (omega (arith, end), omega (arith, end)))
 
   -- At the offset the bytes end, or there is a fault.
-  pub record Stuck (limit skip : ℕ) (s : List ℕ) (p : ℕ) (kind : FaultKind) : Type 0 where
+  pub record Stuck (limit : ℕ) (s : List ℕ) (p : ℕ) (kind : FaultKind) : Type 0 where
     pub inside : p < length s
     pub first_frame_is : first_frame_under r limit (drop p s) ≡ Err kind
-    pub fault_is : fault_after_under r limit skip s ≡ Some (record { kind = kind; offset = p })
+    pub fault_is : first_fault_under r limit s ≡ Some (record { kind = kind; offset = p })
 
-  pub record Over (limit skip : ℕ) (s : List ℕ) (p : ℕ) : Type 0 where
+  pub record Over (limit : ℕ) (s : List ℕ) (p : ℕ) : Type 0 where
     pub outside : length s ≤ p
-    pub fault_is : fault_after_under r limit skip s ≡ None
+    pub fault_is : first_fault_under r limit s ≡ None
 
-  abbrev pub Stops : ℕ → ℕ → List ℕ → ℕ → Type 0
-  Stops limit skip s p = Over limit skip s p ⊎ ((kind : FaultKind) × Stuck limit skip s p kind)
+  abbrev pub Stops : ℕ → List ℕ → ℕ → Type 0
+  Stops limit s p = Over limit s p ⊎ ((kind : FaultKind) × Stuck limit s p kind)
 
-  stops_further : (limit skip skip' b : ℕ) (s : List ℕ) (p : ℕ) → fault_after_under r limit skip' (b ∷ s) ≡ shifted 1 (fault_after_under r limit skip s) → Stops limit skip s p → Stops limit skip' (b ∷ s) (suc p)
-  stops_further limit skip skip' b s p e (inl w) = inl (record { outside = omega (arith, w.outside); fault_is = e ∙ ap (shifted 1) w.fault_is })
-  stops_further limit skip skip' b s p e (inr w) = inr (
-    w.0,
-    record { inside = omega (arith, w.1.inside); first_frame_is = w.1.first_frame_is; fault_is = e ∙ ap (shifted 1) w.1.fault_is ∙ shifted_one w.0 p },
-  )
+  stops_further : (limit : ℕ) (c : List ℕ) (frame : ℕ × List ℕ) → first_frame_under r limit c ≡ Ok frame → (p : ℕ) → Stops limit (drop (nla_align frame.0) c) p → Stops limit c (nla_align frame.0 + p)
+  stops_further limit c frame h p (inl w) =
+      inl (record { outside = omega (arith, w.outside, length-drop (nla_align frame.0) c); fault_is = fault_step limit c frame h ∙ ap (shifted (nla_align frame.0)) w.fault_is })
+  stops_further limit c frame h p (inr w) =
+      let n = nla_align frame.0 in
+      let there : drop p (drop n c) ≡ drop (n + p) c = drop-drop p n c in
+      inr (
+        w.0,
+        record {
+          inside = omega (arith, w.1.inside, length-drop n c);
+          first_frame_is = ap (first_frame_under r limit) (sym there) ∙ w.1.first_frame_is;
+          fault_is = fault_step limit c frame h ∙ ap (shifted n) w.1.fault_is;
+        },
+      )
 
-  pub stops : (limit skip : ℕ) (s : List ℕ) → Stops limit skip s (offset_after limit skip s)
-  unfolding fault_after_under
+  pub stops : (limit : ℕ) (s : List ℕ) → Stops limit s (end_offset limit s)
   stops limit =
-      by_offset limit (Stops limit)
-      (λ skip. inl (record { outside = omega arith; fault_is = refl }))
-      (λ skip b s p more. stops_further limit skip (suc skip) b s p refl more)
-      (λ b s frame p h more. stops_further limit (nla_align frame.0 - 1) 0 b s p (step_fault limit b s frame h) more)
-      (λ b s kind h. inr (kind, record { inside = omega arith; first_frame_is = h; fault_is = stop_fault limit b s kind h }))
+      by_frames limit (λ c. Stops limit c (end_offset limit c))
+      (λ c frame h more. subst (Stops limit c) (sym (end_step limit c frame h)) (stops_further limit c frame h _ more))
+      (λ c kind h. subst (Stops limit c) (sym (end_stop limit c kind h)) (stopped c kind h))
+    where
+      stopped : (c : List ℕ) (kind : FaultKind) → first_frame_under r limit c ≡ Err kind → Stops limit c 0
+      stopped [] kind h = inl (record { outside = omega arith; fault_is = fault_nil limit })
+      stopped (b ∷ c) kind h = inr (kind, record { inside = omega arith; first_frame_is = h; fault_is = fault_stop limit (b ∷ c) kind (omega arith) h })
 
   -- A legal string reaches to the next multiple of 4.
   pub offset_legal : (limit : ℕ) (c : List ℕ) → IsLegalUnder r limit c → end_offset limit c ≡ nla_align (length c)
   offset_legal limit c h =
       let fits = offset_fits limit c in
-      elim (stops limit 0 c) [
+      elim (stops limit c) [
         | inl w ↦ omega (arith, w.outside, fits.0, fits.1)
         | inr w ↦ (let f = w.1.fault_is in cc)
       ]
@@ -386,7 +466,7 @@ module _ (r : Rule) where
   -- The offset is that of the first fault, or the next multiple of 4.
   pub reach_offset : (limit : ℕ) (c : List ℕ) → end_offset limit c ≡ reach_under r limit c
   reach_offset limit c =
-      elim (stops limit 0 c) [
+      elim (stops limit c) [
         | inl w ↦ offset_legal limit c w.fault_is ∙ ap (reach_by (length c)) (sym w.fault_is)
         | inr w ↦ ap (reach_by (length c)) (sym w.1.fault_is)
       ]
@@ -395,12 +475,12 @@ module _ (r : Rule) where
   pub joined_texts : (limit : ℕ) (a b : List ℕ) → IsLegalUnder r limit a → length a % 4 ≡ 0 → texts_under r limit (a ++ b) ≡ texts_under r limit a ++ texts_under r limit b
   joined_texts limit a b h m =
       let e : end_offset limit a ≡ length a = offset_legal limit a h ∙ omega arith in
-      texts-append limit 0 a b ∙ ap (λ n. texts_under r limit a ++ texts_under r limit (drop n (a ++ b))) e ∙ ap (λ c. texts_under r limit a ++ texts_under r limit c) (drop_at a b (length a) refl)
+      texts-append limit a b ∙ ap (λ n. texts_under r limit a ++ texts_under r limit (drop n (a ++ b))) e ∙ ap (λ c. texts_under r limit a ++ texts_under r limit c) (drop_at a b (length a) refl)
 
   pub joined_fault : (limit : ℕ) (a b : List ℕ) → IsLegalUnder r limit a → length a % 4 ≡ 0 → first_fault_under r limit (a ++ b) ≡ shifted (length a) (first_fault_under r limit b)
   joined_fault limit a b h m =
       let e : end_offset limit a ≡ length a = offset_legal limit a h ∙ omega arith in
-      fault-append limit 0 a b ∙ ap (λ n. shifted n (first_fault_under r limit (drop n (a ++ b)))) e ∙ ap (λ c. shifted (length a) (first_fault_under r limit c)) (drop_at a b (length a) refl)
+      fault-append limit a b ∙ ap (λ n. shifted n (first_fault_under r limit (drop n (a ++ b)))) e ∙ ap (λ c. shifted (length a) (first_fault_under r limit c)) (drop_at a b (length a) refl)
 
   -- an accepted frame with its padding, or a part of that, and nothing else
   pub one_fault : (limit : ℕ) (c : List ℕ) (frame : ℕ × List ℕ) → first_frame_under r limit c ≡ Ok frame → first_fault_under r limit (take (nla_align frame.0) c) ≡ None
@@ -408,20 +488,20 @@ module _ (r : Rule) where
       let n : ℕ = nla_align frame.0 in
       fault_step limit (take n c) frame (first_frame-take limit c n frame h (omega arith))
       ∙ ap (λ x. shifted n (first_fault_under r limit x)) (drop_all n (take n c) (omega (arith, length-take n c)))
-      ∙ ap (shifted n) (fault_nil limit 0)
+      ∙ ap (shifted n) (fault_nil limit)
 
   pub one_frame_text : (limit : ℕ) (c : List ℕ) (frame : ℕ × List ℕ) → first_frame_under r limit c ≡ Ok frame → texts_under r limit (take (nla_align frame.0) c) ≡ frame.1
   one_frame_text limit c frame h =
       let n : ℕ = nla_align frame.0 in
       texts_step limit (take n c) frame (first_frame-take limit c n frame h (omega arith))
       ∙ ap (λ x. frame.1 ++ texts_under r limit x) (drop_all n (take n c) (omega (arith, length-take n c)))
-      ∙ ap (λ t. frame.1 ++ t) (texts_nil limit 0)
+      ∙ ap (λ t. frame.1 ++ t) (texts_nil limit)
       ∙ append-nil frame.1
 
   -- the first fault is at the end of the whole frames
   pub fault_offset : (limit : ℕ) (c : List ℕ) (fault : CaptureFault) → first_fault_under r limit c ≡ Some fault → end_offset limit c ≡ fault.offset
   fault_offset limit c fault h =
-      elim (stops limit 0 c) [
+      elim (stops limit c) [
         | inl w ↦ (let f = w.fault_is in cc)
         | inr w ↦ (let f = w.1.fault_is in cc)
       ]
@@ -429,7 +509,7 @@ module _ (r : Rule) where
   pub fault_inside : (limit : ℕ) (c : List ℕ) (fault : CaptureFault) → first_fault_under r limit c ≡ Some fault → (fault.offset < length c) × (fault.offset % 4 ≡ 0)
   fault_inside limit c fault h =
       let at = fault_offset limit c fault h in
-      elim (stops limit 0 c) [
+      elim (stops limit c) [
         | inl w ↦ (let f = w.fault_is in cc)
         | inr w ↦ (omega (arith, w.1.inside, at), omega (arith, (offset_fits limit c).0, at))
       ]
@@ -442,7 +522,7 @@ module _ (r : Rule) where
 
   pub fault_kinds : (limit : ℕ) (c : List ℕ) (fault : CaptureFault) → first_fault_under r limit c ≡ Some fault → IsOfFrames fault.kind
   fault_kinds limit c fault h =
-      elim (stops limit 0 c) [
+      elim (stops limit c) [
         | inl w ↦ (let f = w.fault_is in absurd (cc))
         | inr w ↦ (let f = w.1.fault_is in let e : w.0 ≡ fault.kind = cc in subst IsOfFrames e (first_frame_kinds limit _ w.0 w.1.first_frame_is))
       ]
@@ -450,7 +530,7 @@ module _ (r : Rule) where
   -- a fault of a prefix, other than a cut frame, is that of the whole
   pub fault_more : (limit : ℕ) (a b : List ℕ) (fault : CaptureFault) → first_fault_under r limit a ≡ Some fault → fault.kind ≢ Cut → first_fault_under r limit (a ++ b) ≡ Some fault
   fault_more limit a b fault h n =
-      elim (stops limit 0 a) [
+      elim (stops limit a) [
         | inl w ↦ (let f = w.fault_is in absurd (cc))
         | inr w ↦
             let at : ℕ = end_offset limit a in
@@ -460,7 +540,7 @@ module _ (r : Rule) where
             let d = drop at a in
             let kept : first_frame_under r limit (d ++ b) ≡ Err w.0 = first_frame-more limit d b (λ e. n (let g = w.1.first_frame_is in cc)) ∙ w.1.first_frame_is in
             let z : at + 0 ≡ fault.offset = omega (arith, o) in
-            fault-append limit 0 a b
+            fault-append limit a b
             ∙ ap (λ x. shifted at (first_fault_under r limit x)) (drop-append-le at a b (omega (arith, w.1.inside)))
             ∙ ap (shifted at) (fault_stop limit (d ++ b) w.0 (omega (arith, length-append d b, length-drop at a, w.1.inside)) kept)
             ∙ ap (λ x. Some (record { kind = w.0; offset = x })) z

@@ -11,5 +11,6 @@ pub mod Padding
 pub mod SameFrames
 pub mod Keeping
 pub mod Unlisted
+pub mod WholeFrames
 pub mod SmallFrames
 pub mod EveryRule

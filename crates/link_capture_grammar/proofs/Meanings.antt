@@ -11,11 +11,11 @@ use Rattle.attribute_tables_grammar.specs.Rules.{Rule, Lawful}
 use Rattle.link_capture_grammar.specs.Bodies.{done_text, ruled_text, body_text_under}
 use Rattle.link_capture_grammar.specs.Captures.{first_frame_under, texts_under, IsLegalUnder}
 use Rattle.link_capture_grammar.specs.Laws.{BodiesDetermineMeanings, TextsDetermineMeanings}
-use Rattle.link_capture_grammar.specs.Same.{done_body, same_body_under, SameFrameUnder, SameFramesUnder, SameCaptureUnder}
+use Rattle.link_capture_grammar.specs.Same.{done_body, same_body_under, SameFrameUnder}
 use Rattle.link_capture_grammar.proofs.Bodies.{by_type}
 use Rattle.link_capture_grammar.proofs.Frames.{accepted, guard, texts_step}
 use Rattle.link_capture_grammar.proofs.Normal.{header_size, ruled, texted}
-use Rattle.link_capture_grammar.proofs.Same.{equal_bytes, error_is, texts_mean_the_same}
+use Rattle.link_capture_grammar.proofs.Same.{InStep, InSteps, equal_bytes, error_is, of_steps, texts_in_step, to_steps}
 
 -- ---- bodies and first frames
 
@@ -122,7 +122,7 @@ module _ (r : Rule) (lawful : Lawful r) where
 
   -- ---- captures
 
-  determined : (limit n : ℕ) (a b : List ℕ) → SameFramesUnder r limit n a b → texts_under r limit a ≡ texts_under r limit b
+  determined : (limit n : ℕ) (a b : List ℕ) → InStep r limit n a b → texts_under r limit a ≡ texts_under r limit b
   determined limit zero a b s = ap (texts_under r limit) (s.0 ∙ sym s.1)
   determined limit (suc n) a b s =
       let x = s.0 in
@@ -132,14 +132,14 @@ module _ (r : Rule) (lawful : Lawful r) where
       ∙ ap (λ t. y.1 ++ t) (determined limit n (drop (nla_align x.0) a) (drop (nla_align y.0) b) s.5)
       ∙ sym (texts_step r limit b y s.3)
 
-  symmetric : (limit n : ℕ) (a b : List ℕ) → SameFramesUnder r limit n a b → SameFramesUnder r limit n b a
+  symmetric : (limit n : ℕ) (a b : List ℕ) → InStep r limit n a b → InStep r limit n b a
   symmetric limit zero a b s = (s.1, s.0)
   symmetric limit (suc n) a b s =
       let x = s.0 in
       let y = s.1 in
       (y, x, s.3, s.2, frame_symmetric limit a b x y s.2 s.3 s.4, symmetric limit n (drop (nla_align x.0) a) (drop (nla_align y.0) b) s.5)
 
-  transitive : (limit n m : ℕ) (a b c : List ℕ) → SameFramesUnder r limit n a b → SameFramesUnder r limit m b c → SameFramesUnder r limit n a c
+  transitive : (limit n m : ℕ) (a b c : List ℕ) → InStep r limit n a b → InStep r limit m b c → InStep r limit n a c
   transitive limit zero zero a b c s on = (s.0, on.1)
   transitive limit zero (suc m) a b c s on = absurd (not_nil r limit b on.0 s.1 on.2)
   transitive limit (suc n) zero a b c s on = absurd (not_nil r limit b s.1 on.0 s.3)
@@ -148,23 +148,26 @@ module _ (r : Rule) (lawful : Lawful r) where
       let y = s.1 in
       let z = on.1 in
       let e : on.0 ≡ y = (let f = sym on.2 ∙ s.3 in cc) in
-      let rest : SameFramesUnder r limit m (drop (nla_align y.0) b) (drop (nla_align z.0) c) = subst (λ (w : ℕ × List ℕ). SameFramesUnder r limit m (drop (nla_align w.0) b) (drop (nla_align z.0) c)) e on.5 in
+      let rest : InStep r limit m (drop (nla_align y.0) b) (drop (nla_align z.0) c) = subst (λ (w : ℕ × List ℕ). InStep r limit m (drop (nla_align w.0) b) (drop (nla_align z.0) c)) e on.5 in
       (x, z, s.2, on.3, frame_transitive limit a b c x y z s.2 s.3 on.3 s.4 on.4, transitive limit n m (drop (nla_align x.0) a) (drop (nla_align y.0) b) (drop (nla_align z.0) c) s.5 rest)
 
-  determines : (limit : ℕ) (a b : List ℕ) → limit < 2 ^ 32 → IsLegalUnder r limit a → IsLegalUnder r limit b → texts_under r limit a ≡ texts_under r limit b → SameCaptureUnder r limit a b
+  determines : (limit : ℕ) (a b : List ℕ) → limit < 2 ^ 32 → IsLegalUnder r limit a → IsLegalUnder r limit b → texts_under r limit a ≡ texts_under r limit b → InSteps r limit a b
   determines limit a b l p q e =
-      let i = texts_mean_the_same r lawful limit a l p in
-      let j = texts_mean_the_same r lawful limit b l q in
-      let there : SameFramesUnder r limit i.0 a (texts_under r limit b) = subst (λ t. SameFramesUnder r limit i.0 a t) e i.1 in
+      let i = texts_in_step r lawful limit a l p in
+      let j = texts_in_step r lawful limit b l q in
+      let there : InStep r limit i.0 a (texts_under r limit b) = subst (λ t. InStep r limit i.0 a t) e i.1 in
       (i.0, transitive limit i.0 j.0 a (texts_under r limit b) b there (symmetric limit j.0 b (texts_under r limit b) j.1))
 
   pub texts_determine_meanings : TextsDetermineMeanings r
   texts_determine_meanings = record {
-    same_implies_equal_text = λ limit a b s. determined limit s.0 a b s.1;
-    equal_text_implies_same = determines;
-    reflexive = λ limit a l h. determines limit a a l h h refl;
-    symmetric = λ limit a b s. (s.0, symmetric limit s.0 a b s.1);
-    transitive = λ limit a b c s on. (s.0, transitive limit s.0 on.0 a b c s.1 on.1);
+    same_implies_equal_text = λ limit a b s. let w = to_steps r limit a b s in determined limit w.0 a b w.1;
+    equal_text_implies_same = λ limit a b l p q e. of_steps r limit a b (determines limit a b l p q e);
+    reflexive = λ limit a l h. of_steps r limit a a (determines limit a a l h h refl);
+    symmetric = λ limit a b s. let w = to_steps r limit a b s in of_steps r limit b a (w.0, symmetric limit w.0 a b w.1);
+    transitive = λ limit a b c s on.
+        let w = to_steps r limit a b s in
+        let v = to_steps r limit b c on in
+        of_steps r limit a c (w.0, transitive limit w.0 v.0 a b c w.1 v.1);
   }
 
   pub bodies_determine_meanings : BodiesDetermineMeanings r

@@ -1,5 +1,5 @@
 -- A normal text is legal and already canonical; the text of an older rule is migrated to that of the rule.
-use Rattle.std.proofs.Common.{◌≡◌, ℕ, zero, suc, Bool, ◌+◌, ◌-◌, ◌^◌, ◌<◌, ◌≤◌, ltb, eqb, true, false, cond, Result, List, [], ◌∷◌, ◌++◌, length, take, drop, Ok, Err, refl, sym, ap, subst, ◌∙◌, inl, inr, arith, length-append, length-drop, append_assoc}
+use Rattle.std.proofs.Common.{◌≡◌, ℕ, Bool, ◌+◌, ◌-◌, ◌^◌, ◌<◌, ◌≤◌, ltb, eqb, true, false, cond, Result, List, [], ◌∷◌, ◌++◌, length, take, drop, Ok, Err, refl, sym, ap, subst, ◌∙◌, inl, inr, arith, length-append, length-drop, append_assoc}
 use Rattle.std.proofs.lemmas.List.{take_at, drop_at, length-take, length-replicate, drop-drop, take-append-drop}
 use Rattle.std.proofs.lemmas.Bool.{le-ltb, ltb-false}
 use Rattle.netlink_packet_core_grammar.specs.Attributes.{nla_align, zeros}
@@ -10,8 +10,8 @@ use Rattle.netlink_packet_core_grammar.proofs.Sizes.{length-le4}
 use Rattle.attribute_tables_grammar.specs.Rules.{Rule, Migrates}
 use Rattle.link_capture_grammar.specs.declared.fault.FaultKind.TheVariants.{TextOverLimit}
 use Rattle.link_capture_grammar.specs.Bodies.{Refusal, error_text, done_text, ruled_text, is_link_type, body_text_under}
-use Rattle.link_capture_grammar.specs.Captures.{Judged, first_frame_under, judged_text, checked_header, shifted, texts_after_under, first_fault_under, texts_under, IsLegalUnder}
-use Rattle.link_capture_grammar.proofs.Frames.{accepted, first_frame_is, judgement, seen, step_texts, stop_texts, fault_step, texts_step, fault_nil, texts_nil, offset_after, step_offset, stop_offset, guard}
+use Rattle.link_capture_grammar.specs.Captures.{Judged, first_frame_under, judged_text, checked_header, shifted, first_fault_under, texts_under, IsLegalUnder}
+use Rattle.link_capture_grammar.proofs.Frames.{accepted, by_frames, end_offset, end_step, end_stop, first_frame_is, judgement, seen, fault_step, texts_step, texts_stop, fault_nil, texts_nil, guard}
 
 -- ---- the text of a body is already canonical
 
@@ -186,15 +186,15 @@ module _ (r s : Rule) (migrates : Migrates r s) where
       )
 
   -- the old texts are legal, and have the new texts
-  abbrev TextsMigrate : ℕ → ℕ → List ℕ → Type 0
-  TextsMigrate limit skip c = IsLegalUnder s limit (texts_after_under r limit skip c) × (texts_under s limit (texts_after_under r limit skip c) ≡ texts_after_under s limit skip c)
+  abbrev TextsMigrate : ℕ → List ℕ → Type 0
+  TextsMigrate limit c = IsLegalUnder s limit (texts_under r limit c) × (texts_under s limit (texts_under r limit c) ≡ texts_under s limit c)
 
-  step_migrated : (limit b : ℕ) (c : List ℕ) (old new : ℕ × List ℕ) → limit < 2 ^ 32 → first_frame_under r limit (b ∷ c) ≡ Ok old → first_frame_under s limit (b ∷ c) ≡ Ok new → TextsMigrate limit (nla_align new.0 - 1) c →
-      old.0 ≡ new.0 → TextsMigrate limit 0 (b ∷ c)
-  step_migrated limit b c old new l h k i e =
-      let rest : List ℕ = texts_after_under r limit (nla_align new.0 - 1) c in
-      let f = first_frame_migrated limit (b ∷ c) old new rest l h k in
-      let text : texts_under r limit (b ∷ c) ≡ old.1 ++ rest = step_texts r limit b c old h ∙ ap (λ n. old.1 ++ texts_after_under r limit (nla_align n - 1) c) e in (
+  step_migrated : (limit : ℕ) (c : List ℕ) (old new : ℕ × List ℕ) → limit < 2 ^ 32 → first_frame_under r limit c ≡ Ok old → first_frame_under s limit c ≡ Ok new → old.0 ≡ new.0 → TextsMigrate limit (drop (nla_align old.0) c) → TextsMigrate limit c
+  step_migrated limit c old new l h k e i =
+      let rest : List ℕ = texts_under r limit (drop (nla_align old.0) c) in
+      let f = first_frame_migrated limit c old new rest l h k in
+      let text : texts_under r limit c ≡ old.1 ++ rest = texts_step r limit c old h in
+      let new_rest : texts_under s limit (drop (nla_align old.0) c) ≡ texts_under s limit (drop (nla_align new.0) c) = ap (λ n. texts_under s limit (drop (nla_align n) c)) e in (
         ap (first_fault_under s limit) text
             ∙ fault_step s limit (old.1 ++ rest) (f.0, new.1) f.1
             ∙ ap (λ x. shifted (nla_align f.0) (first_fault_under s limit x)) f.2
@@ -202,31 +202,26 @@ module _ (r s : Rule) (migrates : Migrates r s) where
         ap (texts_under s limit) text
             ∙ texts_step s limit (old.1 ++ rest) (f.0, new.1) f.1
             ∙ ap (λ x. new.1 ++ texts_under s limit x) f.2
-            ∙ ap (λ x. new.1 ++ x) i.1
-            ∙ sym (step_texts s limit b c new k),
+            ∙ ap (λ x. new.1 ++ x) (i.1 ∙ new_rest)
+            ∙ sym (texts_step s limit c new k),
       )
 
   -- this holds if whole frames reach the same offset under both rules
-  pub texts_idempotent : (limit skip : ℕ) (c : List ℕ) → limit < 2 ^ 32 → offset_after r limit skip c ≡ offset_after s limit skip c → TextsMigrate limit skip c
-  unfolding offset_after texts_after_under
-  texts_idempotent limit skip [] l e = (fault_nil s limit 0, texts_nil s limit 0)
-  texts_idempotent limit (suc skip) (b ∷ c) l e = texts_idempotent limit skip c l (omega (arith, e))
-  texts_idempotent limit zero (b ∷ c) l e =
-      elim (seen (first_frame_under r limit (b ∷ c))) [
-        | inl w ↦
-            elim (seen (first_frame_under s limit (b ∷ c))) [
-              | inl v ↦
-                  let n : w.0.0 ≡ v.0.0 = sym (accepted r limit (b ∷ c) w.0 w.1).is ∙ (accepted s limit (b ∷ c) v.0 v.1).is in
-                  let there = ap (λ m. offset_after r limit (nla_align m - 1) c) n in
-                  let far : offset_after r limit (nla_align v.0.0 - 1) c ≡ offset_after s limit (nla_align v.0.0 - 1) c = omega (arith, e, there, step_offset r limit b c w.0 w.1, step_offset s limit b c v.0 v.1) in
-                  step_migrated limit b c w.0 v.0 l w.1 v.1 (texts_idempotent limit (nla_align v.0.0 - 1) c l far) n
-              | inr v ↦ absurd (omega (arith, e, step_offset r limit b c w.0 w.1, stop_offset s limit b c v.0 v.1))
-            ]
-        | inr w ↦
-            elim (seen (first_frame_under s limit (b ∷ c))) [
-              | inl v ↦ absurd (omega (arith, e, stop_offset r limit b c w.0 w.1, step_offset s limit b c v.0 v.1))
-              | inr v ↦
-                  let none = stop_texts r limit b c w.0 w.1 in
-                  (ap (first_fault_under s limit) none ∙ fault_nil s limit 0, ap (texts_under s limit) none ∙ texts_nil s limit 0 ∙ sym (stop_texts s limit b c v.0 v.1))
-            ]
-      ]
+  pub texts_idempotent : (limit : ℕ) (c : List ℕ) → limit < 2 ^ 32 → end_offset r limit c ≡ end_offset s limit c → TextsMigrate limit c
+  texts_idempotent limit c l =
+      by_frames r limit (λ c. end_offset r limit c ≡ end_offset s limit c → TextsMigrate limit c)
+      (λ c old h more e.
+      elim (seen (first_frame_under s limit c)) [
+        | inl v ↦
+            let n : old.0 ≡ v.0.0 = sym (accepted r limit c old h).is ∙ (accepted s limit c v.0 v.1).is in
+            let there = ap (λ m. end_offset s limit (drop (nla_align m) c)) n in
+            step_migrated limit c old v.0 l h v.1 n (more (omega (arith, e, n, there, end_step r limit c old h, end_step s limit c v.0 v.1)))
+        | inr v ↦ absurd (omega (arith, e, (accepted r limit c old h).low, end_step r limit c old h, end_stop s limit c v.0 v.1))
+      ])
+      (λ c kind h e.
+      elim (seen (first_frame_under s limit c)) [
+        | inl v ↦ absurd (omega (arith, e, (accepted s limit c v.0 v.1).low, end_stop r limit c kind h, end_step s limit c v.0 v.1))
+        | inr v ↦
+            let none = texts_stop r limit c kind h in
+            (ap (first_fault_under s limit) none ∙ fault_nil s limit, ap (texts_under s limit) none ∙ texts_nil s limit ∙ sym (texts_stop s limit c v.0 v.1))
+      ]) c

@@ -1,48 +1,49 @@
 -- The numbers of a capture, frame by frame.
-use Rattle.std.proofs.Common.{◌≡◌, ℕ, zero, suc, ◌+◌, ◌-◌, ◌*◌, ◌≤◌, List, [], ◌∷◌, length, drop, Ok, Err, refl, sym, ap, ◌∙◌, arith, length-drop}
+use Rattle.std.proofs.Common.{◌≡◌, ℕ, ◌+◌, ◌-◌, ◌*◌, ◌≤◌, List, [], length, take, drop, Ok, Err, refl, ap, ◌∙◌, arith, length-drop}
+use Rattle.std.specs.List.{sum_by}
 use Rattle.std.proofs.lemmas.List.{length-take}
+use Rattle.std.proofs.lemmas.List.Sums.{sum_by-cons}
 use Rattle.netlink_packet_core_grammar.specs.Attributes.{nla_align}
 use Rattle.netlink_packet_core_grammar.specs.Frames.{frame_length, frame_type, frame_body}
 use Rattle.attribute_tables_grammar.specs.Rules.{Rule, Lawful}
 use Rattle.link_capture_grammar.specs.declared.fault.FaultKind.{FaultKind}
 use Rattle.link_capture_grammar.specs.Bodies.{ruled_text, body_text_under}
-use Rattle.link_capture_grammar.specs.Captures.{first_frame_under, shifted}
+use Rattle.link_capture_grammar.specs.Captures.{first_frame_under, shifted, split}
 use Rattle.link_capture_grammar.specs.Laws.{CapturesAreCounted}
-use Rattle.link_capture_grammar.specs.Numbers.{body_attributes_under, frame_attributes_under, attributes_under, next_sum, sum_after_under}
+use Rattle.link_capture_grammar.specs.Numbers.{body_attributes_under, frame_attributes_under, attributes_under, frames_under}
 use Rattle.link_capture_grammar.proofs.Bodies.{by_type}
-use Rattle.link_capture_grammar.proofs.Frames.{accepted, by_frames, shifted_add, texts_step, fault_step, fault_nil, texts_nil}
+use Rattle.link_capture_grammar.proofs.Frames.{accepted, by_frames, no_frames, own_bytes, shifted_add, split_nil, split_step, texts_step, fault_step, fault_nil, texts_nil}
 use Rattle.link_capture_grammar.proofs.Normal.{ruled, texted}
 
 module _ (r : Rule) where
-  -- one step of the recursion
-  sum_skip : (number : List ℕ → ℕ) (limit skip : ℕ) (c : List ℕ) → sum_after_under r number limit skip c ≡ sum_after_under r number limit 0 (drop skip c)
-  unfolding sum_after_under
-  sum_skip number limit zero c = refl
-  sum_skip number limit (suc skip) [] = refl
-  sum_skip number limit (suc skip) (b ∷ c) = sum_skip number limit skip c
-
-  step_sum : (number : List ℕ → ℕ) (limit b : ℕ) (c : List ℕ) (frame : ℕ × List ℕ) → first_frame_under r limit (b ∷ c) ≡ Ok frame → sum_after_under r number limit 0 (b ∷ c) ≡ number (b ∷ c) + sum_after_under r number limit (nla_align frame.0 - 1) c
-  unfolding sum_after_under
-  step_sum number limit b c frame h = ap (λ j. next_sum j (number (b ∷ c)) (λ skip. sum_after_under r number limit skip c)) h
-
-  sum_nil : (number : List ℕ → ℕ) (limit : ℕ) → sum_after_under r number limit 0 [] ≡ 0
-  unfolding sum_after_under
-  sum_nil number limit = refl
+  -- A sum over the frames of a capture.
+  abbrev pub sum_over : (List ℕ → ℕ) → ℕ → List ℕ → ℕ
+  sum_over number limit c = sum_by (λ f. number f.bytes) (split r limit c).frames
 
   -- If the first frame is accepted, the sum over the rest is that over the bytes after it.
-  pub sum_step : (number : List ℕ → ℕ) (limit : ℕ) (c : List ℕ) (frame : ℕ × List ℕ) → first_frame_under r limit c ≡ Ok frame → sum_after_under r number limit 0 c ≡ number c + sum_after_under r number limit 0 (drop (nla_align frame.0) c)
-  sum_step number limit [] frame h = let a = accepted r limit [] frame h in absurd (omega (arith, a.header))
-  sum_step number limit (b ∷ c) frame h =
-      let a = accepted r limit (b ∷ c) frame h in
-      let e : nla_align frame.0 ≡ suc (nla_align frame.0 - 1) = omega arith in
-      step_sum number limit b c frame h
-      ∙ ap (λ n. number (b ∷ c) + n) (sum_skip number limit (nla_align frame.0 - 1) c)
-      ∙ ap (λ n. number (b ∷ c) + sum_after_under r number limit 0 (drop n (b ∷ c))) (sym e)
+  pub sum_step : (number : List ℕ → ℕ) (limit : ℕ) (c : List ℕ) (frame : ℕ × List ℕ) → first_frame_under r limit c ≡ Ok frame → sum_over number limit c ≡ number (take frame.0 c) + sum_over number limit (drop (nla_align frame.0) c)
+  sum_step number limit c frame h =
+      ap (λ s. sum_by (λ f. number f.bytes) s.frames) (split_step r limit c frame h)
+      ∙ sum_by-cons (λ f. number f.bytes) (record { bytes = take frame.0 c; text = frame.1 }) (split r limit (drop (nla_align frame.0) c)).frames
 
-  sum_stop : (number : List ℕ → ℕ) (limit : ℕ) (c : List ℕ) (kind : FaultKind) → first_frame_under r limit c ≡ Err kind → sum_after_under r number limit 0 c ≡ 0
-  unfolding sum_after_under
-  sum_stop number limit [] kind h = refl
-  sum_stop number limit (b ∷ c) kind h = ap (λ j. next_sum j (number (b ∷ c)) (λ skip. sum_after_under r number limit skip c)) h
+  sum_stop : (number : List ℕ → ℕ) (limit : ℕ) (c : List ℕ) (kind : FaultKind) → first_frame_under r limit c ≡ Err kind → sum_over number limit c ≡ 0
+  sum_stop number limit c kind h = ap (sum_by (λ f. number f.bytes)) (no_frames r limit c kind h)
+
+  sum_nil : (number : List ℕ → ℕ) (limit : ℕ) → sum_over number limit [] ≡ 0
+  sum_nil number limit = ap (λ s. sum_by (λ f. number f.bytes) s.frames) (split_nil r limit)
+
+  pub count_step : (limit : ℕ) (c : List ℕ) (frame : ℕ × List ℕ) → first_frame_under r limit c ≡ Ok frame → frames_under r limit c ≡ 1 + frames_under r limit (drop (nla_align frame.0) c)
+  count_step limit c frame h = let e = ap (λ s. length s.frames) (split_step r limit c frame h) in omega (arith, e)
+
+  -- the attributes of the first frame are those of the frame's bytes
+  pub own_attributes : (limit : ℕ) (c : List ℕ) (frame : ℕ × List ℕ) → first_frame_under r limit c ≡ Ok frame → frame_attributes_under r (take frame.0 c) ≡ frame_attributes_under r c
+  own_attributes limit c frame h =
+      let own = own_bytes r limit c frame h in
+      ap (λ t. body_attributes_under r t (frame_body (take frame.0 c))) own.type ∙ ap (body_attributes_under r (frame_type c)) own.body
+
+  pub attributes_step : (limit : ℕ) (c : List ℕ) (frame : ℕ × List ℕ) → first_frame_under r limit c ≡ Ok frame → attributes_under r limit c ≡ frame_attributes_under r c + attributes_under r limit (drop (nla_align frame.0) c)
+  attributes_step limit c frame h =
+      sum_step (frame_attributes_under r) limit c frame h ∙ ap (λ n. n + attributes_under r limit (drop (nla_align frame.0) c)) (own_attributes limit c frame h)
 
 -- ---- an attribute takes 4 bytes or more
 
@@ -67,18 +68,18 @@ module _ (r : Rule) (lawful : Lawful r) where
       by_frames r limit (λ c. 4 * attributes_under r limit c ≤ length c)
       (λ c frame h following.
       let a = accepted r limit c frame h in
-      omega (arith, a.low, a.whole, frame_counted limit c frame h, sum_step r (frame_attributes_under r) limit c frame h, following, length-drop (nla_align frame.0) c))
+      omega (arith, a.low, a.whole, frame_counted limit c frame h, attributes_step r limit c frame h, following, length-drop (nla_align frame.0) c))
       (λ c kind h. omega (arith, sum_stop r (frame_attributes_under r) limit c kind h))
 
   pub captures_are_counted : CapturesAreCounted r
   captures_are_counted = record {
     next_fault = λ limit start c frame h. ap (shifted start) (fault_step r limit c frame h) ∙ shifted_add start (nla_align frame.0) (start + nla_align frame.0) _ refl;
     next_text = texts_step r;
-    next_frames = sum_step r (λ _. 1);
-    next_attributes = sum_step r (frame_attributes_under r);
-    no_fault = λ limit. fault_nil r limit 0;
-    no_text = λ limit. texts_nil r limit 0;
-    no_frames = sum_nil r (λ _. 1);
+    next_frames = count_step r;
+    next_attributes = attributes_step r;
+    no_fault = fault_nil r;
+    no_text = texts_nil r;
+    no_frames = λ limit. ap (λ s. length s.frames) (split_nil r limit);
     no_attributes = sum_nil r (frame_attributes_under r);
     frame_counted = frame_counted;
     counted = counted;

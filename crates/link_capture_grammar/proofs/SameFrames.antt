@@ -9,11 +9,11 @@ use Rattle.attribute_tables_grammar.specs.Rules.{Rule, Lawful}
 use Rattle.link_capture_grammar.specs.Bodies.{ruled_text, is_link_type, body_text_under}
 use Rattle.link_capture_grammar.specs.Captures.{first_frame_under, IsLegalUnder}
 use Rattle.link_capture_grammar.specs.Laws.{LegalFrameUnder, NeedsHeaders, SamenessUnfoldsByFrames}
-use Rattle.link_capture_grammar.specs.Same.{same_body_under, SameFrameUnder, SameFramesUnder, SameCaptureUnder}
+use Rattle.link_capture_grammar.specs.Same.{same_body_under, SameFrameUnder}
 use Rattle.link_capture_grammar.proofs.Frames.{accepted, fault_step, fault_stop, first_frame-more, first_frame-take, frame_body-more, frame_header-more, seen}
 use Rattle.link_capture_grammar.proofs.Meanings.{body_determines}
 use Rattle.link_capture_grammar.proofs.Normal.{ruled, texted}
-use Rattle.link_capture_grammar.proofs.Same.{not_shifted}
+use Rattle.link_capture_grammar.proofs.Same.{InStep, InSteps, not_shifted, of_steps, to_steps}
 
 -- a test whose result is known
 pub yes : {A : Type 0} (b : Bool) (x y z : A) → b ≡ true → cond b x y ≡ z → x ≡ z
@@ -38,15 +38,15 @@ module _ (r : Rule) where
   following limit c h p = not_shifted (nla_align (frame_length c)) _ (sym (fault_step r limit c (frame_length c, p.text) p.is) ∙ h)
 
 module _ (r : Rule) (limit : ℕ) (a b : List ℕ) (p : LegalFrameUnder r limit a) (q : LegalFrameUnder r limit b) where
-  onto : SameFrameUnder r a b → SameCaptureUnder r limit (drop (nla_align (frame_length a)) a) (drop (nla_align (frame_length b)) b) → SameCaptureUnder r limit a b
+  onto : SameFrameUnder r a b → InSteps r limit (drop (nla_align (frame_length a)) a) (drop (nla_align (frame_length b)) b) → InSteps r limit a b
   onto h s = (suc s.0, ((frame_length a, p.text), (frame_length b, q.text), p.is, q.is, h, s.1))
 
-  apart : SameCaptureUnder r limit a b → SameFrameUnder r a b × SameCaptureUnder r limit (drop (nla_align (frame_length a)) a) (drop (nla_align (frame_length b)) b)
+  apart : InSteps r limit a b → SameFrameUnder r a b × InSteps r limit (drop (nla_align (frame_length a)) a) (drop (nla_align (frame_length b)) b)
   apart (zero, s) = absurd (let e : length a ≡ 0 = ap length s.0 in omega (arith, e, p.frame.has_header))
   apart (suc n, s) =
       let x = accepted r limit a s.0 s.2 in
       let y = accepted r limit b s.1 s.3 in
-      (s.4, (n, subst (λ k. SameFramesUnder r limit n (drop (nla_align k) a) (drop (nla_align (frame_length b)) b)) (sym x.is) (subst (λ k. SameFramesUnder r limit n (drop (nla_align s.0.0) a) (drop (nla_align k) b)) (sym y.is) s.5)))
+      (s.4, (n, subst (λ k. InStep r limit n (drop (nla_align k) a) (drop (nla_align (frame_length b)) b)) (sym x.is) (subst (λ k. InStep r limit n (drop (nla_align s.0.0) a) (drop (nla_align k) b)) (sym y.is) s.5)))
 
 -- ---- the first frame, under a rule that accepts no body without a header
 
@@ -117,11 +117,11 @@ no_bytes [] l = refl
 no_bytes (x ∷ a) l = absurd (omega arith)
 
 module _ (r : Rule) (limit : ℕ) (a b : List ℕ) where
-  left_longer : 0 < length a → length b ≡ 0 → SameCaptureUnder r limit a b → ⊥
+  left_longer : 0 < length a → length b ≡ 0 → InSteps r limit a b → ⊥
   left_longer l k (zero, s) = let e : length a ≡ 0 = ap length s.0 in omega (arith, e, l)
   left_longer l k (suc n, s) = let y = (accepted r limit b s.1 s.3).header in omega (arith, y, k)
 
-  right_longer : length a ≡ 0 → 0 < length b → SameCaptureUnder r limit a b → ⊥
+  right_longer : length a ≡ 0 → 0 < length b → InSteps r limit a b → ⊥
   right_longer l k (zero, s) = let e : length b ≡ 0 = ap length s.1 in omega (arith, e, k)
   right_longer l k (suc n, s) = let x = (accepted r limit a s.0 s.2).header in omega (arith, x, l)
 
@@ -130,10 +130,13 @@ sameness_unfolds_by_frames r lawful headers = record {
   judged = judged r headers;
   leading = leading r headers;
   following = following r;
-  more = λ limit a b p q h. (onto r limit a b p q h, λ s. (apart r limit a b p q s).1);
+  more = λ limit a b p q h. (
+    λ s. of_steps r limit a b (onto r limit a b p q h (to_steps r limit _ _ s)),
+    λ s. of_steps r limit _ _ (apart r limit a b p q (to_steps r limit a b s)).1,
+  );
   equal = λ limit a b p e. equal r limit a b p e lawful headers;
-  differs = λ limit a b p q s. (apart r limit a b p q s).0;
-  ended = λ limit a b l k. (0, (no_bytes a l, no_bytes b k));
-  left_longer = left_longer r;
-  right_longer = right_longer r;
+  differs = λ limit a b p q s. (apart r limit a b p q (to_steps r limit a b s)).0;
+  ended = λ limit a b l k. of_steps r limit a b (0, (no_bytes a l, no_bytes b k));
+  left_longer = λ limit a b l k s. left_longer r limit a b l k (to_steps r limit a b s);
+  right_longer = λ limit a b l k s. right_longer r limit a b l k (to_steps r limit a b s);
 }

@@ -1,6 +1,7 @@
 -- Captures: the first fault with its offset, and the normal text, under a rule of link bodies.
-use Rattle.std.specs.Prelude.{◌≡◌, ℕ, zero, suc, ◌+◌, ◌-◌, ◌%◌, ◌<◌, ◌≤◌, List, [], ◌∷◌, ◌++◌, length, take, drop, ◌⊎◌}
-use Rattle.std.specs.Prelude.{Option, None, Some, Result, Ok, Err, nat_lt, cond}
+use Rattle.std.specs.Prelude.{◌≡◌, ℕ, zero, suc, ◌+◌, ◌%◌, ◌<◌, ◌≤◌, List, [], ◌∷◌, length, take, drop, flat_map, ◌⊎◌}
+use Rattle.std.specs.Prelude.{Option, None, Some, option_map, Result, Ok, Err, nat_lt, cond}
+use Rattle.std.specs.List.{sum_by}
 use Rattle.netlink_packet_core_grammar.specs.Attributes.{nla_align}
 use Rattle.netlink_packet_core_grammar.specs.Frames.{frame_length, frame_type, frame_body, frame_text}
 use Rattle.attribute_tables_grammar.specs.Rules.{Rule}
@@ -64,42 +65,53 @@ pub record CutInBody (limit : ℕ) (c : List ℕ) : Type 0 where
   pub high : frame_length c ≤ limit
   pub short : length c < frame_length c
 
+-- ---- a capture, frame by frame
+
+-- An accepted frame: its bytes, without the padding, and its text.
+pub record Frame : Type 0 where
+  pub bytes : List ℕ
+  pub text : List ℕ
+
+-- A capture as frames: the accepted ones before the first fault, and the kind of that fault, if there is one.
+pub record Split : Type 0 where
+  pub frames : List Frame
+  pub fault : Option FaultKind
+
+-- Bytes as frames, from the result for the first frame; `rest` splits the bytes after it and its padding.
+abbrev pub next_split : Judged → List ℕ → (List ℕ → Split) → Split
+next_split (Ok frame) c rest = record {
+  frames = record { bytes = take frame.0 c; text = frame.1 } ∷ (rest (drop (nla_align frame.0) c)).frames;
+  fault = (rest (drop (nla_align frame.0) c)).fault;
+}
+next_split (Err kind) c rest = record { frames = []; fault = Some kind }
+
+-- The same, at most n frames.
+unfoldable pub split_within : Rule → ℕ → ℕ → List ℕ → Split
+split_within r limit n [] = record { frames = []; fault = None }
+split_within r limit zero (b ∷ c) = record { frames = []; fault = None }
+split_within r limit (suc n) (b ∷ c) = next_split (first_frame_under r limit (b ∷ c)) (b ∷ c) (split_within r limit n)
+
+-- A capture as frames. It has fewer frames than bytes.
+abbrev pub split : Rule → ℕ → List ℕ → Split
+split r limit c = split_within r limit (length c) c
+
+-- The size of frames with their padding.
+abbrev pub padded_size : List Frame → ℕ
+padded_size frames = sum_by (λ f. nla_align (length f.bytes)) frames
+
+-- The first fault of a capture with its offset: it is after the accepted frames.
+abbrev pub first_fault_under : Rule → ℕ → List ℕ → Option CaptureFault
+first_fault_under r limit c =
+    option_map (λ kind. record { kind = kind; offset = padded_size (split r limit c).frames }) (split r limit c).fault
+
+-- The texts of the frames of a capture before its first fault.
+abbrev pub texts_under : Rule → ℕ → List ℕ → List ℕ
+texts_under r limit c = flat_map (λ f. f.text) (split r limit c).frames
+
 -- A fault with its offset increased by k.
 abbrev pub shifted : ℕ → Option CaptureFault → Option CaptureFault
 shifted k None = None
 shifted k (Some fault) = Some (record { kind = fault.kind; offset = k + fault.offset })
-
--- The first fault of a capture, from the result for its first frame and the first fault of the bytes after it.
-abbrev pub next_fault : Judged → (ℕ → Option CaptureFault) → Option CaptureFault
-next_fault (Ok frame) after = shifted 1 (after (nla_align frame.0 - 1))
-next_fault (Err kind) after = Some (record { kind = kind; offset = 0 })
-
--- The first fault of c after its first `skip` bytes. Offsets are counted from c's start.
-unfoldable pub fault_after_under : Rule → ℕ → ℕ → List ℕ → Option CaptureFault
-fault_after_under r limit skip [] = None
-fault_after_under r limit (suc skip) (b ∷ c) = shifted 1 (fault_after_under r limit skip c)
-fault_after_under r limit zero (b ∷ c) =
-    next_fault (first_frame_under r limit (b ∷ c)) (λ skip. fault_after_under r limit skip c)
-
--- The texts of a capture, from the result for its first frame and the texts of the bytes after it.
-abbrev pub next_texts : Judged → (ℕ → List ℕ) → List ℕ
-next_texts (Ok frame) after = frame.1 ++ after (nla_align frame.0 - 1)
-next_texts (Err kind) after = []
-
--- The texts of the frames of c after its first `skip` bytes and before the first fault.
-unfoldable pub texts_after_under : Rule → ℕ → ℕ → List ℕ → List ℕ
-texts_after_under r limit skip [] = []
-texts_after_under r limit (suc skip) (b ∷ c) = texts_after_under r limit skip c
-texts_after_under r limit zero (b ∷ c) =
-    next_texts (first_frame_under r limit (b ∷ c)) (λ skip. texts_after_under r limit skip c)
-
--- The first fault of a capture with its offset.
-abbrev pub first_fault_under : Rule → ℕ → List ℕ → Option CaptureFault
-first_fault_under r limit c = fault_after_under r limit 0 c
-
--- The texts of the frames of a capture before its first fault.
-abbrev pub texts_under : Rule → ℕ → List ℕ → List ℕ
-texts_under r limit c = texts_after_under r limit 0 c
 
 -- The offset that the whole frames of a capture reach, including the full padding of the last one, from its size and
 -- its first fault: that of the first fault, or the next multiple of 4.
@@ -140,14 +152,6 @@ IsOfFrames kind = Unit {0}
 -- `first_frame_under` under the rule of link bodies in force.
 abbrev pub first_frame : ℕ → List ℕ → Judged
 first_frame = first_frame_under link_body
-
--- `fault_after_under` under the rule of link bodies in force.
-abbrev pub fault_after : ℕ → ℕ → List ℕ → Option CaptureFault
-fault_after = fault_after_under link_body
-
--- `texts_after_under` under the rule of link bodies in force.
-abbrev pub texts_after : ℕ → ℕ → List ℕ → List ℕ
-texts_after = texts_after_under link_body
 
 -- `first_fault_under` under the rule of link bodies in force.
 abbrev pub first_fault : ℕ → List ℕ → Option CaptureFault

@@ -4,5 +4,6 @@ pub mod Bodies
 pub mod Captures
 pub mod Numbers
 pub mod Same
+pub mod WholeFrames
 pub mod Unlisted
 pub mod Laws

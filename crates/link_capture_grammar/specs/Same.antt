@@ -1,12 +1,10 @@
 -- When two captures mean the same, under a rule of link bodies. The definition doesn't use normal texts.
-use Rattle.std.specs.Prelude.{◌≡◌, ℕ, zero, suc, Bool, true, List, [], ◌∷◌, length, take, drop, Ok, cond, nat_eq}
-use Rattle.std.specs.Prelude.{bytes_eq}
-use Rattle.netlink_packet_core_grammar.specs.Attributes.{nla_align}
+use Rattle.std.specs.Prelude.{◌≡◌, ℕ, Bool, true, List, [], ◌∷◌, length, take, drop, cond, nat_eq, bytes_eq}
 use Rattle.netlink_packet_core_grammar.specs.Frames.{frame_type, frame_body}
 use Rattle.attribute_tables_grammar.specs.Rules.{Rule}
 use Rattle.link_message_grammar.specs.Body.{link_body}
 use Rattle.link_capture_grammar.specs.Bodies.{is_link_type}
-use Rattle.link_capture_grammar.specs.Captures.{first_frame_under}
+use Rattle.link_capture_grammar.specs.Captures.{Frame, IsLegalUnder, split}
 
 -- A body of type 3, where an empty one is replaced by the code 0.
 abbrev pub done_body : List ℕ → List ℕ
@@ -20,23 +18,23 @@ same_body_under r t a b =
     (cond (nat_eq t 3) (bytes_eq (done_body a) (done_body b))
     (cond (is_link_type t) (r.same a b) (bytes_eq a b)))
 
--- The first frames of a and b mean the same: they have equal type, flags, sequence number and port number, the bytes 4
--- to 16, and bodies that mean the same.
+-- The frames at the start of a and b mean the same: they have equal type, flags, sequence number and port number, the
+-- bytes 4 to 16, and bodies that mean the same.
 pub record SameFrameUnder (r : Rule) (a b : List ℕ) : Type 0 where
   pub header : take 12 (drop 4 a) ≡ take 12 (drop 4 b)
   pub body : same_body_under r (frame_type a) (frame_body a) (frame_body b) ≡ true
 
--- The captures a and b have n frames each, none with a fault, and the frames mean the same in pairs.
-abbrev pub SameFramesUnder : Rule → ℕ → ℕ → List ℕ → List ℕ → Type 0
-SameFramesUnder r limit zero a b = (a ≡ []) × (b ≡ [])
-SameFramesUnder r limit (suc n) a b =
-    (x y : ℕ × List ℕ) × (first_frame_under r limit a ≡ Ok x) × (first_frame_under r limit b ≡ Ok y)
-    × SameFrameUnder r a b
-    × SameFramesUnder r limit n (drop (nla_align x.0) a) (drop (nla_align y.0) b)
+-- As many frames, which mean the same in pairs.
+abbrev pub SameFramesUnder : Rule → List Frame → List Frame → Type 0
+SameFramesUnder r [] [] = Unit {0}
+SameFramesUnder r [] (g ∷ gs) = ⊥
+SameFramesUnder r (f ∷ fs) [] = ⊥
+SameFramesUnder r (f ∷ fs) (g ∷ gs) = SameFrameUnder r f.bytes g.bytes × SameFramesUnder r fs gs
 
--- Two captures mean the same under a limit.
+-- Two captures mean the same under a limit: both are legal, and their frames mean the same in pairs.
 abbrev pub SameCaptureUnder : Rule → ℕ → List ℕ → List ℕ → Type 0
-SameCaptureUnder r limit a b = (n : ℕ) × SameFramesUnder r limit n a b
+SameCaptureUnder r limit a b = IsLegalUnder r limit a × IsLegalUnder r limit b ×
+    SameFramesUnder r (split r limit a).frames (split r limit b).frames
 
 -- ---- the same under the rule of link bodies in force
 
@@ -47,10 +45,6 @@ same_body = same_body_under link_body
 -- `SameFrameUnder` under the rule of link bodies in force.
 abbrev pub SameFrame : List ℕ → List ℕ → Type 0
 SameFrame = SameFrameUnder link_body
-
--- `SameFramesUnder` under the rule of link bodies in force.
-abbrev pub SameFrames : ℕ → ℕ → List ℕ → List ℕ → Type 0
-SameFrames = SameFramesUnder link_body
 
 -- `SameCaptureUnder` under the rule of link bodies in force.
 abbrev pub SameCapture : ℕ → List ℕ → List ℕ → Type 0

@@ -8,9 +8,10 @@ use Rattle.netlink_packet_core_grammar.specs.Frames.{frame_length, is_frame}
 use Rattle.link_message_grammar.specs.Body.{link_body}
 use Rattle.link_capture_grammar.specs.declared.fault.FaultKind.{FaultKind}
 use Rattle.link_capture_grammar.specs.Captures.{Accepted, shifted, first_frame, first_fault, texts}
-use Rattle.link_capture_numbers.specs.Cleared.{first_frame_cleared, cleared_after, numbers_cleared}
+use Rattle.link_capture_numbers.specs.Cleared.{first_frame_cleared, numbers_cleared}
 use Rattle.link_capture_numbers.specs.Laws.{ClearedCapturesHaveClearedTexts}
-use Rattle.link_capture_numbers.proofs.Steps.{length_of, whole, stopped}
+use Rattle.link_capture_grammar.proofs.WholeFrames.{length_of}
+use Rattle.link_capture_numbers.proofs.Steps.{whole, stopped}
 use Rattle.link_capture_numbers.proofs.Zeros.{cleared_first}
 use Rattle.link_capture_numbers.proofs.FirstFrames.{shape}
 use Rattle.link_capture_numbers.proofs.Judged.{judged, judged_cleared}
@@ -30,8 +31,7 @@ after_by c n f rest true e l h =
     ap (λ z. drop n (take n f ++ z)) none ∙ ap (drop n) (append-nil (take n f)) ∙ drop_all n (take n f) (omega (arith, size)) ∙ sym none
 
 nothing : (c : List ℕ) → c ≡ [] → numbers_cleared c ≡ []
-unfolding numbers_cleared cleared_after
-nothing c e = subst (λ z. numbers_cleared z ≡ []) (sym e) refl
+nothing c e = subst (λ z. numbers_cleared z ≡ []) (sym e) (stopped [] refl)
 
 -- the bytes after the first frame of a cleared capture
 pub following : (c : List ℕ) → is_frame c ≡ true → drop (nla_align (frame_length c)) (numbers_cleared c) ≡ numbers_cleared (drop (nla_align (frame_length c)) c)

@@ -1,5 +1,5 @@
 -- The text of an accepted frame, followed by others.
-use Rattle.std.proofs.Common.{◌≡◌, ℕ, ◌+◌, ◌^◌, ◌<◌, ◌≤◌, Bool, true, false, cond, List, [], ◌++◌, length, take, drop, Ok, refl, sym, ap, ◌∙◌, append-nil, arith}
+use Rattle.std.proofs.Common.{◌≡◌, ℕ, ◌+◌, ◌^◌, ◌<◌, ◌≤◌, true, List, [], ◌++◌, length, take, drop, Ok, sym, ap, ◌∙◌, append-nil, arith}
 use Rattle.std.proofs.lemmas.Bool.{and_from, le-leb}
 use Rattle.std.proofs.lemmas.List.{length-append, take_at, drop_at}
 use Rattle.netlink_packet_core_grammar.specs.Attributes.{nla_align}
@@ -7,27 +7,15 @@ use Rattle.netlink_packet_core_grammar.specs.Frames.{frame_length, frame_type, f
 use Rattle.link_message_grammar.specs.Body.{link_body}
 use Rattle.link_capture_grammar.specs.Bodies.{body_text}
 use Rattle.link_capture_grammar.specs.Captures.{Accepted, first_frame}
-use Rattle.link_capture_numbers.specs.Cleared.{zeros_at, repeats_request, first_frame_cleared, numbers_cleared}
-use Rattle.link_capture_numbers.proofs.Steps.{whole}
-use Rattle.link_capture_numbers.proofs.Zeros.{repeated, zeros_before, length-zeros, cleared_first}
+use Rattle.link_capture_numbers.specs.Cleared.{repeats_request, first_frame_cleared, numbers_cleared}
+use Rattle.link_capture_numbers.proofs.Steps.{first_frame_joined, whole}
+use Rattle.link_capture_numbers.proofs.Zeros.{repeated, cleared_first}
 use Rattle.link_capture_numbers.proofs.Texts.{text_repeats}
 use Rattle.link_capture_numbers.proofs.Judged.{error_is, body_size}
 use Rattle.link_capture_grammar.proofs.Frames.{accepted}
 use Rattle.link_capture_grammar.proofs.Normal.{Texted, texted, frame_text_size, text_length}
 
 -- ---- the text followed by other bytes
-
-first_frame_joined_by : (t more : List ℕ) (b : Bool) → 16 ≤ length t → (b ≡ true → 36 ≤ length t) → cond b (zeros_at 28 (zeros_at 8 (t ++ more))) (zeros_at 8 (t ++ more)) ≡ cond b (zeros_at 28 (zeros_at 8 t)) (zeros_at 8 t) ++ more
-first_frame_joined_by t more false h q = zeros_before 8 t more (omega (arith, h))
-first_frame_joined_by t more true h q =
-    let size = length-zeros 8 t (omega (arith, h)) in
-    let long = q refl in
-    ap (zeros_at 28) (zeros_before 8 t more (omega (arith, h))) ∙ zeros_before 28 (zeros_at 8 t) more (omega (arith, size, long))
-
-first_frame_joined : (t more : List ℕ) → 16 ≤ length t → (repeats_request t ≡ true → 36 ≤ length t) → repeats_request (t ++ more) ≡ repeats_request t → first_frame_cleared (t ++ more) ≡ first_frame_cleared t ++ more
-unfolding first_frame_cleared
-first_frame_joined t more h q e =
-    ap (λ b. cond b (zeros_at 28 (zeros_at 8 (t ++ more))) (zeros_at 8 (t ++ more))) e ∙ first_frame_joined_by t more (repeats_request t) h q
 
 -- the text of an accepted frame
 module _ (limit : ℕ) (small : limit < 2 ^ 32) (c : List ℕ) (frame : ℕ × List ℕ) (h : first_frame limit c ≡ Ok frame) where

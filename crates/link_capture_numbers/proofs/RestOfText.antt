@@ -6,7 +6,8 @@ use borrow.Rule.Slice.PartMut.{put_mid, mid_of}
 use Rattle.netlink_packet_core_grammar.specs.Attributes.{nla_align}
 use Rattle.netlink_packet_core_grammar.specs.Frames.{frame_length, is_frame}
 use Rattle.link_capture_numbers.specs.Cleared.{first_frame_cleared, numbers_cleared}
-use Rattle.link_capture_numbers.proofs.Steps.{length_of, whole}
+use Rattle.link_capture_grammar.proofs.WholeFrames.{length_of}
+use Rattle.link_capture_numbers.proofs.Steps.{whole}
 use Rattle.link_capture_numbers.proofs.Zeros.{cleared_first}
 
 -- the bytes after an offset are replaced by others

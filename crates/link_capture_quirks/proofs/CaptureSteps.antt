@@ -1,43 +1,41 @@
 -- The quirks of a capture, frame by frame.
-use Rattle.std.proofs.Common.{◌≡◌, ℕ, zero, suc, ◌+◌, ◌-◌, List, [], ◌∷◌, ◌++◌, drop, Ok, Err, refl, sym, ap, ◌∙◌, arith}
+use Rattle.std.proofs.Common.{◌≡◌, ℕ, ◌+◌, List, [], ◌++◌, cond, length, take, drop, Ok, Err, ap, ◌∙◌, arith}
+use Rattle.std.proofs.lemmas.List.{length-take}
 use Rattle.netlink_packet_core_grammar.specs.Attributes.{nla_align}
+use Rattle.netlink_packet_core_grammar.specs.Frames.{frame_type, frame_body}
 use Rattle.link_message_grammar.specs.Body.{link_body}
 use Rattle.link_capture_grammar.specs.declared.fault.FaultKind.{FaultKind}
-use Rattle.link_capture_grammar.specs.Captures.{first_frame}
-use Rattle.link_capture_grammar.specs.Laws.{FramesAreIndependent}
-use Rattle.link_capture_quirks.specs.CaptureQuirks.{frame_quirks, next_frame_quirks, quirks_after}
+use Rattle.link_capture_grammar.specs.Bodies.{is_link_type}
+use Rattle.link_capture_grammar.specs.Captures.{first_frame, split}
+use Rattle.link_capture_grammar.proofs.Frames.{accepted, no_frames, own_bytes, split_nil, split_step}
+use Rattle.link_capture_quirks.specs.CaptureQuirks.{frame_quirks, frames_quirks, link_quirks, quirks_from}
 use Rattle.link_capture_quirks.specs.QuirkLaws.{QuirksUnfoldByFrames}
 
-skipped : (limit offset skip : ℕ) (c : List ℕ) → quirks_after limit offset skip c ≡ quirks_after limit (offset + skip) 0 (drop skip c)
-unfolding quirks_after
-skipped limit offset zero c = let e : offset ≡ offset + 0 = omega arith in ap (λ n. quirks_after limit n 0 c) e
-skipped limit offset (suc skip) [] = refl
-skipped limit offset (suc skip) (b ∷ c) = let e : offset + 1 + skip ≡ offset + suc skip = omega arith in skipped limit (offset + 1) skip c ∙ ap (λ n. quirks_after limit n 0 (drop skip c)) e
+stop : (limit offset : ℕ) (c : List ℕ) (kind : FaultKind) → first_frame limit c ≡ Err kind → quirks_from limit offset c ≡ []
+unfolding quirks_from
+stop limit offset c kind h = ap (frames_quirks offset) (no_frames link_body limit c kind h)
 
-step : (limit offset b : ℕ) (c : List ℕ) (frame : ℕ × List ℕ) → first_frame limit (b ∷ c) ≡ Ok frame → quirks_after limit offset 0 (b ∷ c) ≡ frame_quirks offset (b ∷ c) ++ quirks_after limit (offset + 1) (nla_align frame.0 - 1) c
-unfolding quirks_after
-step limit offset b c frame h = ap (λ j. next_frame_quirks j (frame_quirks offset (b ∷ c)) (λ skip. quirks_after limit (offset + 1) skip c)) h
+nothing : (limit offset : ℕ) → quirks_from limit offset [] ≡ []
+unfolding quirks_from
+nothing limit offset = ap (λ s. frames_quirks offset s.frames) (split_nil link_body limit)
 
-stop : (limit offset : ℕ) (c : List ℕ) (kind : FaultKind) → first_frame limit c ≡ Err kind → quirks_after limit offset 0 c ≡ []
-unfolding quirks_after
-stop limit offset [] kind h = refl
-stop limit offset (b ∷ c) kind h = ap (λ j. next_frame_quirks j (frame_quirks offset (b ∷ c)) (λ skip. quirks_after limit (offset + 1) skip c)) h
+-- the quirks of the first frame are those of its bytes
+own_quirks : (limit offset : ℕ) (c : List ℕ) (frame : ℕ × List ℕ) → first_frame limit c ≡ Ok frame → frame_quirks offset (take frame.0 c) ≡ frame_quirks offset c
+unfolding frame_quirks
+own_quirks limit offset c frame h =
+    let own = own_bytes link_body limit c frame h in
+    ap (λ t. cond (is_link_type t) (link_quirks (offset + 16) t (frame_body (take frame.0 c))) []) own.type
+    ∙ ap (λ b. cond (is_link_type (frame_type c)) (link_quirks (offset + 16) (frame_type c) b) []) own.body
 
-nothing : (limit offset : ℕ) → quirks_after limit offset 0 [] ≡ []
-unfolding quirks_after
-nothing limit offset = refl
+next : (limit offset : ℕ) (c : List ℕ) (frame : ℕ × List ℕ) → first_frame limit c ≡ Ok frame → quirks_from limit offset c ≡ frame_quirks offset c ++ quirks_from limit (offset + nla_align frame.0) (drop (nla_align frame.0) c)
+unfolding quirks_from
+next limit offset c frame h =
+    let a = accepted link_body limit c frame h in
+    let rest = (split link_body limit (drop (nla_align frame.0) c)).frames in
+    let size : length (take frame.0 c) ≡ frame.0 = omega (arith, length-take frame.0 c, a.whole) in
+    ap (λ s. frames_quirks offset s.frames) (split_step link_body limit c frame h)
+    ∙ ap (λ q. q ++ frames_quirks (offset + nla_align (length (take frame.0 c))) rest) (own_quirks limit offset c frame h)
+    ∙ ap (λ n. frame_quirks offset c ++ frames_quirks (offset + nla_align n) rest) size
 
-next : FramesAreIndependent link_body → (limit offset : ℕ) (c : List ℕ) (frame : ℕ × List ℕ) → first_frame limit c ≡ Ok frame → quirks_after limit offset 0 c ≡ frame_quirks offset c ++ quirks_after limit (offset + nla_align frame.0) 0 (drop (nla_align frame.0) c)
-next law limit offset [] frame h = let a = law.accepted limit [] frame h in absurd (omega (arith, a.header))
-next law limit offset (b ∷ c) frame h =
-    let a = law.accepted limit (b ∷ c) frame h in
-    let low = a.low in
-    let e : nla_align frame.0 ≡ suc (nla_align frame.0 - 1) = omega (arith, low) in
-    let f : offset + 1 + (nla_align frame.0 - 1) ≡ offset + nla_align frame.0 = omega (arith, low) in
-    step limit offset b c frame h
-    ∙ ap (λ t. frame_quirks offset (b ∷ c) ++ t) (skipped limit (offset + 1) (nla_align frame.0 - 1) c)
-    ∙ ap (λ n. frame_quirks offset (b ∷ c) ++ quirks_after limit n 0 (drop (nla_align frame.0 - 1) c)) f
-    ∙ ap (λ n. frame_quirks offset (b ∷ c) ++ quirks_after limit (offset + nla_align frame.0) 0 (drop n (b ∷ c))) (sym e)
-
-pub steps : FramesAreIndependent link_body → QuirksUnfoldByFrames
-steps law = record { next = next law; fault = stop; none = nothing }
+pub steps : QuirksUnfoldByFrames
+steps = record { next = next; fault = stop; none = nothing }

@@ -9,7 +9,7 @@ use Rattle.link_capture_quirks.specs.declared.quirk_at.QuirkAt.{QuirkAt}
 use Rattle.link_capture_quirks.specs.declared.walk.Level.{Level}
 use Rattle.link_capture_quirks.specs.QuirkRows.{header_quirk}
 use Rattle.link_capture_quirks.specs.QuirkLists.{quirks_at, list_quirks}
-use Rattle.link_capture_quirks.specs.CaptureQuirks.{body_list, link_quirks, frame_quirks, quirks_after}
+use Rattle.link_capture_quirks.specs.CaptureQuirks.{body_list, link_quirks, frame_quirks, quirks_from}
 use Rattle.link_capture_quirks.specs.QuirkWalks.{optional_quirk, level_quirks, walk_quirks, rest_quirks}
 use Rattle.link_capture_quirks.specs.QuirkLaws.{QuirksUnfoldByFrames}
 
@@ -30,4 +30,4 @@ entered offset t c b first l ls e f link inside_frame header list =
 
 -- after a frame
 pub quirks-after-frame : QuirksUnfoldByFrames → (limit at n : ℕ) (c text : List ℕ) → first_frame limit (drop at c) ≡ Ok (n, text) → rest_quirks limit c at ≡ frame_quirks at (drop at c) ++ rest_quirks limit c (at + nla_align n)
-quirks-after-frame s limit at n c text h = s.next limit at (drop at c) (n, text) h ∙ ap (λ z. frame_quirks at (drop at c) ++ quirks_after limit (at + nla_align n) 0 z) (drop-drop (nla_align n) at c)
+quirks-after-frame s limit at n c text h = s.next limit at (drop at c) (n, text) h ∙ ap (λ z. frame_quirks at (drop at c) ++ quirks_from limit (at + nla_align n) z) (drop-drop (nla_align n) at c)

@@ -1,11 +1,12 @@
 -- The encoding quirks of a capture with their offsets, in the order of the bytes, up to its first fault.
-use Rattle.std.specs.Prelude.{ℕ, zero, suc, ◌+◌, ◌-◌, true, cond, List, [], ◌∷◌, ◌++◌, drop, slice_index, Ok, Err}
+use Rattle.std.specs.Prelude.{ℕ, ◌+◌, true, cond, List, [], ◌∷◌, ◌++◌, length, drop, slice_index, Ok, Err}
 use Rattle.std.specs.Prelude.{Option, Some, None, Result}
 use Rattle.netlink_packet_core_grammar.specs.Attributes.{nla_align}
 use Rattle.netlink_packet_core_grammar.specs.Frames.{frame_type, frame_body}
+use Rattle.link_message_grammar.specs.Body.{link_body}
 use Rattle.link_capture_grammar.specs.declared.fault.CaptureFault.{CaptureFault}
 use Rattle.link_capture_grammar.specs.Bodies.{is_link_type}
-use Rattle.link_capture_grammar.specs.Captures.{Judged, first_frame}
+use Rattle.link_capture_grammar.specs.Captures.{Frame, split}
 use Rattle.link_capture_quirks.specs.declared.quirk_at.QuirkAt.{QuirkAt}
 use Rattle.link_capture_checks.specs.Listings.{whole}
 use Rattle.link_capture_quirks.specs.QuirkTables.{Listing, family_table}
@@ -25,23 +26,18 @@ link_quirks offset t b =
 unfoldable pub frame_quirks : ℕ → List ℕ → List QuirkAt
 frame_quirks offset c = cond (is_link_type (frame_type c)) (link_quirks (offset + 16) (frame_type c) (frame_body c)) []
 
--- The quirks of a capture, from the result for its first frame, that frame's quirks, and the quirks of the bytes after
--- it.
-abbrev pub next_frame_quirks : Judged → List QuirkAt → (ℕ → List QuirkAt) → List QuirkAt
-next_frame_quirks (Ok frame) here after = here ++ after (nla_align frame.0 - 1)
-next_frame_quirks (Err kind) here after = []
+-- The quirks of frames, of which the first one is at `offset`.
+abbrev pub frames_quirks : ℕ → List Frame → List QuirkAt
+frames_quirks offset [] = []
+frames_quirks offset (f ∷ fs) = frame_quirks offset f.bytes ++ frames_quirks (offset + nla_align (length f.bytes)) fs
 
--- The quirks of the frames of c after its first `skip` bytes and before the first fault; c begins at `offset`.
-unfoldable pub quirks_after : ℕ → ℕ → ℕ → List ℕ → List QuirkAt
-quirks_after limit offset skip [] = []
-quirks_after limit offset (suc skip) (b ∷ c) = quirks_after limit (offset + 1) skip c
-quirks_after limit offset zero (b ∷ c) =
-    next_frame_quirks (first_frame limit (b ∷ c)) (frame_quirks offset (b ∷
-    c)) (λ skip. quirks_after limit (offset + 1) skip c)
+-- The quirks of the frames of c before the first fault; c begins at `offset`.
+unfoldable pub quirks_from : ℕ → ℕ → List ℕ → List QuirkAt
+quirks_from limit offset c = frames_quirks offset (split link_body limit c).frames
 
 -- The quirks of a capture.
 abbrev pub capture_quirks : ℕ → List ℕ → List QuirkAt
-capture_quirks limit c = quirks_after limit 0 0 c
+capture_quirks limit c = quirks_from limit 0 c
 
 -- ---- the items of the iterator
 

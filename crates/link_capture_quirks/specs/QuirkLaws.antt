@@ -23,7 +23,7 @@ use Rattle.link_capture_quirks.specs.QuirkRows.{header_quirk}
 use Rattle.link_capture_checks.specs.Listings.{whole}
 use Rattle.link_capture_quirks.specs.QuirkTables.{Listing}
 use Rattle.link_capture_quirks.specs.QuirkLists.{direct_quirks, inside_of, list_kind_after, inside_quirks, list_quirks}
-use Rattle.link_capture_quirks.specs.CaptureQuirks.{frame_quirks, quirks_after}
+use Rattle.link_capture_quirks.specs.CaptureQuirks.{frame_quirks, quirks_from}
 
 -- The quirks of a list are those of its first attribute, of the list inside that, and of the rest. If no whole
 -- attribute is left, there are none.
@@ -40,11 +40,11 @@ pub record ListsUnfoldByAttributes : Type 0 where
 -- on there are none.
 pub record QuirksUnfoldByFrames : Type 0 where
   pub next : (limit offset : ℕ) (c : List ℕ) (frame : ℕ × List ℕ) → first_frame limit c ≡ Ok frame →
-      quirks_after limit offset 0 c ≡
-      frame_quirks offset c ++ quirks_after limit (offset + nla_align frame.0) 0 (drop (nla_align frame.0) c)
+      quirks_from limit offset c ≡
+      frame_quirks offset c ++ quirks_from limit (offset + nla_align frame.0) (drop (nla_align frame.0) c)
   pub fault : (limit offset : ℕ) (c : List ℕ) (kind : FaultKind) → first_frame limit c ≡ Err kind →
-      quirks_after limit offset 0 c ≡ []
-  pub none : (limit offset : ℕ) → quirks_after limit offset 0 [] ≡ []
+      quirks_from limit offset c ≡ []
+  pub none : (limit offset : ℕ) → quirks_from limit offset [] ≡ []
 
 -- ---- what is written
 

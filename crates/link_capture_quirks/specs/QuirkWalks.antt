@@ -8,7 +8,7 @@ use Rattle.link_capture_quirks.specs.declared.walk.Level.{Level}
 use Rattle.link_capture_checks.specs.Listings.{listing}
 use Rattle.link_capture_quirks.specs.QuirkTables.{depth}
 use Rattle.link_capture_quirks.specs.QuirkLists.{list_quirks}
-use Rattle.link_capture_quirks.specs.CaptureQuirks.{quirks_after}
+use Rattle.link_capture_quirks.specs.CaptureQuirks.{quirks_from}
 
 -- The quirks of the rest of one list.
 abbrev pub level_quirks : Level → List QuirkAt
@@ -48,7 +48,7 @@ weight (l ∷ ls) = weight ls + (length l.rest.now + 1)
 
 -- The quirks of a capture from an offset on.
 abbrev pub rest_quirks : ℕ → List ℕ → ℕ → List QuirkAt
-rest_quirks limit c offset = quirks_after limit offset 0 (drop offset c)
+rest_quirks limit c offset = quirks_from limit offset (drop offset c)
 
 -- The first fault of a capture from an offset on.
 abbrev pub rest_fault : ℕ → List ℕ → ℕ → Option CaptureFault

@@ -7,7 +7,7 @@ use Rattle.link_capture_grammar.specs.declared.fault.CaptureFault.{CaptureFault}
 use Rattle.link_capture_grammar.specs.declared.fault.FaultKind.{FaultKind}
 use Rattle.link_capture_grammar.specs.declared.fault.FaultKind.TheVariants.{Cut}
 use Rattle.netlink_packet_core_grammar.specs.Attributes.{nla_align}
-use Rattle.link_capture_grammar.specs.Captures.{first_frame, first_fault, fault_after_under, texts, texts_after_under, shifted, reach, reach_by, HeaderIsAllowed, IsLegal, StopsAt}
+use Rattle.link_capture_grammar.specs.Captures.{first_frame, first_fault, split_within, texts, shifted, reach, reach_by, HeaderIsAllowed, IsLegal, StopsAt}
 use Rattle.link_capture_grammar.specs.Laws.{CapturesUnfoldByFrames, FramesAreIndependent}
 use Rattle.link_capture_grammar.proofs.Frames.{shifted_add}
 use Rattle.link_capture_reader.specs.Readers.{IsAcceptedOrCut, Resumes}
@@ -15,11 +15,11 @@ use Rattle.link_capture_reader.specs.Walks.{ReadsTo, Faults, RunsOutOfMemory, Pa
 
 -- an empty capture has no fault and no texts
 pub fault_nil : (limit : ℕ) → first_fault limit [] ≡ None
-unfolding fault_after_under
+unfolding split_within
 fault_nil limit = refl
 
 pub texts_nil : (limit : ℕ) → texts limit [] ≡ []
-unfolding texts_after_under
+unfolding split_within
 texts_nil limit = refl
 
 -- t is appended to what is written

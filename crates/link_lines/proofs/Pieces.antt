@@ -1,61 +1,22 @@
 -- The messages of a capture in pieces.
-use Rattle.std.proofs.Common.{◌≡◌, ◌&&◌, ℕ, zero, suc, ◌+◌, ◌-◌, ◌%◌, ◌<◌, ◌≤◌, min, Bool, true, false, cond, List, [], ◌∷◌, ◌++◌, length, take, drop, None, Ok, Err, refl, sym, ap, subst, ◌∙◌, arith}
-use Rattle.std.proofs.lemmas.List.{drop_all, length-take, take-append-drop, take-append-le}
-use Rattle.netlink_packet_core_grammar.proofs.Numbers.{u32_at-append}
+use Rattle.std.proofs.Common.{◌≡◌, ◌&&◌, ℕ, zero, suc, ◌+◌, ◌%◌, ◌<◌, ◌≤◌, Bool, true, false, List, [], ◌∷◌, ◌++◌, length, take, drop, None, Ok, Err, inl, inr, refl, sym, ap, ◌∙◌, arith}
+use Rattle.std.proofs.lemmas.List.{drop_all, drop-append-le, length-append, length-drop, length-take}
 use Rattle.netlink_packet_core_grammar.specs.Attributes.{nla_align}
 use Rattle.netlink_packet_core_grammar.specs.Frames.{IsFrame, frame_length}
-use Rattle.netlink_packet_core_grammar.specs.Numbers.{u32_at}
 use Rattle.link_message_grammar.specs.Body.{link_body}
-use Rattle.link_capture_grammar.proofs.Frames.{first_frame_whole}
-use Rattle.link_capture_grammar.specs.Captures.{Judged, first_frame}
+use Rattle.link_capture_grammar.proofs.Frames.{seen}
+use Rattle.link_capture_grammar.specs.Captures.{first_frame}
 use Rattle.link_capture_grammar.specs.Laws.{FramesAreIndependent}
 use Rattle.link_capture_grammar.specs.declared.fault.FaultKind.{FaultKind}
 use Rattle.link_lines.specs.MessageLaws.{MessagesUnfold}
 use Rattle.link_lines.specs.MessageLines.{messages_lines}
-use Rattle.link_lines.specs.Messages.{Message, Message.Accepted, Message.Faulty, Message.Last, frame_of, is_of_body, last_fault, messages_after, messages_at, next_messages}
+use Rattle.link_lines.specs.Messages.{Message, Message.Accepted, Message.Faulty, Message.Last, frame_of, is_of_body, last_fault, messages_at}
 use Rattle.link_lines.specs.Pieces.{GoesOn, PiecesAreJoined, first_message, goes_past}
 use Rattle.link_lines.proofs.FaultyDetermined.{fault_of_body}
 use Rattle.link_lines.proofs.Passing.{lines_more, open_more}
+use Rattle.link_lines.proofs.Walk.{accepted_frame, front_of, unchanged_by_more}
 
--- ---- the first message, whatever follows it
-
--- More bytes leave the first message as it is.
-record IsUnchanged (limit : ℕ) (c d : List ℕ) : Type 0 where
-  size : frame_length d ≡ frame_length c
-  frame : frame_of d ≡ frame_of c
-  judged : first_frame limit d ≡ first_frame limit c
-
-unchanged_by_more : (limit : ℕ) (c more : List ℕ) → IsFrame c → IsUnchanged limit c (c ++ more)
-unchanged_by_more limit c more f =
-    let same : frame_length (c ++ more) ≡ frame_length c = u32_at-append c more (omega (arith, f.has_header)) in
-    record {
-      size = same;
-      frame = ap (λ m. take m (c ++ more)) same ∙ take-append-le (frame_length c) c more f.within;
-      judged = first_frame_whole link_body limit c more f.has_header f.within;
-    }
-
--- A message with the bytes that follow it, or some of them.
-record IsFrontOf (limit : ℕ) (c front : List ℕ) : Type 0 where
-  is_frame : IsFrame front
-  unchanged : IsUnchanged limit front c
-
-front_of : (limit m : ℕ) (c : List ℕ) → IsFrame c → frame_length c ≤ m → IsFrontOf limit c (take m c)
-front_of limit m c f l =
-    let front = take m c in
-    let whole : front ++ drop m c ≡ c = take-append-drop m c in
-    let size : length front ≡ min m (length c) = length-take m c in
-    let same : frame_length c ≡ frame_length front = ap (u32_at 0) (sym whole) ∙ u32_at-append front (drop m c) (omega (arith, size, f.covers_header, f.within)) in
-    let is_frame : IsFrame front = record {
-      has_header = omega (arith, size, l, f.covers_header, f.has_header);
-      covers_header = omega (arith, same, f.covers_header);
-      within = omega (arith, same, size, l, f.within);
-    } in
-    record { is_frame = is_frame; unchanged = subst (IsUnchanged limit front) whole (unchanged_by_more limit front (drop m c) is_frame) }
-
-accepted_frame : FramesAreIndependent link_body → (limit : ℕ) (c : List ℕ) (frame : ℕ × List ℕ) → first_frame limit c ≡ Ok frame → IsFrame c
-accepted_frame frames limit c frame e =
-    let a = frames.accepted limit c frame e in
-    record { has_header = a.header; covers_header = omega (arith, a.low, a.is); within = omega (arith, a.whole, a.is) }
+-- ---- the first message alone
 
 aligned : (n : ℕ) → n ≤ nla_align n
 aligned n = omega arith
@@ -106,84 +67,91 @@ has_header limit c kind e body =
 
 -- ---- bytes that follow others
 
--- Showing goes on after a fault only if it is one of a message's body, and if such messages are shown.
-goes_on_by : (k of_body : Bool) (m : Message) (more : List Message) (offset : ℕ) (kind : FaultKind) (frame : List ℕ) → last_fault (cond of_body (cond k (m ∷ more) (Last offset kind frame ∷ [])) (Last offset kind [] ∷ [])) ≡ None → (of_body ≡ true) × (k ≡ true)
-goes_on_by true true m more offset kind frame e = (refl, refl)
-goes_on_by false true m more offset kind frame e = absurd cc
-goes_on_by k false m more offset kind frame e = absurd cc
+-- A last message isn't one at which showing goes on.
+not_last : (offset : ℕ) (kind : FaultKind) (frame : List ℕ) (ms : List Message) → ms ≡ Last offset kind frame ∷ [] → last_fault ms ≡ None → ⊥
+not_last offset kind frame ms e h = let f = sym (ap last_fault e) ∙ h in cc
 
--- The padding of a message ends within bytes whose size is a multiple of 4.
-padded_within : (n size : ℕ) → 1 ≤ n → n ≤ suc size → suc size % 4 ≡ 0 → (nla_align n - 1 ≤ size) × ((size - (nla_align n - 1)) % 4 ≡ 0)
-padded_within n size low inside padded = (omega arith, omega arith)
+module _ (frames : FramesAreIndependent link_body) (go : MessagesUnfold) (k : Bool) (limit : ℕ) (b : List ℕ) where
+  -- The messages of a are followed by those of b.
+  abbrev Follows : ℕ → List ℕ → Type 0
+  Follows offset a = GoesOn k limit offset a → length a % 4 ≡ 0 → messages_at k limit offset (a ++ b) ≡ messages_at k limit offset a ++ messages_at k limit (offset + length a) b
 
-module _ (frames : FramesAreIndependent link_body) (k : Bool) (limit : ℕ) (b : List ℕ) where
-  -- The messages of bytes after the first `skip` are followed by those of b.
-  abbrev Follows : List ℕ → ℕ → ℕ → Type 0
-  Follows a offset skip = last_fault (messages_after k limit offset skip a) ≡ None → skip ≤ length a → (length a - skip) % 4 ≡ 0 →
-      messages_after k limit offset skip (a ++ b) ≡ messages_after k limit offset skip a ++ messages_at k limit (offset + length a) b
+  -- One message comes before those that follow.
+  message_follows : (offset n : ℕ) (a : List ℕ) (m : Message) → n % 4 ≡ 0 → n ≤ length a → messages_at k limit offset a ≡ m ∷ messages_at k limit (offset + n) (drop n a)
+      → messages_at k limit offset (a ++ b) ≡ m ∷ messages_at k limit (offset + n) (drop n (a ++ b)) → (last_fault (messages_at k limit offset a) ≡ None → last_fault (messages_at k limit (offset + n) (drop n a)) ≡ None)
+      → Follows (offset + n) (drop n a) → Follows offset a
+  message_follows offset n a m whole inside one both on more goes_on padded =
+      let rest = drop n a in
+      let size = length-drop n a in
+      let end : (offset + n) + length rest ≡ offset + length a = omega (arith, size, inside) in
+      both ∙ ap (λ x. m ∷ messages_at k limit (offset + n) x) (drop-append-le n a b inside)
+      ∙ ap (λ ms. m ∷ ms) (more (on goes_on) (omega (arith, size, padded, whole, inside)))
+      ∙ ap (λ at. m ∷ (messages_at k limit (offset + n) rest ++ messages_at k limit at b)) end
+      ∙ sym (ap (λ ms. ms ++ messages_at k limit (offset + length a) b) one)
 
-  abbrev after : List ℕ → ℕ → ℕ → List Message
-  after a offset skip = messages_after k limit (offset + 1) skip a
+  accepted_follows : (offset : ℕ) (a : List ℕ) (frame : ℕ × List ℕ) → first_frame limit a ≡ Ok frame → length a % 4 ≡ 0 → Follows (offset + nla_align frame.0) (drop (nla_align frame.0) a) → Follows offset a
+  accepted_follows offset a frame e padded =
+      let accepted = frames.accepted limit a frame e in
+      let one = go.accepted k limit offset a frame e in
+      message_follows offset (nla_align frame.0) a (Accepted offset frame.1) (omega arith) (omega (arith, accepted.whole, padded)) one
+      (go.accepted k limit offset (a ++ b) frame ((unchanged_by_more limit a b (accepted_frame frames limit a frame e)).judged ∙ e)) (λ h. sym (ap last_fault one) ∙ h)
 
-  there : (a : List ℕ) (offset x : ℕ) (ms : List Message) → ms ++ messages_at k limit ((offset + 1) + length a) b ≡ ms ++ messages_at k limit (offset + length (x ∷ a)) b
-  there a offset x ms = let e : (offset + 1) + length a ≡ offset + length (x ∷ a) = omega arith in ap (λ n. ms ++ messages_at k limit n b) e
+  faulty_follows : (offset : ℕ) (a : List ℕ) (kind : FaultKind) → first_frame limit a ≡ Err kind → is_of_body kind ≡ true → k ≡ true → length a % 4 ≡ 0 → Follows (offset + nla_align (frame_length a)) (drop (nla_align (frame_length a)) a) → Follows offset a
+  faulty_follows offset a kind e body goes padded =
+      let f = (fault_of_body limit a kind e body).frame in
+      let u = unchanged_by_more limit a b f in
+      let n = nla_align (frame_length a) in
+      let whole : IsFrame (a ++ b) = record {
+        has_header = omega (arith, f.has_header, length-append a b);
+        covers_header = omega (arith, f.covers_header, u.size);
+        within = omega (arith, f.within, u.size, length-append a b);
+      } in
+      let one = faulty_at offset a kind e body f goes in
+      let both : messages_at k limit offset (a ++ b) ≡ Faulty offset kind (frame_of a) ∷ messages_at k limit (offset + n) (drop n (a ++ b)) =
+      faulty_at offset (a ++ b) kind (u.judged ∙ e) body whole goes
+      ∙ ap (λ frame. Faulty offset kind frame ∷ messages_at k limit (offset + nla_align (frame_length (a ++ b))) (drop (nla_align (frame_length (a ++ b))) (a ++ b))) u.frame
+      ∙ ap (λ m. Faulty offset kind (frame_of a) ∷ messages_at k limit (offset + nla_align m) (drop (nla_align m) (a ++ b))) u.size in
+      message_follows offset n a (Faulty offset kind (frame_of a)) (omega arith) (omega (arith, f.within, padded)) one both (λ h. sym (ap last_fault one) ∙ h)
+    where
+      faulty_at : (offset : ℕ) (c : List ℕ) (kind : FaultKind) → first_frame limit c ≡ Err kind → is_of_body kind ≡ true → IsFrame c → k ≡ true → messages_at k limit offset c ≡ Faulty offset kind (frame_of c) ∷ messages_at k limit (offset + nla_align (frame_length c)) (drop (nla_align (frame_length c)) c)
+      faulty_at offset c kind e body f goes =
+          ap (λ y. messages_at y limit offset c) goes ∙ go.faulty limit offset c kind e body f
+          ∙ ap (λ y. Faulty offset kind (frame_of c) ∷ messages_at y limit (offset + nla_align (frame_length c)) (drop (nla_align (frame_length c)) c)) (sym goes)
 
-  accepted_follows : (a : List ℕ) (offset x : ℕ) (frame : ℕ × List ℕ) → first_frame limit (x ∷ a) ≡ Ok frame → last_fault (after a offset (nla_align frame.0 - 1)) ≡ None → length (x ∷ a) % 4 ≡ 0 → ((skip : ℕ) → Follows a (offset + 1) skip) →
-      next_messages k offset (x ∷ (a ++ b)) (first_frame limit (x ∷ (a ++ b))) (after (a ++ b) offset) ≡ next_messages k offset (x ∷ a) (Ok frame) (after a offset) ++ messages_at k limit (offset + length (x ∷ a)) b
-  accepted_follows a offset x frame e goes_on padded more =
-      let accepted = frames.accepted limit (x ∷ a) frame e in
-      let same : first_frame limit (x ∷ (a ++ b)) ≡ Ok frame = (unchanged_by_more limit (x ∷ a) b (accepted_frame frames limit (x ∷ a) frame e)).judged ∙ e in
-      let within = padded_within frame.0 (length a) (omega (arith, accepted.low)) (omega (arith, accepted.whole)) padded in
-      ap (λ j. next_messages k offset (x ∷ (a ++ b)) j (after (a ++ b) offset)) same
-      ∙ ap (λ ms. Accepted offset frame.1 ∷ ms) (more (nla_align frame.0 - 1) goes_on within.0 within.1 ∙ there a offset x (after a offset (nla_align frame.0 - 1)))
+  -- Showing goes on after a fault only if it is one of a message's body, and if such messages are shown.
+  fault_follows : (offset : ℕ) (a : List ℕ) (kind : FaultKind) → 0 < length a → first_frame limit a ≡ Err kind → length a % 4 ≡ 0 → ((offset n : ℕ) → 16 ≤ n → Follows offset (drop (nla_align n) a)) → Follows offset a
+  fault_follows offset a kind l e padded more goes_on =
+      elim (goes_past k kind) as (λ x. goes_past k kind ≡ x → length a % 4 ≡ 0 → messages_at k limit offset (a ++ b) ≡ messages_at k limit offset a ++ messages_at k limit (offset + length a) b) [
+        | true ↦
+            (λ h.
+            let goes = past_by (is_of_body kind) k h in
+            faulty_follows offset a kind e goes.0 goes.1 padded (more (offset + nla_align (frame_length a)) (frame_length a) (fault_of_body limit a kind e goes.0).frame.covers_header) goes_on)
+        | false ↦ (λ h. let s = stopped_by go k limit offset a kind (is_of_body kind) refl l e h in absurd (not_last offset kind s.0 (messages_at k limit offset a) s.1 goes_on))
+      ] refl
 
-  faulty_is : (offset : ℕ) (c : List ℕ) (kind : FaultKind) (rest : ℕ → List Message) → is_of_body kind ≡ true → k ≡ true → next_messages k offset c (Err kind) rest ≡ Faulty offset kind (frame_of c) ∷ rest (nla_align (frame_length c) - 1)
-  faulty_is offset c kind rest body goes =
-      ap (λ y. cond y (cond k (Faulty offset kind (frame_of c) ∷ rest (nla_align (frame_length c) - 1)) (Last offset kind (frame_of c) ∷ [])) (Last offset kind [] ∷ [])) body
-      ∙ ap (λ y. cond y (Faulty offset kind (frame_of c) ∷ rest (nla_align (frame_length c) - 1)) (Last offset kind (frame_of c) ∷ [])) goes
-
-  faulty_follows : (a : List ℕ) (offset x : ℕ) (kind : FaultKind) → first_frame limit (x ∷ a) ≡ Err kind → is_of_body kind ≡ true → k ≡ true → last_fault (next_messages k offset (x ∷ a) (Err kind) (after a offset)) ≡ None → length (x ∷ a) % 4 ≡ 0 → ((skip : ℕ) → Follows a (offset + 1) skip) →
-      next_messages k offset (x ∷ (a ++ b)) (first_frame limit (x ∷ (a ++ b))) (after (a ++ b) offset) ≡ next_messages k offset (x ∷ a) (Err kind) (after a offset) ++ messages_at k limit (offset + length (x ∷ a)) b
-  faulty_follows a offset x kind e body goes goes_on padded more =
+  follows_within : (size : ℕ) (offset : ℕ) (a : List ℕ) → length a ≤ size → Follows offset a
+  follows_within size offset [] l goes_on padded =
+      let here : offset ≡ offset + length {A = ℕ} [] = omega arith in
+      ap (λ n. messages_at k limit n b) here ∙ sym (ap (λ ms. ms ++ messages_at k limit (offset + length {A = ℕ} []) b) (go.none k limit offset))
+  follows_within zero offset (x ∷ a) l goes_on padded = absurd (omega arith)
+  follows_within (suc size) offset (x ∷ a) l goes_on padded =
       let c = x ∷ a in
-      let f = (fault_of_body limit c kind e body).frame in
-      let u = unchanged_by_more limit c b f in
-      let n = nla_align (frame_length c) - 1 in
-      let alone = faulty_is offset c kind (after a offset) body goes in
-      let within = padded_within (frame_length c) (length a) (omega (arith, f.covers_header)) (omega (arith, f.within)) padded in
-      ap (λ j. next_messages k offset (c ++ b) j (after (a ++ b) offset)) (u.judged ∙ e)
-      ∙ faulty_is offset (c ++ b) kind (after (a ++ b) offset) body goes
-      ∙ ap (λ frame. Faulty offset kind frame ∷ after (a ++ b) offset (nla_align (frame_length (c ++ b)) - 1)) u.frame
-      ∙ ap (λ size. Faulty offset kind (frame_of c) ∷ after (a ++ b) offset (nla_align size - 1)) u.size
-      ∙ ap (λ ms. Faulty offset kind (frame_of c) ∷ ms) (more n (sym (ap last_fault alone) ∙ goes_on) within.0 within.1 ∙ there a offset x (after a offset n))
-      ∙ ap (λ ms. ms ++ messages_at k limit (offset + length c) b) (sym alone)
+      elim (seen (first_frame limit c)) [
+        | inl w ↦ accepted_follows offset c w.0 w.1 padded (follows_within size (offset + nla_align w.0.0) (drop (nla_align w.0.0) c) (omega (arith, (frames.accepted limit c w.0 w.1).low, length-drop (nla_align w.0.0) c, l))) goes_on padded
+        | inr w ↦ fault_follows offset c w.0 (omega arith) w.1 padded (λ at n low. follows_within size at (drop (nla_align n) c) (omega (arith, low, length-drop (nla_align n) c, l))) goes_on padded
+      ]
 
-  next_follows : (a : List ℕ) (offset x : ℕ) (j : Judged) → first_frame limit (x ∷ a) ≡ j → last_fault (next_messages k offset (x ∷ a) j (after a offset)) ≡ None → length (x ∷ a) % 4 ≡ 0 → ((skip : ℕ) → Follows a (offset + 1) skip) →
-      next_messages k offset (x ∷ (a ++ b)) (first_frame limit (x ∷ (a ++ b))) (after (a ++ b) offset) ≡ next_messages k offset (x ∷ a) j (after a offset) ++ messages_at k limit (offset + length (x ∷ a)) b
-  next_follows a offset x (Ok frame) e goes_on padded more = accepted_follows a offset x frame e goes_on padded more
-  next_follows a offset x (Err kind) e goes_on padded more =
-      let goes = goes_on_by k (is_of_body kind) (Faulty offset kind (frame_of (x ∷ a))) (after a offset (nla_align (frame_length (x ∷ a)) - 1)) offset kind (frame_of (x ∷ a)) goes_on in
-      faulty_follows a offset x kind e goes.0 goes.1 goes_on padded more
-
-  follows : (a : List ℕ) (offset skip : ℕ) → Follows a offset skip
-  unfolding messages_after messages_at
-  follows [] offset zero goes_on inside padded = let e : offset ≡ offset + 0 = omega arith in ap (λ n. messages_after k limit n 0 b) e
-  follows [] offset (suc skip) goes_on inside padded = absurd (omega (arith, inside))
-  follows (x ∷ a) offset (suc skip) goes_on inside padded = follows a (offset + 1) skip goes_on (omega (arith, inside)) (omega (arith, padded)) ∙ there a offset x (messages_after k limit (offset + 1) skip a)
-  follows (x ∷ a) offset zero goes_on inside padded = next_follows a offset x (first_frame limit (x ∷ a)) refl goes_on (omega (arith, padded)) (λ skip. follows a (offset + 1) skip)
-
-joined : FramesAreIndependent link_body → (k : Bool) (limit offset : ℕ) (a b : List ℕ) → GoesOn k limit offset a → length a % 4 ≡ 0 → messages_at k limit offset (a ++ b) ≡ messages_at k limit offset a ++ messages_at k limit (offset + length a) b
-unfolding messages_at
-joined frames k limit offset a b goes_on padded = follows frames k limit b a offset 0 goes_on (omega arith) (omega (arith, padded))
+joined : FramesAreIndependent link_body → MessagesUnfold → (k : Bool) (limit offset : ℕ) (a b : List ℕ) → GoesOn k limit offset a → length a % 4 ≡ 0 → messages_at k limit offset (a ++ b) ≡ messages_at k limit offset a ++ messages_at k limit (offset + length a) b
+joined frames go k limit offset a b = follows_within frames go k limit b (length a) offset a (omega arith)
 
 pub pieces_are_joined : FramesAreIndependent link_body → MessagesUnfold → PiecesAreJoined
 pieces_are_joined frames go = record {
-  messages = joined frames;
+  messages = joined frames go;
   lines = λ o limit offset a b goes_on padded.
       let k = o.keep_going in
-      ap (messages_lines o) (joined frames k limit offset a b goes_on padded) ∙ lines_more o (messages_at k limit offset a) (messages_at k limit (offset + length a) b);
+      ap (messages_lines o) (joined frames go k limit offset a b goes_on padded) ∙ lines_more o (messages_at k limit offset a) (messages_at k limit (offset + length a) b);
   last = λ k limit offset a b goes_on padded.
-      ap last_fault (joined frames k limit offset a b goes_on padded) ∙ open_more (messages_at k limit offset a) (messages_at k limit (offset + length a) b) goes_on;
+      ap last_fault (joined frames go k limit offset a b goes_on padded) ∙ open_more (messages_at k limit offset a) (messages_at k limit (offset + length a) b) goes_on;
   accepted = accepted_alone frames go;
   faulty = faulty_alone go;
   header = has_header;

@@ -1,42 +1,53 @@
 -- A capture shown without offsets up to its first fault.
-use Rattle.std.proofs.Common.{◌≡◌, ℕ, zero, suc, ◌+◌, ◌-◌, ◌^◌, ◌<◌, Bool, true, false, cond, List, [], ◌∷◌, ◌++◌, take, Ok, Err, refl, sym, ap, ◌∙◌}
+use Rattle.std.proofs.Common.{◌≡◌, ℕ, ◌+◌, ◌^◌, ◌<◌, Bool, true, false, cond, List, [], ◌∷◌, ◌++◌, take, drop, Ok, Err, refl, sym, ap, ◌∙◌, arith}
 use Rattle.netlink_packet_core_grammar.specs.Attributes.{nla_align}
 use Rattle.link_message_grammar.specs.Body.{link_body}
-use Rattle.link_capture_grammar.specs.Captures.{Judged, first_frame, next_texts, texts_after, texts_after_under}
+use Rattle.link_capture_grammar.specs.Captures.{first_frame, texts}
 use Rattle.link_capture_grammar.specs.Laws.{CapturesUnfoldByFrames}
+use Rattle.link_capture_grammar.proofs.Frames.{by_frames, texts_step, texts_stop}
 use Rattle.link_capture_grammar.specs.declared.fault.FaultKind.{FaultKind}
 use Rattle.link_lines.specs.MessageLaws.{NothingOmittedKeepsAll}
 use Rattle.link_lines_texts.specs.Captures.{Choice, text_lines}
 use Rattle.link_lines_texts.specs.Laws.{LinesAreJoined}
-use Rattle.link_lines.specs.MessageLaws.{LinesOfMessagesAreOfTexts, plain}
+use Rattle.link_lines.specs.MessageLaws.{LinesOfMessagesAreOfTexts, MessagesUnfold, plain}
 use Rattle.link_lines.specs.MessageLines.{messages_lines}
-use Rattle.link_lines.specs.Messages.{Message, Message.Last, frame_of, is_of_body, messages_after, messages_at, next_messages}
+use Rattle.link_lines.specs.Messages.{Message, Message.Accepted, Message.Last, frame_of, is_of_body, messages_at}
 use Rattle.link_lines.proofs.Joined.{no_lines}
+use Rattle.link_lines.proofs.Walk.{at_fault}
 
-module _ (choice : Choice) (go : CapturesUnfoldByFrames link_body) (joined : LinesAreJoined) (all : NothingOmittedKeepsAll) (limit : ℕ) (small : limit < 2 ^ 32) where
-  stopped : (offset : ℕ) (c : List ℕ) (kind : FaultKind) (b : Bool) (after : ℕ → List Message) → messages_lines (plain choice) (cond b (Last offset kind (frame_of c) ∷ []) (Last offset kind [] ∷ [])) ≡ []
+module _ (choice : Choice) (go : CapturesUnfoldByFrames link_body) (messages : MessagesUnfold) (joined : LinesAreJoined) (all : NothingOmittedKeepsAll) (limit : ℕ) (small : limit < 2 ^ 32) where
+  stopped : (offset : ℕ) (frame : List ℕ) (kind : FaultKind) (b : Bool) → messages_lines (plain choice) (cond b (Last offset kind frame ∷ []) (Last offset kind [] ∷ [])) ≡ []
   unfolding messages_lines
-  stopped offset c kind true after = refl
-  stopped offset c kind false after = refl
+  stopped offset frame kind true = refl
+  stopped offset frame kind false = refl
 
-  next_plain : (offset : ℕ) (c : List ℕ) (j : Judged) (after : ℕ → List Message) (rest : ℕ → List ℕ) → first_frame limit c ≡ j → ((skip : ℕ) → messages_lines (plain choice) (after skip) ≡ text_lines choice (rest skip)) →
-      messages_lines (plain choice) (next_messages false offset c j after) ≡ text_lines choice (next_texts j rest)
+  plain_next : (offset : ℕ) (c : List ℕ) (frame : ℕ × List ℕ) → first_frame limit c ≡ Ok frame → (ms : List Message) (rest : List ℕ) → messages_lines (plain choice) ms ≡ text_lines choice rest →
+      messages_lines (plain choice) (Accepted offset frame.1 ∷ ms) ≡ text_lines choice (frame.1 ++ rest)
   unfolding messages_lines
-  next_plain offset c (Ok frame) after rest e more =
+  plain_next offset c frame e ms rest more =
       let text = go.one_frame_text limit c frame e in
-      ap (λ x. x ++ messages_lines (plain choice) (after (nla_align frame.0 - 1))) (all false (text_lines choice frame.1))
-      ∙ ap (λ x. text_lines choice frame.1 ++ x) (more (nla_align frame.0 - 1))
-      ∙ ap (λ t. text_lines choice t ++ text_lines choice (rest (nla_align frame.0 - 1))) (sym text)
-      ∙ sym (joined choice limit (take (nla_align frame.0) c) (rest (nla_align frame.0 - 1)) small)
-      ∙ ap (λ t. text_lines choice (t ++ rest (nla_align frame.0 - 1))) text
-  next_plain offset c (Err kind) after rest e more = stopped offset c kind (is_of_body kind) after ∙ sym (no_lines choice joined)
+      ap (λ x. x ++ messages_lines (plain choice) ms) (all false (text_lines choice frame.1))
+      ∙ ap (λ x. text_lines choice frame.1 ++ x) more
+      ∙ ap (λ t. text_lines choice t ++ text_lines choice rest) (sym text)
+      ∙ sym (joined choice limit (take (nla_align frame.0) c) rest small)
+      ∙ ap (λ t. text_lines choice (t ++ rest)) text
 
-  plain_after : (c : List ℕ) (offset skip : ℕ) → messages_lines (plain choice) (messages_after false limit offset skip c) ≡ text_lines choice (texts_after limit skip c)
-  unfolding messages_after texts_after_under messages_lines
-  plain_after [] offset skip = sym (no_lines choice joined)
-  plain_after (b ∷ c) offset (suc skip) = plain_after c (offset + 1) skip
-  plain_after (b ∷ c) offset zero = next_plain offset (b ∷ c) (first_frame limit (b ∷ c)) (λ skip. messages_after false limit (offset + 1) skip c) (λ skip. texts_after limit skip c) refl (λ skip. plain_after c (offset + 1) skip)
+  ended : (c : List ℕ) (kind : FaultKind) → first_frame limit c ≡ Err kind → (offset : ℕ) → messages_lines (plain choice) (messages_at false limit offset c) ≡ []
+  unfolding messages_lines
+  ended [] kind h offset = ap (messages_lines (plain choice)) (messages.none false limit offset)
+  ended (b ∷ c) kind h offset =
+      let m = at_fault false limit offset (b ∷ c) kind (omega arith) h in
+      ap (messages_lines (plain choice)) m.1 ∙ stopped offset (frame_of (b ∷ c)) kind (is_of_body kind)
 
-pub lines_of_messages_are_of_texts : CapturesUnfoldByFrames link_body → LinesAreJoined → NothingOmittedKeepsAll → LinesOfMessagesAreOfTexts
-unfolding messages_at
-lines_of_messages_are_of_texts go joined all choice limit c small = plain_after choice go joined all limit small c 0 0
+  plain_at : (c : List ℕ) (offset : ℕ) → messages_lines (plain choice) (messages_at false limit offset c) ≡ text_lines choice (texts limit c)
+  plain_at =
+      by_frames link_body limit (λ c. (offset : ℕ) → messages_lines (plain choice) (messages_at false limit offset c) ≡ text_lines choice (texts limit c))
+      (λ c frame h more offset.
+      let rest = drop (nla_align frame.0) c in
+      ap (messages_lines (plain choice)) (messages.accepted false limit offset c frame h)
+      ∙ plain_next offset c frame h (messages_at false limit (offset + nla_align frame.0) rest) (texts limit rest) (more (offset + nla_align frame.0))
+      ∙ sym (ap (text_lines choice) (texts_step link_body limit c frame h)))
+      (λ c kind h offset. ended c kind h offset ∙ sym (ap (text_lines choice) (texts_stop link_body limit c kind h) ∙ no_lines choice joined))
+
+pub lines_of_messages_are_of_texts : CapturesUnfoldByFrames link_body → MessagesUnfold → LinesAreJoined → NothingOmittedKeepsAll → LinesOfMessagesAreOfTexts
+lines_of_messages_are_of_texts go messages joined all choice limit c small = plain_at choice go messages joined all limit small c 0

@@ -10,14 +10,14 @@ use Rattle.link_lines_texts.proofs.FrameUnfolding.{joined}
 use Rattle.link_lines_texts.proofs.FramesDetermined.{determined as frames_determined}
 use Rattle.link_lines_texts.specs.Captures.{text_lines}
 use Rattle.link_lines.specs.Meanings.{LinesDependOnMeaning}
-use Rattle.link_lines.specs.MessageLaws.{LinesDetermineContents, LinesDetermineOffsets, LinesOfMessagesAreOfTexts, MessagesUnfold}
+use Rattle.link_lines.specs.MessageLaws.{FirstFaultsAreReported, LinesDetermineContents, LinesDetermineOffsets, LinesOfMessagesAreOfTexts, MessagesUnfold}
 use Rattle.link_lines.specs.Pieces.{PiecesAreJoined}
 use Rattle.link_lines.proofs.ContentsDetermined.{contents_determined}
 use Rattle.link_lines.proofs.Keeping.{all_kept}
 use Rattle.link_lines.proofs.OffsetsDetermined.{offsets_determined}
 use Rattle.link_lines.proofs.Pieces as pieces
 use Rattle.link_lines.proofs.Plain as plain
-use Rattle.link_lines.proofs.Reports.{first_faults_are_reported}
+use Rattle.link_lines.proofs.Reports as reports
 use Rattle.link_lines.proofs.Walk as walk
 
 pub messages_unfold : MessagesUnfold
@@ -26,8 +26,11 @@ messages_unfold = walk.messages_unfold (frames_are_independent link_body)
 pub pieces_are_joined : PiecesAreJoined
 pieces_are_joined = pieces.pieces_are_joined (frames_are_independent link_body) messages_unfold
 
+pub first_faults_are_reported : FirstFaultsAreReported
+first_faults_are_reported = reports.first_faults_are_reported messages_unfold
+
 pub lines_of_messages : LinesOfMessagesAreOfTexts
-lines_of_messages = plain.lines_of_messages_are_of_texts (captures_unfold_by_frames link_body) joined all_kept
+lines_of_messages = plain.lines_of_messages_are_of_texts (captures_unfold_by_frames link_body) messages_unfold joined all_kept
 
 pub lines_depend_on_meaning : LinesDependOnMeaning
 lines_depend_on_meaning choice limit c small = record {

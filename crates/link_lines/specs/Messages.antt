@@ -1,9 +1,10 @@
 -- The messages of a capture in order: up to the first fault, or past messages with a fault of their body.
-use Rattle.std.specs.Prelude.{ℕ, zero, suc, ◌+◌, ◌-◌, ◌^◌, nat_lt, Bool, true, false, cond, List, [], ◌∷◌, length, take}
+use Rattle.std.specs.Prelude.{ℕ, ◌+◌, ◌^◌, nat_lt, Bool, true, false, cond, List, [], ◌∷◌, length, take}
 use Rattle.std.specs.Prelude.{Option, None, Some, Ok, Err}
 use Rattle.netlink_packet_core_grammar.specs.Attributes.{nla_align}
 use Rattle.netlink_packet_core_grammar.specs.Frames.{frame_length}
 use Rattle.link_capture_grammar.specs.Captures.{Judged, first_frame}
+use Rattle.link_capture_grammar.specs.WholeFrames.{whole_frames}
 use Rattle.link_capture_grammar.specs.declared.fault.CaptureFault.{CaptureFault}
 use Rattle.link_capture_grammar.specs.declared.fault.FaultKind.{FaultKind}
 use Rattle.link_capture_grammar.specs.declared.fault.FaultKind.TheVariants.{EmptyPorts, Refused, TextOverLimit, Unfit}
@@ -28,24 +29,26 @@ is_of_body kind = false
 abbrev pub frame_of : List ℕ → List ℕ
 frame_of c = take (frame_length c) c
 
--- The messages of c, which is at an offset, from the result for its first frame and the messages after that.
-abbrev pub next_messages : Bool → ℕ → List ℕ → Judged → (ℕ → List Message) → List Message
-next_messages keep_going offset c (Ok frame) after = Accepted offset frame.1 ∷ after (nla_align frame.0 - 1)
-next_messages keep_going offset c (Err kind) after =
-    cond (is_of_body kind) (cond keep_going (Faulty offset kind (frame_of c) ∷ after (nla_align (frame_length c) - 1))
-    (Last offset kind (frame_of c) ∷ [])) (Last offset kind [] ∷ [])
+-- The messages from one at an offset on, given by its bytes, the result for it, and the messages after it.
+abbrev pub next_messages : Bool → ℕ → List ℕ → Judged → List Message → List Message
+next_messages keep_going offset frame (Ok accepted) more = Accepted offset accepted.1 ∷ more
+next_messages keep_going offset frame (Err kind) more =
+    cond (is_of_body kind) (cond keep_going (Faulty offset kind frame ∷ more) (Last offset kind frame ∷ []))
+    (Last offset kind [] ∷ [])
 
--- The messages of c, which is at an offset, after its first `skip` bytes.
-unfoldable pub messages_after : Bool → ℕ → ℕ → ℕ → List ℕ → List Message
-messages_after keep_going limit offset skip [] = []
-messages_after keep_going limit offset (suc skip) (b ∷ c) = messages_after keep_going limit (offset + 1) skip c
-messages_after keep_going limit offset zero (b ∷ c) =
-    next_messages keep_going offset (b ∷ c) (first_frame limit (b ∷ c))
-    (λ skip. messages_after keep_going limit (offset + 1) skip c)
+-- The messages of whole frames, of which the first one is at an offset, and of the bytes after them.
+abbrev pub frames_messages : Bool → ℕ → ℕ → List (List ℕ) → List ℕ → List Message
+frames_messages keep_going limit offset [] [] = []
+frames_messages keep_going limit offset [] (b ∷ c) =
+    next_messages keep_going offset (frame_of (b ∷ c)) (first_frame limit (b ∷ c)) []
+frames_messages keep_going limit offset (f ∷ fs) rest =
+    next_messages keep_going offset (frame_of f) (first_frame limit f)
+    (frames_messages keep_going limit (offset + nla_align (frame_length f)) fs rest)
 
 -- The messages of bytes at an offset of a capture.
 unfoldable pub messages_at : Bool → ℕ → ℕ → List ℕ → List Message
-messages_at keep_going limit offset c = messages_after keep_going limit offset 0 c
+messages_at keep_going limit offset c =
+    frames_messages keep_going limit offset (whole_frames c).frames (whole_frames c).rest
 
 -- The messages of a capture.
 abbrev pub messages : Bool → ℕ → List ℕ → List Message

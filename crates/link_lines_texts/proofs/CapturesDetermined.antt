@@ -12,9 +12,10 @@ use Rattle.link_message_grammar.specs.Body.{link_body, link_peer}
 use Rattle.link_message_grammar.proofs.Body.{body_lawful, link_peer_lawful}
 use Rattle.link_capture_grammar.specs.declared.fault.FaultKind.{FaultKind}
 use Rattle.link_capture_grammar.specs.Bodies.{Refusal, refused, empty_ports, unfit, ruled_text, body_text, body_text_under}
-use Rattle.link_capture_grammar.specs.Captures.{Judged, first_frame, next_texts, texts_after, texts_after_under, texts}
+use Rattle.link_capture_grammar.specs.Captures.{Judged, first_frame, texts}
+use Rattle.link_capture_grammar.specs.WholeFrames.{whole_within}
 use Rattle.link_capture_grammar.proofs.EveryRule.{in_force}
-use Rattle.link_capture_grammar.proofs.Frames.{accepted}
+use Rattle.link_capture_grammar.proofs.Frames.{accepted, texts_stop}
 use Rattle.link_lines_values.specs.Flags.{named_flags}
 use Rattle.link_capture_numbers.specs.Cleared.{numbers_cleared}
 use Rattle.link_capture_numbers.specs.Laws.{ClearedCapturesHaveClearedTexts}
@@ -22,7 +23,7 @@ use Rattle.link_capture_numbers.proofs.Steps.{stopped}
 use Rattle.link_capture_numbers.proofs.ClearedCaptures.{following}
 use Rattle.link_lines_texts.specs.Frames.{flag_names, has_request_flag, type_text, numbers_text, header_line, body_lines, frame_lines}
 use Rattle.link_lines_texts.specs.Links.{labelled}
-use Rattle.link_lines_texts.specs.Captures.{Choice, everything, lines_after, text_lines, without_numbers}
+use Rattle.link_lines_texts.specs.Captures.{Choice, everything, text_lines, without_numbers}
 use Rattle.link_lines_texts.specs.Laws.{LinesDetermineMeanings, LinesDetermineTexts, LinesWithoutNumbersDetermineClearedTexts}
 use Rattle.link_lines_texts.specs.Determination.{IsCanonicalFrame, StartsFrame, NumbersAreKnown}
 use Rattle.link_lines_texts.proofs.FrameUnfolding.{AtStart, at_start, is_at_start}
@@ -136,7 +137,7 @@ frame_has_lines n f s e =
     header_some (type_text t) flags (numbers_text n f) (body_lines n t (has_request_flag f) (drop 16 f)) s e
 
 pub no_text_lines : (o : Choice) → text_lines o [] ≡ []
-unfolding text_lines lines_after
+unfolding text_lines whole_within
 no_text_lines o = refl
 
 -- ---- everything is shown of every type, with numbers or without them
@@ -176,9 +177,7 @@ record Front (n : Bool) (limit : ℕ) (s : List ℕ) : Type 0 where
   pub bytes : AreBytes after
 
 pub stopped_texts : (limit : ℕ) (s : List ℕ) (kind : FaultKind) → first_frame limit s ≡ Err kind → texts limit s ≡ []
-unfolding texts_after_under
-stopped_texts limit [] kind e = refl
-stopped_texts limit (b ∷ s) kind e = ap (λ j. next_texts j (λ skip. texts_after limit skip s)) e
+stopped_texts = texts_stop link_body
 
 -- The numbers of a text's first frame are known if those of the text are.
 text_known : (n : Bool) (s body rest x : List ℕ) → 16 ≤ length s → AtStart s body rest → x ≡ frame_text s body ++ rest → Known n x → NumbersAreKnown n (unpadded_frame s body) × Known n rest

@@ -1,60 +1,39 @@
 -- The lines of texts are determined frame by frame.
-use Rattle.std.proofs.Common.{◌≡◌, ℕ, zero, suc, ◌+◌, ◌-◌, ◌^◌, ◌<◌, ◌≤◌, Bool, true, false, cond, List, [], ◌∷◌, ◌++◌, length, take, drop, Ok, Err, refl, sym, ap, ◌∙◌, append_assoc, arith}
+use Rattle.std.proofs.Common.{◌≡◌, ℕ, ◌+◌, ◌^◌, ◌<◌, ◌≤◌, true, false, List, [], ◌++◌, length, take, drop, flat_map, Ok, refl, sym, ap, ◌∙◌, append_assoc, arith}
 use Rattle.std.specs.Prelude.{◌&&◌, nat_le}
 use Rattle.std.proofs.lemmas.Bool.{and_from, le-leb}
-use Rattle.std.proofs.lemmas.List.{drop_at, length-append, length-drop, take-append-le}
+use Rattle.std.proofs.lemmas.List.{drop_at, length-append, take-append-le, take-take}
 use Rattle.netlink_packet_core_grammar.proofs.Numbers.{from_le4}
 use Rattle.netlink_packet_core_grammar.specs.Attributes.{nla_align}
 use Rattle.netlink_packet_core_grammar.specs.Frames.{frame_length, frame_text, is_frame}
 use Rattle.netlink_packet_core_grammar.specs.Numbers.{u32_at, le4}
 use Rattle.link_message_grammar.specs.Body.{link_body}
-use Rattle.link_capture_grammar.specs.Captures.{Judged, first_frame, next_texts, texts_after, texts_after_under}
+use Rattle.link_capture_grammar.specs.Captures.{first_frame, texts}
 use Rattle.link_capture_grammar.proofs.EveryRule.{in_force}
-use Rattle.link_capture_grammar.proofs.Frames.{accepted}
-use Rattle.link_lines_texts.specs.Captures.{Choice, lines_after, shown_lines, text_lines}
+use Rattle.link_capture_grammar.proofs.Frames as Frames
+use Rattle.link_capture_grammar.proofs.Frames.{accepted, texts_step, texts_stop}
+use Rattle.link_lines_texts.specs.Captures.{Choice, shown_lines, text_lines}
 use Rattle.link_lines_texts.specs.Laws.{LinesUnfoldByFrames, LinesAreJoined}
 use Rattle.link_capture_grammar.proofs.Normal.{text_length, texted}
-use Rattle.link_capture_numbers.proofs.Steps.{length_of}
-
-passed : (o : Choice) (k : ℕ) (c : List ℕ) → lines_after o k c ≡ text_lines o (drop k c)
-unfolding lines_after text_lines
-passed o zero c = refl
-passed o (suc k) [] = refl
-passed o (suc k) (b ∷ c) = passed o k c
+use Rattle.link_capture_grammar.specs.WholeFrames.{whole_frames}
+use Rattle.link_capture_grammar.proofs.WholeFrames.{own_length, whole_step, whole_stop}
 
 pub whole : (o : Choice) (c : List ℕ) → is_frame c ≡ true → text_lines o c ≡ shown_lines o (take (frame_length c) c) ++ text_lines o (drop (nla_align (frame_length c)) c)
-unfolding text_lines lines_after
-whole o [] h = absurd cc
-whole o (b ∷ c) h =
-    let n = frame_length (b ∷ c) in
-    let own = shown_lines o (take n (b ∷ c)) in
-    let l = (length_of (b ∷ c) h).0 in
-    let k : suc (nla_align n - 1) ≡ nla_align n = omega (arith, l) in
-    ap (λ t. cond t (own ++ lines_after o (nla_align n - 1) c) []) h
-    ∙ ap (λ z. own ++ z) (passed o (nla_align n - 1) c ∙ ap (λ m. text_lines o (drop m (b ∷ c))) k)
+unfolding text_lines
+whole o c h =
+    let n = nla_align (frame_length c) in
+    let first = take n c in
+    let own : take (frame_length first) first ≡ take (frame_length c) c =
+    ap (λ m. take m first) (own_length c n h (omega arith)) ∙ take-take (frame_length c) n c (omega arith) in
+    ap (λ w. flat_map (λ f. shown_lines o (take (frame_length f) f)) w.frames) (whole_step c h)
+    ∙ ap (λ f. shown_lines o f ++ flat_map (λ f. shown_lines o (take (frame_length f) f)) (whole_frames (drop n c)).frames) own
 
 pub stopped : (o : Choice) (c : List ℕ) → is_frame c ≡ false → text_lines o c ≡ []
-unfolding text_lines lines_after
-stopped o [] h = refl
-stopped o (b ∷ c) h =
-    let n = frame_length (b ∷ c) in
-    ap (λ t. cond t (shown_lines o (take n (b ∷ c)) ++ lines_after o (nla_align n - 1) c) []) h
+unfolding text_lines
+stopped o c h = ap (λ w. flat_map (λ f. shown_lines o (take (frame_length f) f)) w.frames) (whole_stop c h)
 
 pub by_frames : LinesUnfoldByFrames
 by_frames = record { frame = whole; none = stopped }
-
--- Induction over frames: a property holds for all bytes if it holds for bytes without a whole frame, and for a frame
--- whenever it holds for what follows.
-module _ (P : List ℕ → Type 0) (none : (c : List ℕ) → is_frame c ≡ false → P c) (more : (c : List ℕ) → is_frame c ≡ true → P (drop (nla_align (frame_length c)) c) → P c) where
-  first_frames_within : (fuel : ℕ) (c : List ℕ) (b : Bool) → is_frame c ≡ b → length c ≤ fuel → P c
-  first_frames_within fuel c false e l = none c e
-  first_frames_within zero c true e l = let bounds = length_of c e in absurd (omega (arith, bounds.0, bounds.1))
-  first_frames_within (suc fuel) c true e l =
-      let rest = drop (nla_align (frame_length c)) c in
-      more c e (first_frames_within fuel rest (is_frame rest) refl (omega (arith, l, length-drop (nla_align (frame_length c)) c, (length_of c e).0)))
-
-  pub by_first_frames : (c : List ℕ) → P c
-  by_first_frames c = first_frames_within (length c) c (is_frame c) refl (omega arith)
 
 -- ---- the text of a frame before other bytes
 
@@ -103,20 +82,19 @@ module _ (o : Choice) (limit : ℕ) (l : limit < 2 ^ 32) where
       let small : 16 + length t.body < 2 ^ 32 = omega (arith, t.fits, l) in
       (shown_lines o (take (16 + length t.body) (frame_text c t.body)), λ r. ap (λ z. text_lines o (z ++ r)) t.text_is ∙ at_start o c t.body r (accepted link_body limit c frame h).header small)
 
-  next_joined : (c : List ℕ) (judged : Judged) (after : ℕ → List ℕ) (t : List ℕ) → first_frame limit c ≡ judged → ((k : ℕ) → text_lines o (after k ++ t) ≡ text_lines o (after k) ++ text_lines o t) → text_lines o (next_texts judged after ++ t) ≡ text_lines o (next_texts judged after) ++ text_lines o t
-  unfolding text_lines lines_after
-  next_joined c (Err kind) after t h i = refl
-  next_joined c (Ok frame) after t h i =
-      let more = after (nla_align frame.0 - 1) in
-      let f = frame_first c frame h in
-      ap (λ z. text_lines o z) (append_assoc frame.1 more t) ∙ f.1 (more ++ t) ∙ ap (λ z. f.0 ++ z) (i (nla_align frame.0 - 1))
-      ∙ sym (append_assoc f.0 (text_lines o more) (text_lines o t)) ∙ sym (ap (λ z. z ++ text_lines o t) (f.1 more))
-
-  joined_after : (s : List ℕ) (skip : ℕ) (t : List ℕ) → text_lines o (texts_after limit skip s ++ t) ≡ text_lines o (texts_after limit skip s) ++ text_lines o t
-  unfolding texts_after_under text_lines lines_after
-  joined_after [] skip t = refl
-  joined_after (b ∷ s) (suc skip) t = joined_after s skip t
-  joined_after (b ∷ s) zero t = next_joined (b ∷ s) (first_frame limit (b ∷ s)) (λ skip. texts_after limit skip s) t refl (λ k. joined_after s k t)
+  joined_texts : (s t : List ℕ) → text_lines o (texts limit s ++ t) ≡ text_lines o (texts limit s) ++ text_lines o t
+  joined_texts s t =
+      Frames.by_frames link_body limit (λ s. text_lines o (texts limit s ++ t) ≡ text_lines o (texts limit s) ++ text_lines o t)
+      (λ s frame h i.
+      let more = texts limit (drop (nla_align frame.0) s) in
+      let f = frame_first s frame h in
+      let e = texts_step link_body limit s frame h in
+      ap (λ z. text_lines o (z ++ t)) e ∙ ap (text_lines o) (append_assoc frame.1 more t) ∙ f.1 (more ++ t) ∙ ap (λ z. f.0 ++ z) i
+      ∙ sym (append_assoc f.0 (text_lines o more) (text_lines o t)) ∙ sym (ap (λ z. z ++ text_lines o t) (ap (text_lines o) e ∙ f.1 more)))
+      (λ s kind h.
+      let none = texts_stop link_body limit s kind h in
+      ap (λ z. text_lines o (z ++ t)) none ∙ sym (ap (λ z. z ++ text_lines o t) (ap (text_lines o) none ∙ stopped o [] refl)))
+      s
 
 pub joined : LinesAreJoined
-joined o limit s t l = joined_after o limit l s 0 t
+joined o limit s t l = joined_texts o limit l s t

@@ -8,10 +8,10 @@ use Rattle.netlink_packet_core_grammar.specs.Bytes.{AreBytes}
 use Rattle.netlink_packet_core_grammar.specs.Frames.{frame_length, frame_type, frame_body, is_frame}
 use Rattle.netlink_packet_core_grammar.specs.Numbers.{u16_at, u32_at}
 use Rattle.link_capture_numbers.specs.Cleared.{zeros_at, repeats_request, first_frame_cleared, numbers_cleared}
-use Rattle.link_capture_numbers.proofs.Steps.{length_of, whole, stopped}
+use Rattle.link_capture_grammar.proofs.WholeFrames.{by_first_frames, length_of}
+use Rattle.link_capture_numbers.proofs.Steps.{whole, stopped}
 use Rattle.link_capture_numbers.proofs.FirstFrames.{body_cleared, byte_of, length_same, type_same}
 use Rattle.link_lines_texts.specs.Determination.{HasNoNumbers, NumbersAreKnown}
-use Rattle.link_lines_texts.proofs.FrameUnfolding.{by_first_frames}
 use Rattle.link_lines_texts.proofs.HeadersDetermined.{u32_after}
 use Rattle.link_lines_texts.proofs.NumbersLeftOut.{cleared_shape, canonical_body}
 use Rattle.netlink_packet_core_grammar.proofs.Bytes.{AreBytes-append, AreBytes-drop, AreBytes-take}

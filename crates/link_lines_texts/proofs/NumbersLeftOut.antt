@@ -7,7 +7,8 @@ use Rattle.netlink_packet_core_grammar.specs.Attributes.{nla_align, zeros}
 use Rattle.netlink_packet_core_grammar.specs.Frames.{frame_length, frame_type, frame_body, is_frame}
 use Rattle.netlink_packet_core_grammar.specs.Numbers.{u16_at}
 use Rattle.link_capture_numbers.specs.Cleared.{zeros_at, repeats_request, numbers_cleared}
-use Rattle.link_capture_numbers.proofs.Steps.{length_of, whole, stopped}
+use Rattle.link_capture_grammar.proofs.WholeFrames.{by_first_frames, length_of}
+use Rattle.link_capture_numbers.proofs.Steps.{whole, stopped}
 use Rattle.link_capture_numbers.proofs.Zeros.{length-zeros, drop-zeros, take-zeros, repeated}
 use Rattle.link_capture_numbers.proofs.FirstFrames.{Shape, byte_of, length_same, shape, type_same}
 use Rattle.link_capture_numbers.proofs.ClearedCaptures.{following}
@@ -154,4 +155,4 @@ rest_left_out c h rest =
 
 -- Bytes whose numbers are cleared have the same lines without numbers.
 pub numbers_are_left_out : (c : List ℕ) → text_lines without_numbers (numbers_cleared c) ≡ text_lines without_numbers c
-numbers_are_left_out = Lines.by_first_frames AreLeftOut (λ c h. ap (text_lines without_numbers) (stopped c h)) rest_left_out
+numbers_are_left_out = by_first_frames AreLeftOut (λ c h. ap (text_lines without_numbers) (stopped c h)) rest_left_out

@@ -1,5 +1,5 @@
 -- How long the lines of frames and of texts are.
-use Rattle.std.proofs.Common.{◌≡◌, ℕ, ◌+◌, ◌*◌, ◌-◌, ◌%◌, ◌^◌, ◌<◌, ◌≤◌, Bool, true, false, cond, List, [], ◌∷◌, ◌++◌, length, take, drop, Option, Some, None, refl, ap, ◌∙◌, arith}
+use Rattle.std.proofs.Common.{◌≡◌, ℕ, ◌+◌, ◌*◌, ◌%◌, ◌^◌, ◌<◌, ◌≤◌, Bool, true, false, cond, List, [], ◌∷◌, ◌++◌, length, take, drop, Option, Some, None, refl, ap, ◌∙◌, arith}
 use Rattle.std.specs.Prelude.{⊤, ◌==◌, ◌&&◌, ◌||◌, codes, decimal, nat_le}
 use Rattle.std.proofs.lemmas.Bool.{and_parts, cond_both, leb-true}
 use Rattle.std.proofs.lemmas.List.{length-append, length-drop, length-take}
@@ -10,7 +10,7 @@ use Rattle.netlink_packet_core_grammar.specs.Numbers.{u16_at, u32_at}
 use Rattle.netlink_packet_core_grammar.proofs.Bytes.{AreBytes-drop, AreBytes-take}
 use Rattle.attribute_tables_grammar.specs.Shapes.{number}
 use Rattle.link_capture_grammar.specs.Bodies.{is_link_type}
-use Rattle.link_capture_numbers.proofs.Steps.{length_of}
+use Rattle.link_capture_grammar.proofs.WholeFrames.{by_first_frames, length_of}
 use Rattle.link_lines_parts.specs.BytesLines.{bytes_line}
 use Rattle.link_lines_values.specs.declared.flag_names.TheConstants.{MESSAGE_ACK_FLAGS, MESSAGE_CREATE_FLAGS, MESSAGE_DELETE_FLAGS, MESSAGE_FLAGS, MESSAGE_GET_FLAGS}
 use Rattle.link_lines_values.specs.declared.values.ShownBy.TheVariants.{Signed}
@@ -39,7 +39,7 @@ use Rattle.link_lines_texts.specs.Format.{is_canonical_peer}
 use Rattle.link_lines_texts.specs.Frames.{after_code, body_lines, code_lines, flag_names, frame_lines, has_request_flag, has_text, header_line, in_message, is_property_type, link_lines, message_types, numbers_text, or_bytes, or_number, other_lines, property_lines, request_flag_names, request_line, type_text}
 use Rattle.link_lines_texts.specs.Links.{link_header_line}
 use Rattle.link_lines_texts.specs.Lists.{in_peer, list_lines, of_link}
-use Rattle.link_lines_texts.proofs.FrameUnfolding.{by_first_frames, stopped, whole}
+use Rattle.link_lines_texts.proofs.FrameUnfolding.{stopped, whole}
 use Rattle.link_lines_texts.specs.Growth.{factor, is_short_line, joined_size, longest}
 use Rattle.link_lines_texts.specs.Laws.{LinesAreShort}
 use Rattle.link_lines_texts.proofs.ShortBytes.{bytes_text_short}

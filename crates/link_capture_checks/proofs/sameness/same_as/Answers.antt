@@ -9,7 +9,7 @@ use Rattle.link_capture_checks.proofs.sameness.same_as.Goals as goal
 pub returns-then-at-right-clause-legal : goal.returns-then-at-right-clause-legal
 returns-then-at-right-clause-legal c =
     let at = c.parting-at.result.1 in
-    c.parting-at.ensures.alike.fault ∙ ap (λ x. shifted at (first_fault c.args.limit x)) (drop_all at c.args.right.now c.if-at-right.true) ∙ ap (shifted at) (fault_nil link_body c.args.limit 0)
+    c.parting-at.ensures.alike.fault ∙ ap (λ x. shifted at (first_fault c.args.limit x)) (drop_all at c.args.right.now c.if-at-right.true) ∙ ap (shifted at) (fault_nil link_body c.args.limit)
 
 pub returns-then-at-right-clause-same : goal.returns-then-at-right-clause-same
 returns-then-at-right-clause-same c =

@@ -1,5 +1,5 @@
 -- one message further
-use Rattle.std.proofs.Common.{◌≡◌, ℕ, ◌+◌, ◌-◌, ◌≤◌, List, length, drop, Ok, sym, ap, subst, ◌∙◌, arith, length-drop}
+use Rattle.std.proofs.Common.{◌≡◌, ℕ, ◌+◌, ◌-◌, ◌<◌, ◌≤◌, List, length, drop, Some, Ok, Err, refl, sym, ap, subst, ◌∙◌, arith, length-drop}
 use Rattle.std.proofs.lemmas.List.{drop-drop, take_rest}
 use Rattle.netlink_packet_core_grammar.specs.Attributes.{nla_align}
 use Rattle.netlink_packet_core.specs.Frames.{frame_text}
@@ -24,3 +24,28 @@ invariant_of-self c =
       near = omega (arith, size, high, left, c.if-self.false);
       fault = c.self.invariant.fault ∙ law.next_fault limit at rest frame there ∙ ap (λ n. shifted (at + n) (first_fault limit (drop (nla_align frame.0) rest))) (sym c.nla_align.ensures) ∙ ap (λ x. shifted (at + c.nla_align.result) (first_fault limit x)) after;
     }
+
+pub returns-in-Err-clause-steps : goal.returns-in-Err-clause-steps
+returns-in-Err-clause-steps c =
+    let bytes = c.self.inside.bytes.now in
+    let limit = c.self.inside.limit in
+    let at = c.self.inside.offset in
+    let kind = c.in-Err.kind in
+    let rest = drop at bytes in
+    let inside : at < length bytes = omega (arith, c.if-self.false) in
+    let left : length rest ≡ length bytes - at = length-drop at bytes in
+    rw (← c.self.view_is) (
+      inside,
+      record {
+        offset = refl;
+        first = λ m.
+            let there : first_frame limit rest ≡ Err kind = subst (λ x. first_frame limit x ≡ Err kind) (take_rest bytes at) (c.in-Err.ensures.refused m) in
+            let here : at + 0 ≡ at = omega arith in
+            c.self.invariant.fault ∙ ap (shifted at) (c.captures_unfold_by_frames.ensures.first_frame_fault limit rest kind (omega (arith, left, inside)) there)
+            ∙ ap (λ n. Some (record { kind = kind; offset = n })) here;
+        memory = λ m.
+            let frame = c.in-Err.ensures.memory m in
+            (frame.0, frame.1, subst (λ x. first_frame limit x ≡ Ok (frame.0, frame.1)) (take_rest bytes at) frame.2);
+      },
+      refl,
+    )

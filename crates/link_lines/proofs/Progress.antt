@@ -10,7 +10,7 @@ use Rattle.link_capture_grammar.specs.Laws.{FaultsAreAtFrames}
 use Rattle.link_message_grammar.specs.Body.{link_body}
 use Rattle.link_capture_grammar.specs.declared.fault.CaptureFault.{CaptureFault}
 use Rattle.link_capture_grammar.specs.declared.fault.FaultKind.{FaultKind}
-use Rattle.link_capture_grammar.specs.declared.fault.FaultKind.TheVariants.{Cut, ShortLength, OverLimit, Refused, EmptyPorts, Unfit, TextOverLimit, Memory, Read, Write, TooLong, Failed}
+use Rattle.link_capture_grammar.specs.declared.fault.FaultKind.TheVariants.{Cut, Memory, Read, Write, TooLong, Failed}
 use Rattle.link_capture_reader.specs.Outcomes.{IsOpen, IsPrefix}
 use Rattle.link_capture_reader.proofs.Progress.{part_prefix}
 use Rattle.link_capture_refusals.specs.RefusalViews.{all_found}

@@ -8,12 +8,12 @@ use Rattle.netlink_packet_core_grammar.specs.Frames.{frame_body, frame_type}
 use Rattle.attribute_tables_grammar.specs.Lists.{Context}
 use Rattle.link_tables.proofs.LookUps.{all_at}
 use Rattle.link_tables.specs.declared.rows.Form.{Form}
-use Rattle.link_tables.specs.declared.rows.Form.TheVariants.{Any, NonEmpty, OfKindOne, Ports, FirstOnly}
+use Rattle.link_tables.specs.declared.rows.Form.TheVariants.{Any}
 use Rattle.link_tables.specs.declared.table.Table.{Table}
 use Rattle.link_tables.specs.Tables.{family_table, is_link_info}
 use Rattle.link_capture_grammar.specs.Bodies.{is_link_type}
 use Rattle.link_capture_grammar.specs.declared.fault.FaultKind.{FaultKind}
-use Rattle.link_capture_grammar.specs.declared.fault.FaultKind.TheVariants.{Cut, ShortLength, OverLimit, Refused, EmptyPorts, Unfit, TextOverLimit, Memory, Read, Write, TooLong, Failed}
+use Rattle.link_capture_grammar.specs.declared.fault.FaultKind.TheVariants.{Refused}
 use Rattle.link_capture_refusals.proofs.Lookups.{found}
 use Rattle.link_capture_refusals.specs.ReasonTexts.{counted, words}
 use Rattle.link_capture_refusals.specs.Refusals.{Found, ListRefusal, attribute_refusal, code_refusal, empty_refusal, found_at, frame_refusal, inside_refusal, link_refusal, list_refusal, list_rest, named, next_refusal, or_else, refusal_within, row_refusal, whole_refusal}

@@ -100,9 +100,9 @@ module _ (law : FirstFaultsAreReported) (frames : FaultsAreAtFrames link_body) (
   refusal_shown (Ok u) e = tt
   refusal_shown (Err x) e = (first_of x e).1
 
-  pub fault_at_frame : (r : Result (Unit {0}) ShowFault) → first_report (messages o.keep_going limit c) ≡ reported_by r → IfErr r (λ x. x.fault.kind ≢ Memory → IsFrameOffsetOf c x.fault.offset)
+  pub fault_at_frame : (r : Result (Unit {0}) ShowFault) → first_report (messages o.keep_going limit c) ≡ reported_by r → IfErr r (λ x. IsFrameOffsetOf c x.fault.offset)
   fault_at_frame (Ok u) e = tt
-  fault_at_frame (Err x) e = λ m. let f = frames limit c x.fault (first_of x e).0 in (f.0, f.1)
+  fault_at_frame (Err x) e = let f = frames limit c x.fault (first_of x e).0 in (f.0, f.1)
 
   pub memory_sufficed : (r : Result (Unit {0}) ShowFault) → first_report (messages o.keep_going limit c) ≡ reported_by r → IfErr r (λ x. x.fault.kind ≡ Memory → (w : List ℕ) × RunsOutAt o limit c w x.fault.offset × (new ≡ old ++ w))
   memory_sufficed (Ok u) e = tt

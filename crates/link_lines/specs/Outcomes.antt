@@ -17,10 +17,6 @@ use Rattle.link_lines.specs.declared.refused.ShowFault.{ShowFault}
 abbrev pub IsAccepted : ℕ → List ℕ → Type 0
 IsAccepted limit c = (frame : ℕ × List ℕ) × (first_frame limit c ≡ Ok frame)
 
--- The cause of running out of memory at an offset: the message there is accepted, and its text had to be written.
-abbrev pub NeedsMemoryAt : ℕ → List ℕ → ℕ → Type 0
-NeedsMemoryAt limit c at = IsAccepted limit (drop at c)
-
 -- The first message of c has a fault of its body.
 abbrev pub HasFaultyBody : ℕ → List ℕ → Type 0
 HasFaultyBody limit c = (kind : FaultKind) × (first_frame limit c ≡ Err kind) × (is_of_body kind ≡ true)

@@ -7,7 +7,7 @@ ghost use Rattle.link_lines_values.specs.Bytes.{escaped};
 ghost use Rattle.link_lines.specs.About.{has_index, is_about, is_index_line, is_name_line, quoted_end, second};
 ghost use Rattle.link_lines_parts.specs.Lines.{lines_of, words_of};
 
-use link_lines_parts::{is_header, is_index_field, level, split_line, split_word};
+use link_lines_parts::{is_header, is_index_field, line_parts, split_line, split_word};
 
 /// The digits of numbers in hex.
 const HEX_DIGITS: [u8; 16] = *b"0123456789abcdef";
@@ -114,7 +114,7 @@ fn has_index(link: &[u8], line: &[u8]) -> bool
 fn is_index_line(link: &[u8], line: &[u8]) -> bool
     ensures { result ≡ is_index_line link.now line.now }
 {
-    level(line) == 1 && is_header(line) && has_index(link, line)
+    line_parts(line).level == 1 && is_header(line) && has_index(link, line)
 }
 
 /// Returns the second of some lines; nothing if there are fewer.

@@ -1,6 +1,6 @@
 //! The messages of a capture, one after the other.
 
-ghost use Rattle.std.specs.Prelude.{◌≡◌, ◌≤◌, ◌<◌, ◌+◌, ◌^◌, ◌++◌, length, drop, IfErr, IfOk, OnErr, OnOk, Some};
+ghost use Rattle.std.specs.Prelude.{◌≡◌, ◌≤◌, ◌<◌, ◌+◌, ◌%◌, ◌^◌, ◌++◌, length, drop, IfErr, IfOk, OnErr, OnOk, Some};
 ghost use Rattle.netlink_packet_core_grammar.specs.Frames.{IsFrame, frame_length};
 ghost use Rattle.link_lines_values.specs.Appends.{Appends};
 ghost use Rattle.link_lines.specs.Memory.{Becomes, LacksMemory, LacksPlaced, LacksShown, LacksText};
@@ -361,6 +361,8 @@ pub(crate) fn push_messages(
     ensures bounds { IfOk result (λ w. w.len ≤ length bytes.now + 3) }
     ensures memory { IfErr result (λ at. (at < length bytes.now)
         × IsToBeShown options.now.keep_going limit (drop at bytes.now)) }
+    // The messages after the first begin at multiples of 4 from it.
+    ensures frame_start { IfErr result (λ at. at % 4 ≡ from % 4) }
 {
     let mut len = from;
     'messages: while len < bytes.len() {

@@ -1,7 +1,7 @@
 //! The choice of what is shown of a capture.
 
 ghost use Rattle.std.specs.Prelude.{◌≡◌, IsTrue};
-ghost use Rattle.link_lines_texts.specs.Captures.{is_among, is_chosen};
+ghost use Rattle.link_lines_texts.specs.Captures.{everything, is_among, is_chosen};
 ghost use Rattle.link_lines.specs.MessageLines.{IsWhole, choice_of, is_about_any};
 ghost use Rattle.link_lines.specs.MessageLaws.{plain};
 ghost use Rattle.link_lines.specs.Options.{selection_of};
@@ -11,7 +11,7 @@ use crate::types::Types;
 use link_lines_parts::Without;
 
 /// What is shown of a capture; by default everything up to its first fault.
-#[derive(Clone, Debug, Default, PartialEq, Eq, Drop)]
+#[derive(Clone, Debug, PartialEq, Eq, Drop)]
 pub struct ShowOptions<'a> {
     /// Whether sequence and port numbers are left out: those of messages, and of the request's
     /// header that an NLMSG_ERROR repeats after its code (netlink.h, `struct nlmsghdr`, `struct
@@ -29,6 +29,22 @@ pub struct ShowOptions<'a> {
     pub keep_going: bool,
     /// Whether each message's lines become an object of JSON in a line of its own.
     pub json: bool,
+}
+
+impl Default for ShowOptions<'_> {
+    ghost is_default = { λ o. selection_of o ≡ plain everything };
+
+    fn default() -> Self {
+        ShowOptions {
+            without_numbers: false,
+            only: None,
+            link: None,
+            without: Without::nothing(),
+            offsets: false,
+            keep_going: false,
+            json: false,
+        }
+    }
 }
 
 /// Returns whether a type is one of these.

@@ -72,8 +72,7 @@ pub fn show_bytes(
     ensures refusal { IfErr result
         (λ e. all_found e.refusal ≡ reported_refusal bytes.now e.fault.kind e.fault.offset) }
     // A fault's offset is the start of a frame.
-    ensures frame_start { IfErr result
-        (λ e. e.fault.kind ≢ FaultKind.Memory → IsFrameOffsetOf bytes.now e.fault.offset) }
+    ensures frame_start { IfErr result (λ e. IsFrameOffsetOf bytes.now e.fault.offset) }
     // An allocation fails only for a message that is shown, and the lines of those before it are
     // appended.
     ensures memory { IfErr result (λ e. e.fault.kind ≡ FaultKind.Memory → (w : List ℕ)

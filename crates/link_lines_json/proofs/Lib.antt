@@ -1,2 +1,4 @@
+pub mod BytesOrNumbers
 pub mod FirstTokens
+pub mod PlainText
 pub mod Steps

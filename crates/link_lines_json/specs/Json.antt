@@ -1,18 +1,13 @@
 -- A message's lines as an object of JSON.
 use Rattle.std.specs.Prelude.{ℕ, zero, suc, ◌+◌, ◌-◌, ◌==◌, ◌&&◌, ◌||◌, nat_lt, max, Bool, true, false, not, cond, List, [], ◌∷◌, ◌++◌, codes}
-use Rattle.std.specs.Prelude.{take, bytes_eq}
-use Rattle.std.specs.List.{prefix_len}
+use Rattle.std.specs.Prelude.{bytes_eq}
 use Rattle.link_lines_json.specs.Attributes.{entry_json, first_of, is_lower, terms_string}
-use Rattle.link_lines_parts.specs.Lines.{after_first_word, first_word, is_in_line, level, lines_of}
+use Rattle.link_lines_parts.specs.Lines.{after_first_word, first_word, level, lines_of, without_newline}
 use Rattle.link_lines_json.specs.Strings.{string}
 use Rattle.link_lines_json.specs.Tokens.{TermText, terms}
 use Rattle.link_lines_json.specs.Values.{fields_json, key, next_key, word_json}
 
 -- ---- lines
-
--- A text up to its first newline.
-abbrev pub without_newline : List ℕ → List ℕ
-without_newline text = take (prefix_len is_in_line text) text
 
 -- The terms of a line after its first word.
 abbrev pub line_terms : List ℕ → List TermText
@@ -85,18 +80,18 @@ entry_depth lists level = cond (nat_lt lists level) (lists + 1) (max 1 level)
 
 -- ---- messages
 
--- Whether a line is a member of the message, and not an entry of its list of attributes.
+-- Whether a line with this first word is a member of the message, and not an entry of its list of attributes.
 unfoldable pub is_member : ℕ → List ℕ → Bool
-is_member lists line = (lists == 0) && (is_lower (first_word line) && not (bytes_eq (first_word line) (codes "kind")))
+is_member lists word = (lists == 0) && (is_lower word && not (bytes_eq word (codes "kind")))
 
 -- The number of lists that are open after a line.
 abbrev pub open_after : ℕ → List ℕ → ℕ
-open_after lists line = cond (is_member lists line) 0 (entry_depth lists (level line))
+open_after lists line = cond (is_member lists (first_word line)) 0 (entry_depth lists (level line))
 
 -- A line, given how many lists the lines before it left open.
 unfoldable pub line_json : ℕ → List ℕ → List ℕ
 line_json lists line =
-    cond (is_member lists line) (codes ", " ++ member_json (first_word line) (line_terms line))
+    cond (is_member lists (first_word line)) (codes ", " ++ member_json (first_word line) (line_terms line))
     (opening lists (entry_depth lists (level line)) ++ entry_json (first_word line) (line_terms line))
 
 -- The lines after the first one, and the end of the message.

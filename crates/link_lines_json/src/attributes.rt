@@ -1,20 +1,23 @@
 //! The entries of lists of attributes as JSON.
 
-ghost use Rattle.std.specs.Prelude.{◌≡◌, ◌∷◌, false, flat_map};
+ghost use Rattle.std.specs.Prelude.{◌≡◌, ◌&&◌, ◌∷◌, false, flat_map};
 ghost use Rattle.link_lines_values.specs.Appends.{Appends};
 ghost use Rattle.link_lines_json.specs.Strings.{escaped};
 ghost use Rattle.link_lines_json.specs.Attributes.{attribute_json, counted_json, entry_json, first_of, first_payload, is_lower};
 ghost use Rattle.link_lines_json.specs.Attributes.{joined, kind_json, list_json, mask_json, nested_and_payload, nested_payload};
 ghost use Rattle.link_lines_json.specs.Attributes.{payload_json, record_json, several_json, space, struct_json, term_words, terms_string};
 ghost use Rattle.link_lines_json.specs.Attributes.{value_or_several};
+ghost use Rattle.link_lines_json.specs.Names.{bytes_names};
 ghost use Rattle.link_lines_json.specs.Tokens.{term_text, terms};
+ghost use Rattle.link_lines_json.specs.Values.{is_number};
+ghost use Rattle.link_lines_parts.specs.Names.{is_among};
 
 use crate::names::{is_bytes, is_number_list};
 use crate::strings::{push_escaped_text, push_string};
 use crate::tokens::{Term, split_term};
 use crate::values::{
-    are_numbers, hex_value, is_assignment, push_assignments, push_elements, push_fields, push_key,
-    push_members, push_next_key, push_set, push_word,
+    are_numbers, hex_value, is_assignment, is_number, push_assignments, push_elements, push_fields,
+    push_key, push_members, push_next_key, push_set, push_word,
 };
 use link_lines_values::push_decimal;
 use std::alloc::AllocError;
@@ -115,7 +118,7 @@ fn push_mask(text: &[u8], out: &mut Vec<u8>) -> Result<(), AllocError>
 }
 
 /// Appends the value that a text is: with a mask, or alone, or several.
-#[tactic(auto, unfolding(crate::specs::Attributes::value_or_several))]
+#[tactic(auto, unfolding(crate::specs::Attributes::value_or_several, crate::specs::Values::key))]
 fn push_value_or_several(
     is_bytes: bool,
     text: &[u8],
@@ -132,20 +135,44 @@ fn push_value_or_several(
                 push_members(is_bytes, term, out)?;
                 return push_mask(behind, out);
             }
-            push_key(b"value", out)?;
+            out.extend_from_slice(b"\"value\": ")?;
             push_several(text, out)
         }
         None => push_members(is_bytes, term, out),
     }
 }
 
+/// Returns whether a word is bytes that look like a number, as the value of an attribute with this
+/// name.
+fn is_bytes_like_number(name: &[u8], word: &[u8]) -> bool
+    ensures { result ≡ (is_number word.now && is_among bytes_names name.now) }
+{
+    is_number(word) && is_bytes(name)
+}
+
+/// Appends the value that a text is, of an attribute with this name. The name is looked up only for
+/// a number: what isn't one is written alike, whether it is bytes or not.
+fn push_named_value(
+    name: &[u8],
+    text: &[u8],
+    term: Term<'_>,
+    rest: &[u8],
+    out: &mut Vec<u8>,
+) -> Result<(), AllocError>
+    requires { terms text.now ≡ term_text term ∷ terms rest.now }
+    ensures { Appends out.old out.new result
+        (value_or_several (is_among bytes_names name.now) (term_text term.entry) (terms rest.now)) }
+{
+    let is_bytes = is_bytes_like_number(name, term.word);
+    push_value_or_several(is_bytes, text, term, rest, out)
+}
+
 /// Appends the fields of a record.
-#[tactic(auto, unfolding(crate::specs::Attributes::record_json))]
+#[tactic(auto, unfolding(crate::specs::Attributes::record_json, crate::specs::Values::key))]
 fn push_record(text: &[u8], out: &mut Vec<u8>) -> Result<(), AllocError>
     ensures { Appends out.old out.new result (record_json (terms text.now)) }
 {
-    push_key(b"value", out)?;
-    out.extend_from_slice(b"{")?;
+    out.extend_from_slice(b"\"value\": {")?;
     push_assignments(text, out)?;
     out.extend_from_slice(b"}")
 }
@@ -165,7 +192,7 @@ fn push_counted(text: &[u8], out: &mut Vec<u8>) -> Result<(), AllocError>
 }
 
 /// Appends the payload that a text is, of an attribute with this name.
-#[tactic(auto, unfolding(crate::specs::Attributes::first_payload))]
+#[tactic(auto, unfolding(crate::specs::Attributes::first_payload, crate::specs::Values::key))]
 fn push_first_payload(
     name: &[u8],
     text: &[u8],
@@ -187,10 +214,10 @@ fn push_first_payload(
         return push_record(text, out);
     }
     if is_number_list(name) {
-        push_key(b"value", out)?;
+        out.extend_from_slice(b"\"value\": ")?;
         return push_list(text, out);
     }
-    push_value_or_several(is_bytes(name), text, term, rest, out)
+    push_named_value(name, text, term, rest, out)
 }
 
 /// Appends the payload of an attribute with this name, if it has one.
@@ -230,11 +257,11 @@ fn push_nested_and_payload(name: &[u8], text: &[u8], out: &mut Vec<u8>) -> Resul
 }
 
 /// Appends an attribute with a name.
-#[tactic(auto, unfolding(crate::specs::Attributes::attribute_json))]
+#[tactic(auto, unfolding(crate::specs::Attributes::attribute_json, crate::specs::Values::key))]
 fn push_attribute(name: &[u8], text: &[u8], out: &mut Vec<u8>) -> Result<(), AllocError>
     ensures { Appends out.old out.new result (attribute_json name.now (terms text.now)) }
 {
-    push_key(b"name", out)?;
+    out.extend_from_slice(b"\"name\": ")?;
     push_string(name, out)?;
     push_nested_and_payload(name, text, out)
 }

@@ -5,26 +5,16 @@ ghost use Rattle.link_lines_values.specs.Appends.{Appends};
 ghost use Rattle.link_lines_json.specs.Json.{closing, ending, entry_depth, header_json, is_member, json};
 ghost use Rattle.link_lines_json.specs.Json.{line_json, lines_json, line_terms, member_json, next_entry, numbered_json};
 ghost use Rattle.link_lines_json.specs.Json.{open_after, opening, request_json, sized_json, struct_object};
-ghost use Rattle.link_lines_json.specs.Json.{typed_json, without_newline};
-ghost use Rattle.link_lines_parts.specs.Lines.{after_first_word, first_word, lines_of};
+ghost use Rattle.link_lines_json.specs.Json.{typed_json};
+ghost use Rattle.link_lines_parts.specs.Lines.{first_word, lines_of};
 ghost use Rattle.link_lines_json.specs.Tokens.{terms};
 
 use crate::attributes::{first_of, is_lower, push_entry, push_terms_string};
 use crate::strings::push_string;
 use crate::tokens::split_term;
-use crate::values::{push_fields, push_key, push_next_key, push_word};
-use link_lines_parts::{first_word, level, line_len, line_words, split_line};
+use crate::values::{push_fields, push_key, push_word};
+use link_lines_parts::{line_parts, split_line, without_newline};
 use std::alloc::AllocError;
-
-/// Returns what follows the first word of a line, without the newline.
-#[tactic(auto, using(link_lines_parts::proofs::FirstParts::prefix_within))]
-fn after_first_word(line: &[u8]) -> &[u8]
-    ensures { result.now ≡ without_newline (after_first_word line.now) }
-{
-    let rest = line_words(line);
-    let (text, _) = rest.split_at(line_len(rest));
-    text
-}
 
 /// Appends the number of a message type without a name, and the fields after it.
 #[tactic(auto, unfolding(crate::specs::Json::numbered_json))]
@@ -142,12 +132,12 @@ fn push_closing(count: usize, out: &mut Vec<u8>) -> Result<(), AllocError>
 
 /// Appends the end of what is open and the start of an entry at a depth, given how many lists are
 /// open: at least one.
+#[tactic(auto, unfolding(crate::specs::Values::key, crate::specs::Values::next_key))]
 fn push_next_entry(lists: usize, depth: usize, out: &mut Vec<u8>) -> Result<(), AllocError>
     ensures { Appends out.old out.new result (next_entry lists depth) }
 {
     if lists < depth {
-        push_next_key(b"nested", out)?;
-        return out.extend_from_slice(b"[{");
+        return out.extend_from_slice(b", \"nested\": [{");
     }
     out.extend_from_slice(b"}")?;
     push_closing(lists - depth, out)?;
@@ -155,23 +145,23 @@ fn push_next_entry(lists: usize, depth: usize, out: &mut Vec<u8>) -> Result<(), 
 }
 
 /// Appends the start of an entry at a depth, given how many lists are open.
+#[tactic(auto, unfolding(crate::specs::Values::key, crate::specs::Values::next_key))]
 fn push_opening(lists: usize, depth: usize, out: &mut Vec<u8>) -> Result<(), AllocError>
     ensures { Appends out.old out.new result (opening lists depth) }
 {
     if lists > 0 {
         return push_next_entry(lists, depth, out);
     }
-    push_next_key(b"attributes", out)?;
-    out.extend_from_slice(b"[{")
+    out.extend_from_slice(b", \"attributes\": [{")
 }
 
 /// Appends the end of a message, given how many lists are open.
+#[tactic(auto, unfolding(crate::specs::Values::key, crate::specs::Values::next_key))]
 fn push_ending(lists: usize, out: &mut Vec<u8>) -> Result<(), AllocError>
     ensures { Appends out.old out.new result (ending lists) }
 {
     if lists == 0 {
-        push_next_key(b"attributes", out)?;
-        return out.extend_from_slice(b"[]}\n");
+        return out.extend_from_slice(b", \"attributes\": []}\n");
     }
     out.extend_from_slice(b"}")?;
     push_closing(lists - 1, out)?;
@@ -189,12 +179,12 @@ fn entry_depth(lists: usize, level: usize) -> usize
     }
 }
 
-/// Returns whether a line is a member of the message, and not an entry of its list of attributes.
+/// Returns whether a line with this first word is a member of the message, and not an entry of its
+/// list of attributes.
 #[tactic(auto, unfolding(crate::specs::Json::is_member))]
-fn is_member(lists: usize, line: &[u8]) -> bool
-    ensures { result ≡ is_member lists line.now }
+fn is_member(lists: usize, word: &[u8]) -> bool
+    ensures { result ≡ is_member lists word.now }
 {
-    let word = first_word(line);
     lists == 0 && is_lower(word) && word != b"kind".as_slice()
 }
 
@@ -213,15 +203,15 @@ fn push_line(lists: usize, line: &[u8], out: &mut Vec<u8>) -> Result<usize, Allo
     ensures appends { Appends out.old out.new result (line_json lists line.now) }
     ensures open { IfOk result (λ after. after ≡ open_after lists line.now) }
 {
-    let word = first_word(line);
-    let text = after_first_word(line);
-    if is_member(lists, line) {
-        push_next_member(word, text, out)?;
+    let parts = line_parts(line);
+    let text = without_newline(parts.rest);
+    if is_member(lists, parts.word) {
+        push_next_member(parts.word, text, out)?;
         return Ok(0);
     }
-    let depth = entry_depth(lists, level(line));
+    let depth = entry_depth(lists, parts.level);
     push_opening(lists, depth, out)?;
-    push_entry(word, text, out)?;
+    push_entry(parts.word, text, out)?;
     Ok(depth)
 }
 
@@ -242,8 +232,9 @@ fn push_lines(lines: &[u8], out: &mut Vec<u8>) -> Result<(), AllocError>
 fn push_start(line: &[u8], out: &mut Vec<u8>) -> Result<(), AllocError>
     ensures { Appends out.old out.new result (123 ∷ typed_json (first_word line.now) (line_terms line.now)) }
 {
+    let parts = line_parts(line);
     out.extend_from_slice(b"{")?;
-    push_typed(first_word(line), after_first_word(line), out)
+    push_typed(parts.word, without_newline(parts.rest), out)
 }
 
 /// Appends the lines of a message as an object of JSON (RFC 8259) in a line of its own; nothing if

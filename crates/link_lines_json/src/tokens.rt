@@ -2,7 +2,9 @@
 //! after a word.
 
 ghost use Rattle.std.specs.Prelude.{◌≡◌, ◌∷◌, [], ◌<◌, length, IfNone, IfSome};
-ghost use Rattle.link_lines_json.specs.Tokens.{ends_word, is_in_brackets, next_region, term_text, terms, tokens};
+ghost use Rattle.std.specs.List.{prefix_len};
+ghost use Rattle.link_lines_json.specs.Tokens.{begins_in_brackets, ends_word, is_in_brackets, is_plain_in_word, next_region};
+ghost use Rattle.link_lines_json.specs.Tokens.{term_text, terms, tokens};
 ghost use Rattle.link_lines_json.specs.Tokens.{without_last, word_size};
 
 /// The region of a line that a byte is in.
@@ -62,8 +64,21 @@ impl Region {
     }
 }
 
-/// Returns the number of bytes up to the end of the word that a text begins in.
-fn word_size(start: Region, text: &[u8]) -> usize
+/// Returns the number of bytes before the first one that ends a word or begins a text in quotes or
+/// brackets.
+fn plain_len(text: &[u8]) -> usize
+    ensures { result ≡ prefix_len is_plain_in_word text.now }
+{
+    for (i, byte) in text.iter().enumerate() {
+        if *byte == b' ' || *byte == b'\n' || *byte == b'"' || *byte == b'(' {
+            return i;
+        }
+    }
+    text.len()
+}
+
+/// Returns the number of bytes up to the end of the word that a text begins in, byte by byte.
+fn size_by_regions(start: Region, text: &[u8]) -> usize
     ensures { result ≡ word_size start text.now }
 {
     let mut region = start;
@@ -74,6 +89,21 @@ fn word_size(start: Region, text: &[u8]) -> usize
         region = region.after(*byte);
     }
     text.len()
+}
+
+/// Returns the number of bytes up to the end of the word that a text begins in. Most words have
+/// neither quotes nor brackets.
+#[tactic(auto, using(link_lines_parts::proofs::FirstParts::prefix_within, crate::proofs::FirstTokens::word_within, crate::proofs::FirstTokens::plain_part))]
+fn word_size(start: Region, text: &[u8]) -> usize
+    ensures { result ≡ word_size start text.now }
+{
+    match start {
+        Region::Word => {
+            let (plain, rest) = text.split_at(plain_len(text));
+            plain.len() + size_by_regions(Region::Word, rest)
+        }
+        _ => size_by_regions(start, text),
+    }
 }
 
 /// Returns the first word of a text without the space before it, and what follows it; None for an
@@ -100,6 +130,16 @@ fn is_in_brackets(word: &[u8]) -> bool
     }
 }
 
+/// Returns whether the first word of a text that begins with the space before it is in brackets.
+fn begins_in_brackets(text: &[u8]) -> bool
+    ensures { result ≡ begins_in_brackets text.now }
+{
+    match text {
+        [_, first, ..] => *first == b'(',
+        _ => false,
+    }
+}
+
 /// Returns a word without its last byte.
 fn without_last(word: &[u8]) -> &[u8]
     ensures { result.now ≡ without_last word.now }
@@ -118,6 +158,9 @@ pub(crate) fn split_term(text: &[u8]) -> Option<(Term<'_>, &[u8])>
     let Some((word, rest)) = split_token(text) else {
         return None;
     };
+    if !begins_in_brackets(rest) {
+        return Some((Term { word, names: None }, rest));
+    }
     match split_token(rest) {
         Some((names, behind)) if is_in_brackets(names) => {
             let names = Some(without_last(names));

@@ -4,8 +4,8 @@ ghost use Rattle.std.specs.Prelude.{◌≡◌, ◌<◌, false, drop, map, flat_m
 ghost use Rattle.link_lines_values.specs.Appends.{Appends};
 ghost use Rattle.link_lines_parts.specs.Lines.{words_of};
 ghost use Rattle.link_lines_json.specs.Tokens.{term_text, terms};
-ghost use Rattle.link_lines_json.specs.Values.{are_numbers, assignment_json, assignments_json, begins_with_equals_sign, elements_json, field_json};
-ghost use Rattle.link_lines_json.specs.Values.{fields_json};
+ghost use Rattle.link_lines_json.specs.Values.{are_numbers, assignment_json, assignments_json, begins_with_equals_sign};
+ghost use Rattle.link_lines_json.specs.Values.{elements_json, field_json, fields_json};
 ghost use Rattle.link_lines_json.specs.Values.{flag_json, flags_json, hex_after, hex_digit, hex_value, is_address_field};
 ghost use Rattle.link_lines_json.specs.Values.{is_assignment, is_bare, is_digit, is_hex, is_in_key, is_natural, is_number};
 ghost use Rattle.link_lines_json.specs.Values.{is_plain_number, is_quoted, key, key_size, members_json, next_key, separator, set_json};
@@ -117,7 +117,7 @@ fn without_sign(word: &[u8]) -> &[u8]
 }
 
 /// Returns whether a word is a decimal number, perhaps below zero.
-fn is_number(word: &[u8]) -> bool
+pub(crate) fn is_number(word: &[u8]) -> bool
     ensures { result ≡ is_number word.now }
 {
     is_natural(without_sign(word))
@@ -134,7 +134,8 @@ pub(crate) fn push_separator(after: bool, out: &mut Vec<u8>) -> Result<(), Alloc
     }
 }
 
-/// Appends the name of a member.
+/// Appends the name of a member. Where most entries have the member, its name is written at once,
+/// with quotes and colon.
 #[tactic(auto, unfolding(crate::specs::Values::key))]
 pub(crate) fn push_key(name: &[u8], out: &mut Vec<u8>) -> Result<(), AllocError>
     ensures { Appends out.old out.new result (key name.now) }
@@ -188,13 +189,14 @@ fn push_flags(names: Option<&[u8]>, out: &mut Vec<u8>) -> Result<(), AllocError>
 }
 
 /// Appends the text of the brackets after a value.
+#[tactic(auto, unfolding(crate::specs::Values::key, crate::specs::Values::next_key))]
 fn push_text(names: Option<&[u8]>, out: &mut Vec<u8>) -> Result<(), AllocError>
     ensures { Appends out.old out.new result (text_json (option_map (λ names. names.now) names.entry)) }
 {
     let Some(names) = names else {
         return Ok(());
     };
-    push_next_key(b"text", out)?;
+    out.extend_from_slice(b", \"text\": ")?;
     push_string(without_first(names), out)
 }
 
@@ -239,7 +241,7 @@ fn push_text_or_word(is_bytes: bool, word: &[u8], out: &mut Vec<u8>) -> Result<(
 }
 
 /// Appends the members of a value, and of the brackets after it.
-#[tactic(auto, unfolding(crate::specs::Values::members_json))]
+#[tactic(auto, unfolding(crate::specs::Values::members_json, crate::specs::Values::key))]
 pub(crate) fn push_members(
     is_bytes: bool,
     term: Term<'_>,
@@ -250,7 +252,7 @@ pub(crate) fn push_members(
     if is_hex(term.word) {
         return push_set(b"value", b"flags", term, out);
     }
-    push_key(b"value", out)?;
+    out.extend_from_slice(b"\"value\": ")?;
     push_text_or_word(is_bytes, term.word, out)?;
     push_text(term.names, out)
 }

@@ -1,13 +1,42 @@
 -- The first line of a text, and the first word of a line, as loops cut them off.
-use Rattle.std.proofs.Common.{◌≡◌, ◌+◌, ◌≤◌, Bool, ℕ, suc, true, false, cond, refl, sym, ap, ◌∙◌, List, [], ◌∷◌}
-use Rattle.std.proofs.Common.{take, drop, length, min, arith}
+use Rattle.std.proofs.Common.{◌≡◌, ◌≢◌, ◌+◌, ◌≤◌, ◌==◌, Bool, ℕ, suc, true, false, not, cond, refl, sym, ap, ◌∙◌, List, [], ◌∷◌, ◌++◌, Some, None, take, drop, length, min, arith}
+use Rattle.std.specs.Prelude.{slice_index}
 use Rattle.std.specs.List.{prefix_len}
-use Rattle.std.proofs.lemmas.List.Sums.{prefix_len-le-length}
-use Rattle.link_lines_parts.specs.Lines.{is_in_line, is_in_word, lines_of, with_byte, words_of}
+use Rattle.std.proofs.lemmas.Bool.{eqb-true}
+use Rattle.std.proofs.lemmas.List.Sums.{prefix_len-le-length, prefix_len_is}
+use Rattle.memchr.specs.Find.{IsFirstByte, is_byte}
+use Rattle.link_lines_parts.specs.Lines.{is_in_line, is_in_word, lines_of, with_byte, without_newline, words_of}
 
 -- What a prefix has is no more than there is.
 pub prefix_within : (p : ℕ → Bool) (t : List ℕ) → prefix_len p t ≤ length t
 prefix_within p t = prefix_len-le-length p t
+
+-- ---- newlines
+
+isnt : (b : Bool) → (b ≡ true → ⊥) → not b ≡ true
+isnt true h = absurd (h refl)
+isnt false h = refl
+
+-- If there is no newline, the whole text is before it.
+pub newline_nowhere : (t : List ℕ) → IsFirstByte (is_byte 10) t None → prefix_len is_in_line t ≡ length t
+newline_nowhere t h = prefix_len_is is_in_line t (length t) 0 (omega arith) (λ k l. isnt (slice_index t k == 10) (h k (omega arith) l)) (λ l. absurd (omega (arith, l)))
+
+-- The bytes before the first newline.
+pub newline_first : (t : List ℕ) (k : ℕ) → IsFirstByte (is_byte 10) t (Some k) → prefix_len is_in_line t ≡ k
+newline_first t k h = prefix_len_is is_in_line t k 0 (omega (arith, h.0.high)) (λ i l. isnt (slice_index t i == 10) (h.0.before i (omega arith) l)) (λ l. ap not h.1)
+
+without_last : (start : List ℕ) (last : ℕ) → without_newline (start ++ last ∷ []) ≡ cond (is_in_line last) (start ++ last ∷ []) start
+without_last [] last = refl
+without_last (c ∷ []) last = elim (is_in_line last) as (λ b. c ∷ cond b (last ∷ []) [] ≡ cond b (c ∷ last ∷ []) (c ∷ [])) [ true ↦ refl | false ↦ refl ]
+without_last (c ∷ d ∷ start) last = ap (λ l. c ∷ l) (without_last (d ∷ start) last) ∙ elim (is_in_line last) as (λ b. c ∷ cond b (d ∷ start ++ last ∷ []) (d ∷ start) ≡ cond b (c ∷ d ∷ start ++ last ∷ []) (c ∷ d ∷ start)) [ true ↦ refl | false ↦ refl ]
+
+-- A line that ends with a newline, without it.
+pub newline_dropped : (line start : List ℕ) (last : ℕ) → line ≡ start ++ last ∷ [] → last ≡ 10 → without_newline line ≡ start
+newline_dropped line start last e h = ap without_newline e ∙ without_last start last ∙ ap (λ c. cond (is_in_line c) (start ++ last ∷ []) start) h
+
+-- A line that ends with another byte.
+pub line_kept : (line start : List ℕ) (last : ℕ) → line ≡ start ++ last ∷ [] → last ≢ 10 → without_newline line ≡ line
+line_kept line start last e h = ap without_newline e ∙ without_last start last ∙ ap (λ b. cond b (start ++ last ∷ []) start) (isnt (last == 10) (λ t. h (eqb-true last 10 t))) ∙ sym e
 
 -- ---- lines
 

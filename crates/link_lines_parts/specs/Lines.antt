@@ -49,3 +49,9 @@ first_word line = take (prefix_len is_in_word (without_indent line)) (without_in
 -- What follows the first word of a line.
 abbrev pub after_first_word : List ℕ → List ℕ
 after_first_word line = drop (prefix_len is_in_word (without_indent line)) (without_indent line)
+
+-- A line without the newline at its end, if it has one.
+abbrev pub without_newline : List ℕ → List ℕ
+without_newline [] = []
+without_newline (c ∷ []) = cond (is_in_line c) (c ∷ []) []
+without_newline (c ∷ d ∷ line) = c ∷ without_newline (d ∷ line)

@@ -11,7 +11,7 @@ mod remaining;
 mod whole;
 
 pub use bytes_lines::{push_bytes_line, push_refused_body};
-pub use cuts::{first_word, level, line_len, line_words, split_line, split_word};
+pub use cuts::{LineParts, line_len, line_parts, split_line, split_word, without_newline};
 pub use kind_names::{has_byte_order_bit, has_nested_bit, push_kind_name};
 pub use levels::DEEPEST_LEVEL;
 pub use names::{COUNTERS, INDEXES, is_among};

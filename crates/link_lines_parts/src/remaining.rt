@@ -1,13 +1,13 @@
 //! The lines of a message without some attributes and indexes.
 
-ghost use Rattle.std.specs.Prelude.{◌≡◌, ◌++◌, false, IsTrue, OnOk};
+ghost use Rattle.std.specs.Prelude.{◌≡◌, ◌↔◌, ◌++◌, false, IsTrue, OnOk};
 ghost use Rattle.link_lines_values.specs.Appends.{Appends};
 ghost use Rattle.link_lines_parts.specs.Lines.{words_of};
 ghost use Rattle.link_lines_parts.specs.Remaining.{is_header, is_index_field, is_omitted, is_omitted_name, line_text};
 ghost use Rattle.link_lines_parts.specs.Remaining.{nothing_omitted, numbers_omitted, omitted_level, omitted_of, remaining_line};
 ghost use Rattle.link_lines_parts.specs.Remaining.{remaining_lines, without_index_fields};
 
-use crate::cuts::{first_word, level, split_line, split_word};
+use crate::cuts::{line_parts, split_line, split_word};
 use crate::names::{is_among, is_counter, is_header_word, is_index};
 use arrayvec::ArrayVec;
 use std::alloc::AllocError;
@@ -45,13 +45,15 @@ impl Without {
 
     /// Returns whether all lines remain: at most numbers are left out.
     pub fn keeps_lines(&self) -> bool
-        ensures { IsTrue result → (omitted_of self.now ≡ numbers_omitted self.now.numbers) }
+        ensures { IsTrue result ↔ (omitted_of self.now ≡ numbers_omitted self.now.numbers) }
     {
         self.names.is_empty() && !self.counters && !self.indexes
     }
 }
 
 impl Default for Without {
+    ghost is_default = { λ w. omitted_of w ≡ nothing_omitted };
+
     fn default() -> Without {
         Without::nothing()
     }
@@ -70,7 +72,8 @@ fn is_omitted_name(without: &Without, name: &[u8]) -> bool
 fn is_omitted(without: &Without, line: &[u8]) -> bool
     ensures { result ≡ is_omitted (omitted_of without.now) line.now }
 {
-    level(line) > 0 && is_omitted_name(without, first_word(line))
+    let parts = line_parts(line);
+    parts.level > 0 && is_omitted_name(without, parts.word)
 }
 
 /// Returns the level of the omitted attribute that a line belongs to, if there is one, given that
@@ -78,9 +81,10 @@ fn is_omitted(without: &Without, line: &[u8]) -> bool
 fn omitted_level(without: &Without, before: Option<usize>, line: &[u8]) -> Option<usize>
     ensures { result ≡ omitted_level (omitted_of without.now) before line.now }
 {
+    let level = line_parts(line).level;
     match before {
-        Some(attribute) if level(line) > attribute => Some(attribute),
-        _ if is_omitted(without, line) => Some(level(line)),
+        Some(attribute) if level > attribute => Some(attribute),
+        _ if is_omitted(without, line) => Some(level),
         _ => None,
     }
 }
@@ -89,7 +93,8 @@ fn omitted_level(without: &Without, before: Option<usize>, line: &[u8]) -> Optio
 pub fn is_header(line: &[u8]) -> bool
     ensures { result ≡ is_header line.now }
 {
-    level(line) > 0 && is_header_word(first_word(line))
+    let parts = line_parts(line);
+    parts.level > 0 && is_header_word(parts.word)
 }
 
 /// Returns whether a word, with the space before it, is the name of the field with a link's index.

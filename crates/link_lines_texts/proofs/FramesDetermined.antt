@@ -1,7 +1,7 @@
 -- Lines determine frames, provided that they determine lists of attributes.
 use Rattle.std.proofs.Common.{◌≡◌, ℕ, suc, ◌%◌, ◌≤◌, Bool, true, false, cond, List, [], ◌∷◌, ◌++◌, length, take, drop, get_or, Option, Some, None, Ok, Err, refl, sym, ap, subst, ◌∙◌, append_assoc, arith, inl, inr}
 use Rattle.std.specs.Prelude.{◌==◌, nat_le, codes}
-use Rattle.std.proofs.lemmas.Bool.{and_parts, cond_both, eqb-true, leb-true, ltb-false, le-leb, ne_eqb}
+use Rattle.std.proofs.lemmas.Bool.{cond_both, eqb-true, leb-true, ltb-false, le-leb, ne_eqb}
 use Rattle.std.proofs.lemmas.Bool.Decides.{eqb_tells}
 use Rattle.std.proofs.lemmas.List.{append_cancel_left, length-drop, length-take}
 use Rattle.netlink_packet_core_grammar.specs.Bytes.{AreBytes}

@@ -18,7 +18,7 @@ use Rattle.link_lines_values.specs.Values.{value_text}
 use Rattle.link_lines_values.specs.declared.values.ShownBy.TheVariants.{Bytes}
 use Rattle.link_lines_values.specs.Layouts.{layout_fields}
 use Rattle.link_lines_values.specs.NumberTexts.{number_texts}
-use Rattle.link_lines_texts.specs.Format.{Inside, Inside.Value, Inside.Settings, Inside.Plain, Inside.Held, Inside.Peer, Inside.Nested, Inside.Data, Inside.Statistics, Inside.PortData, can_statistics, if_reached, inside_held, is_canonical_peer, is_inside_on_a_line, known_inside, of_held, peer_inside, statistics_inside}
+use Rattle.link_lines_texts.specs.Format.{Inside, Inside.Value, Inside.Settings, Inside.Plain, Inside.Held, Inside.Peer, Inside.Nested, Inside.Data, Inside.Statistics, Inside.PortData, can_statistics, if_reached, inside_held, is_canonical_peer, is_inside_on_a_line, known_inside, of_held, statistics_inside}
 use Rattle.link_tables.specs.InForce.{data_under, port_data_under}
 use Rattle.link_lines_raw.specs.declared.raw_tables.RawTable.{RawTable}
 use Rattle.link_lines_raw.specs.Attributes.{after_name, has_nested_bit, named_text, nested_word, plain_bytes, raw_row, raw_text}

@@ -15,7 +15,7 @@ use Rattle.link_lines_values.specs.declared.exact.ExactBy.TheVariants as E
 use Rattle.link_lines_values.specs.Bytes.{bytes_text, hex_text, is_zero}
 use Rattle.link_lines_values.specs.Digits.{big_endian, is_number}
 use Rattle.link_lines_values.specs.Exact.{Exact, exact_text, label_after, label_text, label_value, pieces_text, raw_value, takes}
-use Rattle.link_lines_values.specs.Names.{Text, named_number}
+use Rattle.link_lines_values.specs.Names.{named_number}
 use Rattle.link_lines_values.specs.Records.{Field, FieldShown, counter_name, counters_text, field_text, has_zero_padding, is_counters, slots_text, title_or, total_size}
 use Rattle.link_lines_values.specs.Values.{number_value}
 use Rattle.link_lines_texts.specs.Growth.{allowance, are_short_counters, factor, field_most, fields_most, is_short_exact, leaves_space, longest_title}

@@ -1,7 +1,8 @@
 //! How the payloads of attributes with names are shown.
 
 ghost use Rattle.std.specs.Prelude.{◌≡◌, ◌+◌, ◌<◌, ◌≤◌, true, length, unwrap_or, vec_capacity, IfOk, OnErr};
-ghost use Rattle.link_lines_texts.specs.Format.{inside_of, inside_held, known_inside, of_held, peer_inside, statistics_inside, within_reach};
+ghost use Rattle.link_lines_texts.specs.Format.{inside_of, inside_held, known_inside, of_held, peer_inside, statistics_inside};
+ghost use Rattle.link_lines_texts.specs.Format.{within_reach};
 ghost use Rattle.link_tables.specs.InForce.{held_in_force, in_force};
 
 use crate::canonical_peers::is_canonical_peer;

@@ -8,7 +8,7 @@ ghost use Rattle.linkshow_program.specs.Arguments.{Asks, Expected.Nothing, Gives
 ghost use Rattle.linkshow_program.specs.declared.arguments.ValueOption.TheVariants as Valued;
 
 use link_capture_commands::{DEFAULT_LIMIT, read_limit};
-use link_lines::{ShowOptions, Without, WordError, read_types, read_without};
+use link_lines::{ShowOptions, WordError, read_types, read_without};
 
 /// What is shown of which capture.
 #[derive(Clone, Debug, PartialEq, Eq, Drop)]
@@ -325,15 +325,7 @@ fn read_options(arguments: &[String]) -> Result<Options<'_>, UsageError<'_>>
     let mut options = Options {
         limit: DEFAULT_LIMIT,
         kernels: false,
-        show: ShowOptions {
-            without_numbers: false,
-            only: None,
-            link: None,
-            without: Without::nothing(),
-            offsets: false,
-            keep_going: false,
-            json: false,
-        },
+        show: ShowOptions::default(),
         file: None,
     };
     let mut left = arguments;

@@ -8,7 +8,7 @@ use Rattle.link_lines.proofs.Stepping.{step_fits, step_passes}
 use Rattle.link_lines.proofs.messages.push_messages.Goals as goal
 
 pub messages-init : goal.messages-init
-messages-init c = record { passes = passes_none _ _ _ _ _ _ _; bound = omega (arith, c.requires.near) }
+messages-init c = record { passes = passes_none _ _ _ _ _ _ _; bound = omega (arith, c.requires.near); frame_start = refl }
 
 pub messages-preserved : goal.messages-preserved
 messages-preserved c =
@@ -20,4 +20,5 @@ messages-preserved c =
     record {
       passes = subst (λ n. Passes (selection_of c.args.options.now) c.args.limit c.args.start bytes c.args.from (len + n) c.args.out.now.items c.push_message.new.out.items (report_in c.args.found.now) (report_in c.push_message.new.found)) (sym size) (step_passes _ _ _ bytes _ _ len _ _ _ _ _ _ _ _ c.in-Next.size c.messages.invariant.passes (omega (arith, c.messages-test.true)) rest refl c.in-Next.is c.in-Ok.ensures.ok);
       bound = omega (arith, fits, size, ap length rest, length-drop len bytes);
+      frame_start = omega (arith, c.messages.invariant.frame_start, size);
     }

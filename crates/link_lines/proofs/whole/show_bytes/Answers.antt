@@ -1,5 +1,6 @@
 -- All lines that are selected are appended, or memory runs out.
 use Rattle.std.proofs.Common.{◌≡◌, ◌++◌, ◌∙◌, ℕ, List, sym, subst}
+use Rattle.link_capture_reader.specs.Readers.{IsFrameOffsetOf}
 use Rattle.link_lines.specs.Messages.{first_report, messages}
 use Rattle.link_lines.specs.Options.{selection_of}
 use Rattle.link_lines.specs.Outcomes.{RunsOutAt}
@@ -48,3 +49,8 @@ returns-clause-memory c = λ m.
     let memory = c.in-Err.ensures.memory in
     subst (λ e. (w : List ℕ) × RunsOutAt o c.args.limit c.args.bytes.now w e.fault.offset × (new ≡ old ++ w)) (sym c.fault_at.ensures)
     (runs_out o c.args.limit c.args.bytes.now old new at _ _ c.in-Err.ensures.passes memory.0 memory.1)
+
+pub returns-clause-frame_start : goal.returns-clause-frame_start
+returns-clause-frame_start c =
+    let bad = c.in-Err.ensures in
+    subst (λ e. IsFrameOffsetOf c.args.bytes.now e.fault.offset) (sym c.fault_at.ensures) (bad.memory.0, bad.frame_start)

@@ -1,7 +1,0 @@
-use Rattle.std.proofs.Common.{◌≡◌, ◌+◌, drop}
-use Rattle.std.specs.List.{prefix_len}
-use Rattle.link_lines_parts.specs.Lines.{is_in_line}
-use Rattle.link_lines_parts.proofs.cuts.line_len.Given as goal
-
-abbrev pub invariant-loop-i : goal.invariant-loop-i
-invariant-loop-i l = l.i + prefix_len is_in_line (drop l.i l.text) ≡ prefix_len is_in_line l.text

@@ -1,14 +1,14 @@
 #!/usr/bin/env bash
-# Compares what this repository and the crates that it ports read and write, and how fast.
+# Compares what this repository and the crates that it ports read and write.
 #
 #     bench/upstream.sh [SEED [COUNT [FOLDER..]]]
 #
 # The crates are those of Debian's newest packages librust-netlink-packet-route-dev and librust-netlink-packet-core-dev, in a
 # root of Debian sid that mmdebstrap makes in ~/.cache/linkcap, once (930 MB), with cargo and rustc; root is needed. The cases
 # are the samples, the vectors, the captures (*.bin) in the folders, and COUNT link bodies (200000) that are made by SEED (1).
-# It builds nothing else: crates/read_links/out/read_links has to be there. No gate runs this. The status is 1 if a difference
-# falls under no rule of bench/upstream/rules.py, or if the comparison passes without one of them: with fewer bodies, a rare rule
-# may have no case.
+# It builds nothing else: crates/read_links/out/read_links has to be there. bench/run.sh times both programs. No gate runs this.
+# The status is 1 if a difference falls under no rule of bench/upstream/rules.py, or if the comparison passes without one of
+# them: with fewer bodies, a rare rule may have no case.
 set -euo pipefail
 cd "$(dirname "$0")/.."
 
@@ -42,4 +42,3 @@ chroot "$root" dpkg-query -W -f '${Package} ${Version}\n' librust-netlink-packet
 
 theirs=$root/build/target/release/read_links_upstream
 bench/upstream/compare.py --seed "$seed" --count "$count" --each-rule "$ours" "$theirs" "${folders[@]}"
-bench/upstream/speed.py "$ours" "$theirs"

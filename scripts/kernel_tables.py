@@ -16,6 +16,7 @@ ADDRESSES = [("RTM_GETADDR", 8, socket.AF_UNSPEC)]
 
 # A kernel notices at most once a second that carriers changed (LINKWATCH_INTERVAL of net/core/link_watch.c).
 QUIET_SECONDS, MOST_SECONDS = 1.2, 10.0
+DETECTION_SECONDS = 2.2  # at most 1 s of random delay, and 1 s for an answer (RFC 4862)
 
 
 def join(route, groups):
@@ -67,23 +68,28 @@ def bodies(tables, type_name):
                         if message_type(datagram, offset) == TYPE_NUMBERS[type_name])
 
 
-def has_tentative_addresses():
-    """Whether duplicates of an address are being looked for (RFC 4862). On a link that doesn't run this hasn't begun."""
+def tentative_addresses():
+    """Of each address for which duplicates may be looked for (RFC 4862), whether its link runs. On a link that doesn't run this
+    hasn't begun, or it began while the link ran, and goes on."""
     running = {index for index, flags in (struct.unpack_from("=iI", body, 4) for body in bodies(LINKS, "RTM_NEWLINK"))
                if flags & IFF_RUNNING}
     addresses = [struct.unpack_from("=2xBxi", body) for body in bodies(ADDRESSES, "RTM_NEWADDR")]
-    return any(flags & IFA_F_TENTATIVE and not flags & IFA_F_DADFAILED and index in running for flags, index in addresses)
+    return [index in running for flags, index in addresses if flags & IFA_F_TENTATIVE and not flags & IFA_F_DADFAILED]
 
 
 def wait_until_settled():
-    """Whether the tables settled: waits until no notification came for QUIET_SECONDS and no address is tentative, for at most
-    MOST_SECONDS."""
+    """Whether the tables settled: waits until no notification came for QUIET_SECONDS and no address of a link that runs is
+    tentative, for at most MOST_SECONDS; if an address of another link is, until none came for DETECTION_SECONDS."""
     end = time.monotonic() + MOST_SECONDS
     with route_socket() as route:
         join(route, ALL_GROUPS)
-        while (left := end - time.monotonic()) >= QUIET_SECONDS:
+        while end - time.monotonic() >= QUIET_SECONDS:
             if select.select([route], [], [], QUIET_SECONDS)[0]:
                 receive(route)
-            elif not has_tentative_addresses():
+                continue
+            tentative = tentative_addresses()
+            if any(tentative):
+                continue
+            if not tentative or not select.select([route], [], [], DETECTION_SECONDS - QUIET_SECONDS)[0]:
                 return True
     return False

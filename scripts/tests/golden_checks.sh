@@ -128,6 +128,9 @@ if unshare --map-root-user --net ip link add v0 type veth 2> /dev/null; then
         grep -qx "# leaves out what varies: RTM_NEWLINK \"br0\" > IFLA_LINKINFO > IFLA_INFO_DATA > IFLA_BR_BRIDGE_ID" all.made &&
         grep -q "IFA_ADDRESS 192.0.2.1" all.made && ! grep -q "^ .*fe80::[0-9a-f]" all.made' "$linkgold" "$ports"
     succeeds "the same effect" "$linkgold" --effect --all all.made -- sh -c "$ports"
+    lost='ip link add br0 type bridge; ip link add v0 type veth peer name v1; ip link set v0 master br0; for link in br0 v0 v1; do ip link set $link up; done; sleep 0.1; ip link del v0'
+    succeeds "the effect of a bridge that loses its port" bash -c 'for run in {1..3}; do
+        "$0" effect --all -o lost.made -- sh -c "$2" && "$1" --only newaddr lost.made > lost.lines && grep -q "ifaddrmsg family 10 " lost.lines && ! grep TENTATIVE lost.lines || exit; done' "$linkrec" "$LINKSHOW" "$lost"
     succeeds "another route" bash -c '"$0" --effect --all all.made -- sh -c "$1; ip route add 198.51.100.0/24 via 192.0.2.9" > diff; [ $? -eq 1 ] &&
         grep -qx -- "+  RTA_DST 198.51.100.0" diff' "$linkgold" "$ports"
     succeeds "links of random names" bash -c '"$0" --effect --update random.made -- sh -c "ip link add veth\$(od -An -N4 -tx4 /dev/urandom | tr -d \" \") type veth peer name p" 2> report

@@ -124,9 +124,12 @@ struct linkcap_progress {
     uint64_t wanted;  /* on LINKCAP_NO_ROOM the bytes that the next message needs, else 0 */
 };
 
-/* Kinds of faults. Captures in memory have the first eight; the last four are those of the program. */
+/*
+ * Kinds of faults. Calls of this library return the first eight; the others are those of the programs, and of the readers in
+ * Rattle.
+ */
 enum linkcap_kind {
-    LINKCAP_CUT = 1,         /* fewer bytes are left than a header has, or than its length */
+    LINKCAP_CUT = 1,         /* fewer than 16 bytes are left, or fewer than the header's length */
     LINKCAP_SHORT_LENGTH,    /* the header's length is under 16 */
     LINKCAP_OVER_LIMIT,      /* the header's length is over the limit */
     LINKCAP_REFUSED,         /* the body isn't accepted */

@@ -3,25 +3,14 @@
 
 # A script of many requests, and single changes of it.
 network="$top/scripts/tests/network.sh"
-succeeds "a network" bash -c '"$0" --may-fail --keep-going --update network.lines -- sh "$1" && "$0" --may-fail --keep-going network.lines -- sh "$1"' "$linkgold" "$network"
-cat > "$work/is_red" << 'END'
-linkgold=$0 network=$1 change=$2 gone=$3 came=$4
-sed "$change" "$network" > changed.sh
-cmp -s "$network" changed.sh && { echo "nothing was changed"; exit 1; }
-"$linkgold" --may-fail --keep-going network.lines -- sh changed.sh > difference 2> /dev/null
-[ $? -eq 1 ] && grep -qx -- "$gone" difference && grep -qx -- "$came" difference && exit
-cat difference
-exit 1
-END
-while IFS=$'\t' read -r name change gone came; do
-    case $name in '#'*) continue ;; esac
-    succeeds "a network with another choice of $name" bash -c "$(cat "$work/is_red")" "$linkgold" "$network" "$change" "$gone" "$came"
-done < "$top/scripts/tests/changes.tsv"
-for change in 's/set va mtu 1400/set mtu 1400 dev va/' 's/set va master br0/set dev va master br0/' 's|10.0.1.1/24 dev vb|10.0.1.1/24 dev vb scope global|' \
-    's/add dev va vid 20/add vid 20 dev va/' 's/dev br0 metric 5/metric 5 dev br0/'; do
-    succeeds "a network with a harmless change: $change" bash -c 'sed "$2" "$1" > changed.sh; ! cmp -s "$1" changed.sh &&
-        "$0" --may-fail --keep-going network.lines -- sh changed.sh' "$linkgold" "$network" "$change"
-done
+succeeds "a network" bash -c '"$0" --may-fail --update network.lines -- sh "$1" && "$0" --may-fail network.lines -- sh "$1"' "$linkgold" "$network"
+succeeds "changes of a network are tried" bash -c '"$0" "$@" > tried && [ "$(grep -vc "^#" "${0%.py}.tsv")" -eq "$(wc -l < tried)" ]' \
+    "$top/scripts/tests/changes.py" "$linkgold" "$network" network.lines
+while IFS=$'\t' read -r name fault; do
+    succeeds "a network with a change of $name" bash -c 'echo "$0"; [ -z "$0" ]' "$fault"
+done < "$work/tried"
+succeeds "the links of a route, a next hop and a rule head their hunks" bash -c 'sed "s/RTAX_MTU 1300/RTAX_MTU 1200/; s/NHA_ID 7/NHA_ID 8/; s/FRA_PRIORITY 60/FRA_PRIORITY 61/" network.lines > changed.lines
+    "$0" network.lines changed.lines > difference; [ $? -eq 1 ] && [ "$(sed -n "s/^@@ .* @@ //p" difference | paste -sd ,)" = "RTM_NEWROUTE vb,RTM_NEWNEXTHOP vb,RTM_NEWRULE vb" ]' "$linkdiff"
 
 # Links that are made, renamed, deleted and made anew: each message has the names of its moment.
 cat > "$work/batch" << 'END'

@@ -63,7 +63,10 @@ impl NetlinkDeserializable for KeptMessage {
 }
 
 /// Returns the bytes of a message, whose header gets the length and type of its body.
-fn written(alloc: Global, mut message: NetlinkMessage<KeptMessage>) -> Result<Vec<u8>, AllocError> {
+fn written(
+    alloc: Global,
+    message: &mut NetlinkMessage<KeptMessage>,
+) -> Result<Vec<u8>, AllocError> {
     let size = message.buffer_len();
     if size > u32::MAX as usize {
         return Err(AllocError);
@@ -83,7 +86,7 @@ fn written(alloc: Global, mut message: NetlinkMessage<KeptMessage>) -> Result<Ve
 pub fn write_result<W: Write>(alloc: Global, bytes: &[u8], out: &mut W) -> io::Result<()> {
     let read: Result<NetlinkMessage<KeptMessage>, FrameError<AllocError>> =
         NetlinkMessage::deserialize(alloc, bytes);
-    let message = match read {
+    let mut message = match read {
         Ok(message) => message,
         Err(FrameError::Frame(error)) if !error.is_memory() => {
             return writeln!(out, "refused");
@@ -91,6 +94,6 @@ pub fn write_result<W: Write>(alloc: Global, bytes: &[u8], out: &mut W) -> io::R
         Err(_) => return Err(io::Error::from(ErrorKind::OutOfMemory)),
     };
     let text = format!(in alloc; "{message:?}")?;
-    let hex = encode(alloc, written(alloc, message)?.as_slice())?;
+    let hex = encode(alloc, written(alloc, &mut message)?.as_slice())?;
     writeln!(out, "read {hex} {text}")
 }

@@ -39,7 +39,7 @@ pub trait Value: Debug + Drop {
 /// # Errors
 ///
 /// Out of memory if the allocation fails.
-fn written<V: Value>(alloc: Global, value: &V) -> Result<Option<Vec<u8>>, AllocError>
+pub fn written<V: Value>(alloc: Global, value: &V) -> Result<Option<Vec<u8>>, AllocError>
     ensures some { IfOk result (λ o. IfSome o (λ bytes. bytes.items ≡ V.text value.now)) }
     ensures none { IfOk result (λ o. IfNone o (V.fits value.now ≡ false)) }
 {

@@ -1,7 +1,8 @@
 // A walk over attributes: the kind, the flags and the value of each, and the bytes of all.
 
+use crate::value::written;
 use hex::encode;
-use netlink_packet_core::{DefaultNla, NlasIterator, Parseable, emit_all, fits_all, len_all};
+use netlink_packet_core::{DefaultNla, NlasIterator, Parseable};
 use std::alloc::Global;
 use std::io::{self, ErrorKind, Write};
 
@@ -23,18 +24,17 @@ pub fn write_result<W: Write>(alloc: Global, bytes: &[u8], out: &mut W) -> io::R
         };
         let (kind, nested) = (view.kind(), view.nested_flag());
         let order = view.network_byte_order_flag();
-        let value = DefaultNla::parse(alloc, &view).map_err(|_| ErrorKind::OutOfMemory)?;
+        let Ok(value) = DefaultNla::parse(alloc, &view) else {
+            return Err(io::Error::from(ErrorKind::OutOfMemory));
+        };
         let item = format!(in alloc; "{kind} {nested} {order} {value:?}; ")?;
         text.push_str(item.as_str())?;
         values.push(value)?;
     }
     let end = if is_whole { "end" } else { "fault" };
-    if !fits_all(values.as_slice()) {
+    let Some(written) = written(alloc, &values)? else {
         return writeln!(out, "unfit {text}{end}");
-    }
-    let mut written = Vec::new(alloc);
-    written.resize(len_all(values.as_slice()), 0)?;
-    emit_all(values.as_slice(), written.as_mut_slice());
+    };
     let hex = encode(alloc, written.as_slice())?;
     writeln!(out, "read {hex} {text}{end}")
 }

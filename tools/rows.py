@@ -285,7 +285,7 @@ def page():
     return "\n".join(out)
 
 
-RAW_HEAD = """What `linkshow` shows of attributes that normalising keeps as they are, by the table of their list, and in the bodies of messages of other types than links. Rows have the kind, the name and the [format](../../tools/oracle/lines.md#raw-attributes); `*` is any other kind, and `[]` a name that is the kind.
+RAW_HEAD = """What `linkshow` shows of attributes that normalising keeps as they are, by the table of their list, and in the bodies of messages of other types than links. Rows have the kind, the name and the [format](../../tools/oracle/lines.md#raw-attributes); `*` stands for any other kind, and `[]` for an attribute that is shown by its number, since it has no name.
 """
 
 

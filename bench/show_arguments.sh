@@ -57,7 +57,7 @@ run --kernels --without-numbers --limit 48 - --without-numbers < "$request"
 expect "an option after -" 3 "$usage" "$work/nothing"
 # An NLMSG_ERROR of code -17 that repeats the header of a request for a link.
 { printf '\x24\0\0\0\2\0\0\0\7\0\0\0\x09\0\0\0\xef\xff\xff\xff'; head -c 16 "$request"; } > "$work/refusal"
-printf '%s\n' 'NLMSG_ERROR flags 0x0' '  code -17' '  request length 48 RTM_GETLINK flags 0x301 (REQUEST | ROOT | MATCH)' > "$work/refused"
+printf '%s\n' 'NLMSG_ERROR flags 0x0' '  code -17 (EEXIST)' '  request length 48 RTM_GETLINK flags 0x301 (REQUEST | ROOT | MATCH)' > "$work/refused"
 run --without-numbers --kernels "$work/refusal"
 expect "a refused request without numbers" 0 "" "$work/refused"
 cat "$request" "$work/refusal" > "$work/both"

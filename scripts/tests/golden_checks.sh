@@ -110,7 +110,7 @@ reply() { printf '\x24\0\0\0\2\0\0\1\1\0\0\0\0\0\0\0%b\x28\0\0\0\x10\0\5\6\1\0\0
 { reply '\0\0\0\0'; reply '\xef\xff\xff\xff'; cat "$work/a"; } > "$work/replies.bin"
 filter=$(sed -n "s/^linkjson replies.bin | jq -c '\(.*\)'\$/\1/p" man/linkjson.1)
 if command -v jq > /dev/null; then
-    expect "the manual's filter of refusals" 0 "" bash -c '"$0" replies.bin | jq -c "$1"' "$linkjson" "$filter" <<< '[-17,"RTM_NEWLINK"]'
+    expect "the manual's filter of refusals" 0 "" bash -c '"$0" replies.bin | jq -c "$1"' "$linkjson" "$filter" <<< '["EEXIST","RTM_NEWLINK"]'
 else
     skip "the manual's filter of refusals" "no jq"
 fi

@@ -116,7 +116,7 @@ def add_to_message(message, words, text):
     if first in ("rest", "body"):
         message[first] = words[1]
     elif first == "code":
-        message["code"] = int(words[1])
+        message.update(take_fields(words))
     elif first == "refused:":
         message["refused"] = text.strip().partition(" ")[2]
     elif first == "request":
@@ -204,7 +204,7 @@ def message_lines(message):
     numbers = {name: message[name] for name in ("flags", "seq", "port", "offset") if name in message}
     out = [line(0, type_text(message["type"]), fields_text(numbers))]
     if "code" in message:
-        out.append(line(1, "code", str(message["code"])))
+        out.append(line(1, "code", value_text(message["code"])))
     if "request" in message:
         out.append(line(1, "request", request_text(message["request"])))
     for name, word in (("rest", "rest"), ("refused", "refused:"), ("body", "body")):

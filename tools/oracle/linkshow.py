@@ -47,6 +47,8 @@ LISTS = dict(RAW_DATA["list"])
 BODIES = [(*map(matching, columns), record_name, table) for *columns, record_name, table in RAW_DATA["body"]]
 
 NESTED, BIG_ENDIAN = 0x8000, 0x4000     # the flag bits of a kind
+CAPPED, ACK_TLVS = 0x100, 0x200         # flags of acknowledgements: the request is its header alone; attributes follow
+HEADER_SIZE = 16                        # of a message
 DEEPEST = 16                            # the deepest level of a line
 
 
@@ -311,14 +313,35 @@ def header_text(kind, flags, sequence, port, numbers):
     return text + (" seq %d port %d" % (sequence, port) if numbers else "")
 
 
-def error_lines(kind, body, numbers):
+def size_before_attributes(kind, flags, rest):
+    """How many bytes of a request are between a code and the attributes after it, without padding; None for no attributes."""
+    if not flags & ACK_TLVS or kind == o.ERROR and len(rest) < HEADER_SIZE:
+        return None
+    if kind == o.DONE:
+        return 0
+    size = HEADER_SIZE if flags & CAPPED else o.u32(rest, 0)
+    return size if size >= HEADER_SIZE else None
+
+
+def split_acknowledgement(kind, flags, rest):
+    """What follows a code: the bytes of the request, and the lines of the attributes after it; or all bytes, and no lines."""
+    size = size_before_attributes(kind, flags, rest)
+    if size is not None:
+        start = o.round_up(size)
+        attributes = raw_list(1, "acknowledgement", rest[start:]) if len(rest) > start and not any(rest[size:start]) else None
+        if attributes is not None:
+            return rest[:size], attributes
+    return rest, []
+
+
+def error_lines(kind, flags, body, numbers):
     """The lines of an error's body, or of the end of a dump."""
-    out, rest = [line(1, "code", number("signed", "", body[:4]))], body[4:]
-    if kind == o.ERROR and len(rest) >= 16:     # the request's header
+    out, (rest, attributes) = [line(1, "code", number("signed", "Error", body[:4]))], split_acknowledgement(kind, flags, body[4:])
+    if kind == o.ERROR and len(rest) >= HEADER_SIZE:
         header = header_text(o.u16(rest, 4), o.u16(rest, 6), o.u32(rest, 8), o.u32(rest, 12), numbers)
         out.append(line(1, "request", "length %d %s" % (o.u32(rest, 0), header)))
-        rest = rest[16:]
-    return out + ([line(1, "rest", rest.hex())] if rest else [])
+        rest = rest[HEADER_SIZE:]
+    return out + ([line(1, "rest", rest.hex())] if rest else []) + attributes
 
 
 def frame_lines(f, numbers=True):
@@ -327,7 +350,7 @@ def frame_lines(f, numbers=True):
         return out + body_lines(1, f.link, bool(f.flags & 1))
     body = f.plain_text()
     if f.type in (o.ERROR, o.DONE):
-        return out + error_lines(f.type, body, numbers)
+        return out + error_lines(f.type, f.flags, body, numbers)
     return out + (other_body_lines(f.type, f.flags, body) if body else [])
 
 

@@ -24,9 +24,9 @@ BYTES = frozenset("""
     IFLA_NETKIT_PEER_INFO IFLA_PERM_ADDRESS IFLA_PHYS_PORT_ID IFLA_PHYS_SWITCH_ID IFLA_PORT_HOST_UUID
     IFLA_PORT_INSTANCE_UUID IFLA_PRIORITY IFLA_PROTINFO IFLA_WIRELESS IOAM6_IPTUNNEL_TRACE LWTUNNEL_IP6_PAD
     LWTUNNEL_IP_OPT_GENEVE_DATA LWTUNNEL_IP_PAD NDA_LLADDR NDTA_PAD NDTPA_PAD NHA_RES_BUCKET_PAD NHA_RES_GROUP_PAD
-    RPL_IPTUNNEL_SRH RTA_MP_ALGO RTA_PAD RTA_PROTOINFO RTA_SESSION SEG6_IPTUNNEL_SRH SEG6_LOCAL_CNT_PAD SEG6_LOCAL_SRH
-    TCA_ACT_COOKIE TCA_ACT_OPTIONS TCA_ACT_PAD TCA_OPTIONS TCA_PAD TCA_STATS_APP TCA_STATS_PAD TCA_XSTATS VETH_INFO_PEER
-    VNIFILTER_ENTRY_STATS_PAD VXCAN_INFO_PEER""".split())
+    NLMSGERR_ATTR_COOKIE NL_POLICY_TYPE_ATTR_PAD RPL_IPTUNNEL_SRH RTA_MP_ALGO RTA_PAD RTA_PROTOINFO RTA_SESSION
+    SEG6_IPTUNNEL_SRH SEG6_LOCAL_CNT_PAD SEG6_LOCAL_SRH TCA_ACT_COOKIE TCA_ACT_OPTIONS TCA_ACT_PAD TCA_OPTIONS TCA_PAD
+    TCA_STATS_APP TCA_STATS_PAD TCA_XSTATS VETH_INFO_PEER VNIFILTER_ENTRY_STATS_PAD VXCAN_INFO_PEER""".split())
 
 # The attributes whose values are any number of numbers.
 NUMBER_LISTS = frozenset("""
@@ -196,7 +196,7 @@ class _Message:
         if depth == 1 and word in ("body", "rest"):
             self._members[word] = tokens.rest()[1]
         elif depth == 1 and word == "code":
-            self._members["code"] = int(tokens.rest()[1])
+            self._members.update(_fields(tokens))
         elif depth == 1 and word == "refused:":
             self._members.update(_refusal(line.strip().partition(" ")[2]))
         elif depth == 1 and word == "request":

@@ -73,11 +73,11 @@ is_read limit c kind h =
 -- ---- the lines of bodies that are read
 
 -- Such a body has no lines without its bytes.
-no_lines : (n : Bool) (t : ℕ) (request : Bool) → IsRead t → body_lines n t request [] ≡ []
+no_lines : (n : Bool) (t flags : ℕ) → IsRead t → body_lines n t flags [] ≡ []
 unfolding body_lines link_lines code_lines bytes_line
-no_lines n t request (inl two) = subst (λ t. body_lines n t request [] ≡ []) (sym two) refl
-no_lines n t request (inr (inl three)) = subst (λ t. body_lines n t request [] ≡ []) (sym three) refl
-no_lines n t request (inr (inr link)) = ap (λ l. cond l (link_lines (in_message request) []) (cond (t == 2 || t == 3) (code_lines n t []) (other_lines t request []))) link
+no_lines n t flags (inl two) = subst (λ t. body_lines n t flags [] ≡ []) (sym two) refl
+no_lines n t flags (inr (inl three)) = subst (λ t. body_lines n t flags [] ≡ []) (sym three) refl
+no_lines n t flags (inr (inr link)) = ap (λ l. cond l (link_lines (in_message (has_request_flag flags)) []) (cond (t == 2 || t == 3) (code_lines n t flags []) (other_lines t (has_request_flag flags) []))) link
 
 -- A text begins as the line of a refusal does.
 abbrev StartsRefusal : List ℕ → Type 0
@@ -105,13 +105,13 @@ code_by more p s true h e = third 99 _ (omega arith) e
 code_by more p s false h e = bytes_differ p s h e
 
 -- The lines of such a body aren't those of a refusal.
-body_differs : (n : Bool) (t : ℕ) (request : Bool) (p s : List ℕ) → IsRead t → StartsFrame s → StartsRefusal (body_lines n t request p ++ s) → ⊥
+body_differs : (n : Bool) (t flags : ℕ) (p s : List ℕ) → IsRead t → StartsFrame s → StartsRefusal (body_lines n t flags p ++ s) → ⊥
 unfolding body_lines link_lines code_lines
-body_differs n t request p s (inl two) h e = code_by _ p s (nat_le 4 (length p)) h (subst (λ t. StartsRefusal (body_lines n t request p ++ s)) two e)
-body_differs n t request p s (inr (inl three)) h e = code_by _ p s (nat_le 4 (length p)) h (subst (λ t. StartsRefusal (body_lines n t request p ++ s)) three e)
-body_differs n t request p s (inr (inr link)) h e =
-    link_by (in_message request) p s (nat_le 16 (length p)) h
-    (subst (λ l. StartsRefusal (cond l (link_lines (in_message request) p) (cond (t == 2 || t == 3) (code_lines n t p) (other_lines t request p)) ++ s)) link e)
+body_differs n t flags p s (inl two) h e = code_by _ p s (nat_le 4 (length p)) h (subst (λ t. StartsRefusal (body_lines n t flags p ++ s)) two e)
+body_differs n t flags p s (inr (inl three)) h e = code_by _ p s (nat_le 4 (length p)) h (subst (λ t. StartsRefusal (body_lines n t flags p ++ s)) three e)
+body_differs n t flags p s (inr (inr link)) h e =
+    link_by (in_message (has_request_flag flags)) p s (nat_le 16 (length p)) h
+    (subst (λ l. StartsRefusal (cond l (link_lines (in_message (has_request_flag flags)) p) (cond (t == 2 || t == 3) (code_lines n t flags p) (other_lines t (has_request_flag flags) p)) ++ s)) link e)
 
 -- ---- the lines of messages with a fault of their body
 
@@ -140,8 +140,8 @@ unfolding frame_lines
 header_alone f read =
     let h = header f in
     let line = header_line true h in
-    ap (λ b. line ++ body_lines true (u16_at 4 h) (has_request_flag h) b) (no_body f)
-    ∙ ap (λ z. line ++ z) (no_lines true (u16_at 4 h) (has_request_flag h) read) ∙ append-nil line
+    ap (λ b. line ++ body_lines true (u16_at 4 h) (u16_at 6 h) b) (no_body f)
+    ∙ ap (λ z. line ++ z) (no_lines true (u16_at 4 h) (u16_at 6 h) read) ∙ append-nil line
 
 -- What follows the header's line.
 abbrev after_header : FaultKind → List ℕ → List ℕ → List ℕ
@@ -211,7 +211,7 @@ pub accepted_differs : (limit : ℕ) (kind : FaultKind) (f g s t : List ℕ) →
 unfolding frame_lines
 accepted_differs limit kind f g s t h i v e =
     let p = parts_of limit kind f h in
-    let own = body_lines true (u16_at 4 g) (has_request_flag g) (drop 16 g) in
+    let own = body_lines true (u16_at 4 g) (u16_at 6 g) (drop 16 g) in
     let alike = sym (lines_are kind f s p.read) ∙ e ∙ append_assoc (header_line true g) own t in
     let same = header_determined true (header f) g (after_header kind f s) (own ++ t) p.bytes i.bytes p.enough i.header tt tt alike in
-    body_differs true (u16_at 4 g) (has_request_flag g) (drop 16 g) t (subst IsRead same.type p.read) v (subst StartsRefusal same.rest (starts_refusal kind f s))
+    body_differs true (u16_at 4 g) (u16_at 6 g) (drop 16 g) t (subst IsRead same.type p.read) v (subst StartsRefusal same.rest (starts_refusal kind f s))

@@ -1,11 +1,11 @@
 -- A message's lines as an object of JSON.
 use Rattle.std.specs.Prelude.{ℕ, zero, suc, ◌+◌, ◌-◌, ◌==◌, ◌&&◌, ◌||◌, nat_lt, max, Bool, true, false, not, cond, List, [], ◌∷◌, ◌++◌, codes}
-use Rattle.std.specs.Prelude.{bytes_eq}
+use Rattle.std.specs.Prelude.{None, bytes_eq}
 use Rattle.link_lines_json.specs.Attributes.{entry_json, first_of, is_lower, terms_string}
 use Rattle.link_lines_parts.specs.Lines.{after_first_word, first_word, level, lines_of, without_newline}
 use Rattle.link_lines_json.specs.Strings.{string}
 use Rattle.link_lines_json.specs.Tokens.{TermText, terms}
-use Rattle.link_lines_json.specs.Values.{fields_json, key, next_key, word_json}
+use Rattle.link_lines_json.specs.Values.{field_json, fields_json, key, next_key, word_json}
 
 -- ---- lines
 
@@ -45,11 +45,16 @@ struct_object word terms = 123 ∷ (key (codes "struct") ++ (string word ++ (fie
 unfoldable pub header_json : List ℕ → List TermText → List ℕ
 header_json word terms = key (codes "header") ++ struct_object word terms
 
+-- The code of an NLMSG_ERROR or NLMSG_DONE, as a field.
+unfoldable pub code_json : List TermText → List ℕ
+code_json [] = key (codes "code") ++ codes "null"
+code_json (code ∷ terms) = field_json (codes "code", None) code
+
 -- The member that a line is.
 unfoldable pub member_json : List ℕ → List TermText → List ℕ
 member_json word terms =
     cond (bytes_eq word (codes "body") || bytes_eq word (codes "rest")) (key word ++ string (first_of terms))
-    (cond (bytes_eq word (codes "code")) (key (codes "code") ++ word_json false (first_of terms))
+    (cond (bytes_eq word (codes "code")) (code_json terms)
     (cond (bytes_eq word (codes "refused:")) (key (codes "refused") ++ terms_string terms)
     (cond (bytes_eq word (codes "request")) (key (codes "request") ++ request_json terms) (header_json word terms))))
 

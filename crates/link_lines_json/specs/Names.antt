@@ -55,6 +55,8 @@ bytes_names =
     codes "NDTPA_PAD" ∷
     codes "NHA_RES_BUCKET_PAD" ∷
     codes "NHA_RES_GROUP_PAD" ∷
+    codes "NLMSGERR_ATTR_COOKIE" ∷
+    codes "NL_POLICY_TYPE_ATTR_PAD" ∷
     codes "RPL_IPTUNNEL_SRH" ∷
     codes "RTA_MP_ALGO" ∷
     codes "RTA_PAD" ∷

@@ -2,7 +2,7 @@
 
 ghost use Rattle.std.specs.Prelude.{◌≡◌, ◌∷◌, ◌++◌, codes, IfOk};
 ghost use Rattle.link_lines_values.specs.Appends.{Appends};
-ghost use Rattle.link_lines_json.specs.Json.{closing, ending, entry_depth, header_json, is_member, json};
+ghost use Rattle.link_lines_json.specs.Json.{closing, code_json, ending, entry_depth, header_json, is_member, json};
 ghost use Rattle.link_lines_json.specs.Json.{line_json, lines_json, line_terms, member_json, next_entry, numbered_json};
 ghost use Rattle.link_lines_json.specs.Json.{open_after, opening, request_json, sized_json, struct_object};
 ghost use Rattle.link_lines_json.specs.Json.{typed_json};
@@ -11,8 +11,8 @@ ghost use Rattle.link_lines_json.specs.Tokens.{terms};
 
 use crate::attributes::{first_of, is_lower, push_entry, push_terms_string};
 use crate::strings::push_string;
-use crate::tokens::split_term;
-use crate::values::{push_fields, push_key, push_word};
+use crate::tokens::{Term, split_term};
+use crate::values::{push_field, push_fields, push_key, push_word};
 use link_lines_parts::{line_parts, split_line, without_newline};
 use std::alloc::AllocError;
 
@@ -94,6 +94,22 @@ fn push_header(word: &[u8], text: &[u8], out: &mut Vec<u8>) -> Result<(), AllocE
     push_struct_object(word, text, out)
 }
 
+/// Appends the code of an NLMSG_ERROR or NLMSG_DONE, as a field.
+#[tactic(auto, unfolding(crate::specs::Json::code_json))]
+fn push_code(text: &[u8], out: &mut Vec<u8>) -> Result<(), AllocError>
+    ensures { Appends out.old out.new result (code_json (terms text.now)) }
+{
+    let Some((code, _)) = split_term(text) else {
+        push_key(b"code", out)?;
+        return out.extend_from_slice(b"null");
+    };
+    let name = Term {
+        word: b"code",
+        names: None,
+    };
+    push_field(name, code, out)
+}
+
 /// Appends the member that a line is.
 #[tactic(auto, unfolding(crate::specs::Json::member_json))]
 fn push_member(word: &[u8], text: &[u8], out: &mut Vec<u8>) -> Result<(), AllocError>
@@ -104,8 +120,7 @@ fn push_member(word: &[u8], text: &[u8], out: &mut Vec<u8>) -> Result<(), AllocE
         return push_string(first_of(text), out);
     }
     if word == b"code".as_slice() {
-        push_key(b"code", out)?;
-        return push_word(false, first_of(text), out);
+        return push_code(text, out);
     }
     if word == b"refused:".as_slice() {
         push_key(b"refused", out)?;

@@ -59,6 +59,8 @@ pub const BYTES: &[&[u8]] = &[
     b"NDTPA_PAD",
     b"NHA_RES_BUCKET_PAD",
     b"NHA_RES_GROUP_PAD",
+    b"NLMSGERR_ATTR_COOKIE",
+    b"NL_POLICY_TYPE_ATTR_PAD",
     b"RPL_IPTUNNEL_SRH",
     b"RTA_MP_ALGO",
     b"RTA_PAD",

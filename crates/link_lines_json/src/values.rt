@@ -294,7 +294,11 @@ fn is_address_field(name: &[u8]) -> bool
 
 /// Appends a field with a name and a value.
 #[tactic(auto, unfolding(crate::specs::Values::field_json))]
-fn push_field(name: Term<'_>, value: Term<'_>, out: &mut Vec<u8>) -> Result<(), AllocError>
+pub(crate) fn push_field(
+    name: Term<'_>,
+    value: Term<'_>,
+    out: &mut Vec<u8>,
+) -> Result<(), AllocError>
     ensures { Appends out.old out.new result (field_json (term_text name.entry) (term_text value.entry)) }
 {
     push_key(name.word, out)?;

@@ -15,4 +15,5 @@ pub mod ListsDetermined
 pub mod ListLines
 pub mod RawDetermined
 pub mod BodiesDetermined
+pub mod AcknowledgementsDetermined
 pub mod Together

@@ -1,9 +1,10 @@
 -- What lines of raw attributes and of bodies determine; the functions of `laws` have these as contracts.
-use Rattle.std.specs.Prelude.{◌≡◌, ℕ, ◌<◌, Bool, true, List, [], ◌++◌, codes, Some}
+use Rattle.std.specs.Prelude.{◌≡◌, ℕ, ◌<◌, Bool, true, List, [], ◌∷◌, ◌++◌, codes, Some}
 use Rattle.netlink_packet_core_grammar.specs.Attributes.{Attribute}
 use Rattle.netlink_packet_core_grammar.specs.Bytes.{AreBytes}
 use Rattle.link_lines_values.specs.Laws.{BeginsWithSpace, IsLine}
 use Rattle.link_lines_raw.specs.declared.raw_tables.RawTable.{RawTable}
+use Rattle.link_lines_raw.specs.Acknowledgements.{acknowledgement_lines, is_acknowledgement}
 use Rattle.link_lines_raw.specs.Attributes.{after_name, raw_text}
 use Rattle.link_lines_raw.specs.Bodies.{body_lines}
 use Rattle.link_lines_raw.specs.Coverage.{determines_raw, in_each, is_table_determined}
@@ -47,3 +48,14 @@ pub record BodiesAreDetermined : Type 0 where
   pub apart : (message_type : ℕ) (is_request : Bool) (p : List ℕ) (a : List Line) (s r : List ℕ) →
       body_lines message_type is_request p ≡ Some a → BeginsWithSpace r →
       lines_text a ++ s ≡ codes "  body" ++ r → ⊥
+
+-- The lines of an extended acknowledgement determine its attributes, whatever less deep lines follow. They begin with an
+-- indentation, and not as a line of the word `rest` does.
+pub record AcknowledgementsAreDetermined : Type 0 where
+  pub determined : (p q s t : List ℕ) → AreBytes p → AreBytes q → is_acknowledgement p ≡ true →
+      is_acknowledgement q ≡ true → IsShallow 1 s → IsShallow 1 t →
+      lines_text (acknowledgement_lines p) ++ s ≡ lines_text (acknowledgement_lines q) ++ t → (p ≡ q) × (s ≡ t)
+  pub indented : (p : List ℕ) → is_acknowledgement p ≡ true →
+      (r : List ℕ) × (lines_text (acknowledgement_lines p) ≡ 32 ∷ r)
+  pub apart : (p s r : List ℕ) → is_acknowledgement p ≡ true →
+      lines_text (acknowledgement_lines p) ++ s ≡ codes "  rest" ++ r → ⊥

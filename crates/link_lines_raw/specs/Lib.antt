@@ -7,5 +7,6 @@ pub mod Attributes
 pub mod Lists
 pub mod Views
 pub mod Bodies
+pub mod Acknowledgements
 pub mod Coverage
 pub mod Laws

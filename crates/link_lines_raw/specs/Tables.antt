@@ -63,6 +63,7 @@ use Rattle.link_lines_raw.specs.declared.multicast_rows.TheConstants.{VLANS_DUMP
 use Rattle.link_lines_raw.specs.declared.multicast_rows.TheConstants.{VLAN_TUNNEL_INFO_ROWS, VLAN_STATISTICS_ROWS}
 use Rattle.link_lines_raw.specs.declared.multicast_rows.TheConstants.{VLAN_GLOBAL_OPTIONS_ROWS, TUNNEL_ROWS}
 use Rattle.link_lines_raw.specs.declared.multicast_rows.TheConstants.{VNIFILTER_ENTRY_ROWS, VNIFILTER_STATS_ROWS}
+use Rattle.link_lines_raw.specs.declared.multicast_rows.TheConstants.{ACKNOWLEDGEMENT_ROWS, ATTRIBUTE_POLICY_ROWS}
 use Rattle.link_lines_raw.specs.declared.raw_tables.TheConstants.{VLAN, BRIDGE, CFM, ADDRESS, NEIGHBOUR}
 use Rattle.link_lines_raw.specs.declared.raw_tables.TheConstants.{TRAFFIC_CONTROL, MULTICAST}
 
@@ -125,7 +126,8 @@ traffic_rows =
     XSTATS_ROWS ∷ BRIDGE_XSTATS_ROWS ∷ BOND_XSTATS_ROWS ∷ BOND_3AD_STAT_ROWS ∷ OFFLOAD_XSTATS_ROWS ∷
     HW_S_INFO_ROWS ∷ HW_S_INFO_ENTRY_ROWS ∷ STATISTICS_FAMILIES_ROWS ∷ MPLS_STATS_ROWS ∷ [])
 
--- Rows of lists in messages about multicast groups, VLANs and tunnels: each table's, in the order of their indexes.
+-- Rows of lists in messages about multicast groups, VLANs and tunnels, and in acknowledgements: each table's, in the
+-- order of their indexes.
 unfoldable pub multicast_rows : List (List (NameRowOf Raw))
 multicast_rows =
     map (λ b. raw_rows_in_code (λ n. n.now) b.now)
@@ -133,7 +135,8 @@ multicast_rows =
     MULTICAST_SOURCES_ROWS ∷ MULTICAST_SOURCE_ROWS ∷ MULTICAST_ROUTERS_ROWS ∷ MULTICAST_ROUTER_ROWS ∷
     MULTICAST_SET_ROWS ∷ MULTICAST_GET_ROWS ∷ MULTICAST_ATTRIBUTES_ROWS ∷ MULTICAST_SET_SOURCES_ROWS ∷
     MULTICAST_SET_SOURCE_ROWS ∷ VLANS_ROWS ∷ VLANS_DUMP_ROWS ∷ VLAN_ENTRY_ROWS ∷ VLAN_TUNNEL_INFO_ROWS ∷
-    VLAN_STATISTICS_ROWS ∷ VLAN_GLOBAL_OPTIONS_ROWS ∷ TUNNEL_ROWS ∷ VNIFILTER_ENTRY_ROWS ∷ VNIFILTER_STATS_ROWS ∷ [])
+    VLAN_STATISTICS_ROWS ∷ VLAN_GLOBAL_OPTIONS_ROWS ∷ TUNNEL_ROWS ∷ VNIFILTER_ENTRY_ROWS ∷ VNIFILTER_STATS_ROWS ∷
+    ACKNOWLEDGEMENT_ROWS ∷ ATTRIBUTE_POLICY_ROWS ∷ [])
 
 -- The rows of the table with this index.
 unfoldable pub raw_rows_of : ℕ → List (NameRowOf Raw)

@@ -1,7 +1,8 @@
 //! Laws of the definitions: each function has an empty body, and its contract holds for all values.
 #![tactic(auto, using(crate::proofs::Together::laws))]
 
-ghost use Rattle.link_lines_raw.specs.Laws.{BodiesAreDetermined, HeldPayloadsAreDetermined};
+ghost use Rattle.link_lines_raw.specs.Laws.{AcknowledgementsAreDetermined, BodiesAreDetermined};
+ghost use Rattle.link_lines_raw.specs.Laws.{HeldPayloadsAreDetermined};
 ghost use Rattle.link_lines_raw.specs.Laws.{RawAttributesAreDetermined, RawTablesAreDetermined};
 
 /// The names of each table's rows are different, and the lines of each row determine what it holds.
@@ -22,4 +23,9 @@ pub fn held_payloads_are_determined()
 /// The lines of a body determine it.
 pub fn bodies_are_determined()
     ensures { BodiesAreDetermined }
+{}
+
+/// The lines of an extended acknowledgement determine its attributes.
+pub fn acknowledgements_are_determined()
+    ensures { AcknowledgementsAreDetermined }
 {}

@@ -2,6 +2,7 @@
 // lines, one for each attribute, if the lines determine every byte.
 #![tactic(auto)]
 
+mod acknowledgements;
 mod bodies;
 mod bridge_rows;
 mod cfm_rows;
@@ -19,6 +20,7 @@ mod route_rows;
 mod rows;
 mod traffic_rows;
 
+pub use acknowledgements::{is_acknowledgement, push_acknowledgement};
 pub use bodies::push_body;
 pub use names::find_name;
 pub use raw::{push_held, push_raw};

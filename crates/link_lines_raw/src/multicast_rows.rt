@@ -1,4 +1,4 @@
-//! Rows of lists in messages about multicast groups, VLANs and tunnels.
+//! Rows of lists in messages about multicast groups, VLANs and tunnels, and in acknowledgements.
 
 ghost use Rattle.std.specs.Prelude.{◌≡◌, true, [], get_or};
 ghost use Rattle.link_lines_values.specs.DenseRows.{are_dense};
@@ -7,20 +7,20 @@ ghost use Rattle.link_lines_raw.specs.Tables.{multicast_rows};
 
 use crate::raw_rows_in;
 use crate::raw_tables::{
-    MULTICAST, MULTICAST_ATTRIBUTES, MULTICAST_ENTRY, MULTICAST_GROUP, MULTICAST_GROUPS,
-    MULTICAST_ROUTER, MULTICAST_ROUTERS, MULTICAST_SET_SOURCE, MULTICAST_SET_SOURCES,
-    MULTICAST_SOURCE, MULTICAST_SOURCES, QUERIER_STATE, VLAN_ENTRY, VLAN_GLOBAL_OPTIONS,
-    VLAN_STATISTICS, VLAN_TUNNEL_INFO, VNIFILTER_ENTRY, VNIFILTER_STATS,
+    ATTRIBUTE_POLICY, MULTICAST, MULTICAST_ATTRIBUTES, MULTICAST_ENTRY, MULTICAST_GROUP,
+    MULTICAST_GROUPS, MULTICAST_ROUTER, MULTICAST_ROUTERS, MULTICAST_SET_SOURCE,
+    MULTICAST_SET_SOURCES, MULTICAST_SOURCE, MULTICAST_SOURCES, QUERIER_STATE, VLAN_ENTRY,
+    VLAN_GLOBAL_OPTIONS, VLAN_STATISTICS, VLAN_TUNNEL_INFO, VNIFILTER_ENTRY, VNIFILTER_STATS,
 };
 use crate::records::{BR_MDB_ENTRY_LINE, ROUTER_PORT_LINE};
 use crate::rows::RawBy::{Head, List, Records, Value};
 use crate::rows::RawRow;
-use link_lines_values::ExactBy::{Address, Bytes, Number, Record, Sized};
-use link_lines_values::ShownBy;
+use link_lines_values::ExactBy::{Address, Bytes, Number, Record, Sized, Text};
 use link_lines_values::ShownBy::NamedFlags;
 use link_lines_values::bridge_texts::{BR_STATE, MCAST_MODE, MDB_ROUTER_TYPE, VLANDB_DUMP_FLAGS};
 use link_lines_values::device_layouts::BRIDGE_VLAN_INFO;
 use link_lines_values::route_texts::RT_PROTOCOL;
+use link_lines_values::{PLAIN, ShownBy};
 
 /// Multicast (if_bridge.h: MDBA_*).
 pub const MULTICAST_ROWS: &[RawRow] = &raw_rows_in! {
@@ -202,6 +202,32 @@ pub const VNIFILTER_STATS_ROWS: &[RawRow] = &raw_rows_in! {
     9, b"VNIFILTER_ENTRY_STATS_PAD", Value(Bytes);
 };
 
+/// Acknowledgement (netlink.h: NLMSGERR_ATTR_*).
+pub const ACKNOWLEDGEMENT_ROWS: &[RawRow] = &raw_rows_in! {
+    1, b"NLMSGERR_ATTR_MSG", Value(Text);
+    2, b"NLMSGERR_ATTR_OFFS", Value(Number(4));
+    3, b"NLMSGERR_ATTR_COOKIE", Value(Bytes);
+    4, b"NLMSGERR_ATTR_POLICY", List(ATTRIBUTE_POLICY);
+    5, b"NLMSGERR_ATTR_MISS_TYPE", Value(Number(4));
+    6, b"NLMSGERR_ATTR_MISS_NEST", Value(Number(4));
+};
+
+/// Attribute policy (netlink.h: NL_POLICY_TYPE_ATTR_*).
+pub const ATTRIBUTE_POLICY_ROWS: &[RawRow] = &raw_rows_in! {
+    1, b"NL_POLICY_TYPE_ATTR_TYPE", Value(Number(4));
+    2, b"NL_POLICY_TYPE_ATTR_MIN_VALUE_S", Value(Sized(8, ShownBy::Signed(PLAIN)));
+    3, b"NL_POLICY_TYPE_ATTR_MAX_VALUE_S", Value(Sized(8, ShownBy::Signed(PLAIN)));
+    4, b"NL_POLICY_TYPE_ATTR_MIN_VALUE_U", Value(Number(8));
+    5, b"NL_POLICY_TYPE_ATTR_MAX_VALUE_U", Value(Number(8));
+    6, b"NL_POLICY_TYPE_ATTR_MIN_LENGTH", Value(Number(4));
+    7, b"NL_POLICY_TYPE_ATTR_MAX_LENGTH", Value(Number(4));
+    8, b"NL_POLICY_TYPE_ATTR_POLICY_IDX", Value(Number(4));
+    9, b"NL_POLICY_TYPE_ATTR_POLICY_MAXTYPE", Value(Number(4));
+    10, b"NL_POLICY_TYPE_ATTR_BITFIELD32_MASK", Value(Sized(4, ShownBy::Flags));
+    11, b"NL_POLICY_TYPE_ATTR_PAD", Value(Bytes);
+    12, b"NL_POLICY_TYPE_ATTR_MASK", Value(Sized(8, ShownBy::Flags));
+};
+
 /// Returns the rows of a table, by its index from that of the first table here on.
 #[tactic(auto, unfolding(crate::specs::Tables::multicast_rows))]
 pub(crate) fn rows(index: u8) -> &'static [RawRow]
@@ -231,6 +257,8 @@ pub(crate) fn rows(index: u8) -> &'static [RawRow]
         19 => TUNNEL_ROWS,
         20 => VNIFILTER_ENTRY_ROWS,
         21 => VNIFILTER_STATS_ROWS,
+        22 => ACKNOWLEDGEMENT_ROWS,
+        23 => ATTRIBUTE_POLICY_ROWS,
         _ => &[],
     }
 }

@@ -404,5 +404,12 @@ pub const VNIFILTER_ENTRY: RawTable = RawTable(130);
 /// VNIFILTER_ENTRY_STATS_* (if_link.h): what VXLAN_VNIFILTER_ENTRY_STATS holds.
 pub const VNIFILTER_STATS: RawTable = RawTable(131);
 
+/// NLMSGERR_ATTR_* (netlink.h): the attributes of an extended acknowledgement (NLMSG_ERROR,
+/// NLMSG_DONE).
+pub const ACKNOWLEDGEMENT: RawTable = RawTable(132);
+
+/// NL_POLICY_TYPE_ATTR_* (netlink.h): what NLMSGERR_ATTR_POLICY holds.
+pub const ATTRIBUTE_POLICY: RawTable = RawTable(133);
+
 /// A table without rows.
 pub const UNNAMED: RawTable = RawTable(255);

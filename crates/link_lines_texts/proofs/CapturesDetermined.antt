@@ -21,7 +21,7 @@ use Rattle.link_capture_numbers.specs.Cleared.{numbers_cleared}
 use Rattle.link_capture_numbers.specs.Laws.{ClearedCapturesHaveClearedTexts}
 use Rattle.link_capture_numbers.proofs.Steps.{stopped}
 use Rattle.link_capture_numbers.proofs.ClearedCaptures.{following}
-use Rattle.link_lines_texts.specs.Frames.{flag_names, has_request_flag, type_text, numbers_text, header_line, body_lines, frame_lines}
+use Rattle.link_lines_texts.specs.Frames.{flag_names, type_text, numbers_text, header_line, body_lines, frame_lines}
 use Rattle.link_lines_texts.specs.Links.{labelled}
 use Rattle.link_lines_texts.specs.Captures.{Choice, everything, text_lines, without_numbers}
 use Rattle.link_lines_texts.specs.Laws.{LinesDetermineMeanings, LinesDetermineTexts, LinesWithoutNumbersDetermineClearedTexts}
@@ -134,7 +134,7 @@ unfolding frame_lines header_line
 frame_has_lines n f s e =
     let t = u16_at 4 f in
     let flags = labelled (codes " flags ") (named_flags (flag_names t) (u16_at 6 f)) in
-    header_some (type_text t) flags (numbers_text n f) (body_lines n t (has_request_flag f) (drop 16 f)) s e
+    header_some (type_text t) flags (numbers_text n f) (body_lines n t (u16_at 6 f) (drop 16 f)) s e
 
 pub no_text_lines : (o : Choice) → text_lines o [] ≡ []
 unfolding text_lines whole_within

@@ -196,11 +196,17 @@ header_determined n f g s t a b l m i j e =
       rest = r.2;
     }
 
+-- Two requests with the same line of the header, and what follows it.
+pub record SameRequest (p q s t : List ℕ) : Type 0 where
+  pub size : u32_at 0 p ≡ u32_at 0 q
+  pub bytes : drop 16 p ≡ drop 16 q → p ≡ q
+  pub rest : s ≡ t
+
 -- The line of the header of a request, which an NLMSG_ERROR repeats, determines it.
 pub request_determined : (n : Bool) (p q s t : List ℕ) → AreBytes p → AreBytes q → 16 ≤ length p → 16 ≤ length q → AreKnown n p → AreKnown n q →
-    request_line n p ++ s ≡ request_line n q ++ t → (drop 16 p ≡ drop 16 q → p ≡ q) × (s ≡ t)
+    request_line n p ++ s ≡ request_line n q ++ t → SameRequest p q s t
 unfolding request_line
 request_determined n p q s t a b l m i j e =
     let size = part_determined (codes "  request length ") decimal decimal_determined _ _ (32 ∷ header_line n p) (32 ∷ header_line n q) s t (u32_small 0 p a) (u32_small 0 q b) (omega arith) (omega arith) e in
     let same = header_determined n p q s t a b l m i j (ap (drop 1) size.1) in
-    (λ r. four_further 0 p q a b (omega arith) (omega arith) size.0 (same.bytes r), same.rest)
+    record { size = size.0; bytes = λ r. four_further 0 p q a b (omega arith) (omega arith) size.0 (same.bytes r); rest = same.rest }

@@ -11,6 +11,7 @@ use Rattle.attribute_tables_grammar.specs.Shapes.{Shape, exact, either, at_most,
 use Rattle.link_lines_values.specs.declared.fields.FieldShownBy.TheVariants as F
 use Rattle.link_lines_values.specs.declared.values.ShownBy.TheVariants as V
 use Rattle.link_lines_values.specs.Bytes.{address_text, is_zero}
+use Rattle.link_lines_values.specs.Digits.{is_signed_size}
 use Rattle.link_lines_values.specs.Laws.{AllKnown, HoldsFields, IsKnown}
 use Rattle.link_lines_values.specs.Records.{Field, FieldShown, fields_determine, is_padding, record_text, total_size}
 use Rattle.link_lines_values.proofs.BytesDetermined.{bytes_determined}
@@ -240,7 +241,7 @@ record_determined s sparse fields p q h o u e =
 pub shapes_determined : ShapesAreDetermined
 shapes_determined s (V.Number numbers) p q h o u e = let z = sized s is_size h in numbers_determined.little numbers p q o.bytes u.bytes (same_length s is_size p q z o u) (length_holds s is_size p z o) e
 shapes_determined s (V.BigEndian numbers) p q h o u e = let z = sized s is_size h in numbers_determined.big numbers p q o.bytes u.bytes (same_length s is_size p q z o u) (length_holds s is_size p z o) e
-shapes_determined s (V.Signed texts) p q h o u e = let z = sized s (λ n. n == 4) h in numbers_determined.signed texts p q o.bytes u.bytes (length_is s 4 p z o) (length_is s 4 q z u) e
+shapes_determined s (V.Signed texts) p q h o u e = let z = sized s is_signed_size h in numbers_determined.signed texts p q o.bytes u.bytes (same_length s is_signed_size p q z o u) (length_holds s is_signed_size p z o) e
 shapes_determined s V.Flags p q h o u e = let z = sized s is_size h in numbers_determined.flags p q o.bytes u.bytes (same_length s is_size p q z o u) (length_holds s is_size p z o) e
 shapes_determined s (V.NamedFlags names) p q h o u e = let z = sized s is_size h in numbers_determined.named_flags names p q o.bytes u.bytes (same_length s is_size p q z o u) (length_holds s is_size p z o) e
 shapes_determined s V.BigEndianFlags p q h o u e = let z = sized s is_size h in settings_determined.big p q o.bytes u.bytes (same_length s is_size p q z o u) (length_holds s is_size p z o) e

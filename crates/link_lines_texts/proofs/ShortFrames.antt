@@ -17,7 +17,7 @@ use Rattle.link_lines_values.specs.declared.values.ShownBy.TheVariants.{Signed}
 use Rattle.link_lines_values.specs.Bytes.{bytes_text}
 use Rattle.link_lines_values.specs.Flags.{named_flags}
 use Rattle.link_lines_values.specs.Layouts.{layout_fields}
-use Rattle.link_lines_values.specs.Digits.{signed_text}
+use Rattle.link_lines_values.specs.Digits.{half_of, is_signed_size, signed_by}
 use Rattle.link_lines_values.specs.Names.{Text, bracketed, named_signed, text_in}
 use Rattle.link_lines_values.specs.NumberTexts.{number_texts}
 use Rattle.link_lines_values.specs.Values.{value_text}
@@ -27,6 +27,8 @@ use Rattle.link_lines_raw.specs.declared.bodies.Header.TheVariants as H
 use Rattle.link_lines_raw.specs.declared.bodies.TheConstants.{BODIES}
 use Rattle.link_lines_raw.specs.declared.lists.ListedBy.TheVariants as L
 use Rattle.link_lines_raw.specs.declared.raw_tables.RawTable.{RawTable}
+use Rattle.link_lines_raw.specs.declared.raw_tables.TheConstants.{ACKNOWLEDGEMENT}
+use Rattle.link_lines_raw.specs.Acknowledgements.{acknowledgement_lines}
 use Rattle.link_lines_raw.specs.Attributes.{record_words}
 use Rattle.link_lines_raw.specs.Bodies.{body_lines as raw_body_lines, first_fitting, header_line as raw_header_line, is_general, is_record_and_list, list_lines_of, record_and_list, record_and_list_lines, row_lines}
 use Rattle.link_lines_raw.specs.Lines.{Line, line_text, lines_text}
@@ -36,7 +38,7 @@ use Rattle.link_lines_values.specs.Records.{total_size}
 use Rattle.link_lines_texts.specs.declared.format.Scope.{Scope}
 use Rattle.link_lines_texts.specs.Captures.{Choice, is_chosen, shown_lines, text_lines}
 use Rattle.link_lines_texts.specs.Format.{is_canonical_peer}
-use Rattle.link_lines_texts.specs.Frames.{after_code, body_lines, code_lines, flag_names, frame_lines, has_request_flag, has_text, header_line, in_message, is_property_type, link_lines, message_types, numbers_text, or_bytes, or_number, other_lines, property_lines, request_flag_names, request_line, type_text}
+use Rattle.link_lines_texts.specs.Frames.{after_code, body_lines, code_lines, code_rest, errors, flag_names, frame_lines, has_request_flag, has_text, header_line, in_message, is_followed, is_property_type, link_lines, message_types, numbers_text, or_bytes, or_number, other_lines, property_lines, request_flag_names, request_line, request_rest, rest_lines, type_text}
 use Rattle.link_lines_texts.specs.Links.{link_header_line}
 use Rattle.link_lines_texts.specs.Lists.{in_peer, list_lines, of_link}
 use Rattle.link_lines_texts.proofs.FrameUnfolding.{stopped, whole}
@@ -163,30 +165,60 @@ request_short numbers r a =
     let size = decimal (u32_at 0 r) in
     omega (arith, decimal_short 4 (u32_at 0 r) four (u32_small 0 r a), header_line_short numbers r a, length-append (codes "  request length " ++ size) (32 ∷ header_line numbers r))
 
-after_code_short : (numbers : Bool) (t : ℕ) (r : List ℕ) → AreBytes r → length (after_code numbers t r) ≤ factor * length r
-unfolding after_code
-after_code_short numbers t r a =
-    let request = request_line numbers r in
-    let rest = bytes_line (codes "rest") (drop 16 r) in
-    cond_both (t == 2 && nat_le 16 (length r)) (request ++ rest) (bytes_line (codes "rest") r) (λ s. length s ≤ factor * length r)
-    (λ e. omega (arith, leb-true 16 (length r) (and_parts (t == 2) _ e).1, request_short numbers r a, bytes_line_short (codes "rest") (drop 16 r) (omega arith), length-drop 16 r, length-append request rest)) (λ e. bytes_line_short (codes "rest") r (omega arith))
+aligned : (n : ℕ) → n ≤ nla_align n
+aligned n = omega arith
 
--- The number of 4 bytes, or of fewer.
-code_size : (p : List ℕ) → length p ≤ 4 → length (value_text (Signed []) p) ≤ 17
+followed_short : (n : ℕ) (r : List ℕ) → AreBytes r → is_followed n r ≡ true → length (bytes_line (codes "rest") (take n r) ++ lines_text (acknowledgement_lines (drop (nla_align n) r))) ≤ factor * length r
+followed_short n r a e =
+    let m : ℕ = nla_align n in
+    let list = drop m r in
+    omega (
+      arith,
+      aligned n,
+      leb-true m (length r) (and_parts (nat_le m (length r)) _ e).0,
+      bytes_line_short (codes "rest") (take n r) (omega arith),
+      listed_lines_short 1 (L.Attributes ACKNOWLEDGEMENT list) list (omega arith) (record {}) (AreBytes-drop m r a),
+      length-take n r,
+      length-drop m r,
+      length-append (bytes_line (codes "rest") (take n r)) (lines_text (acknowledgement_lines list)),
+    )
+
+rest_short : (o : Option ℕ) (r : List ℕ) → AreBytes r → length (rest_lines o r) ≤ factor * length r
+unfolding rest_lines
+rest_short None r a = bytes_line_short (codes "rest") r (omega arith)
+rest_short (Some n) r a =
+    cond_both (is_followed n r) (bytes_line (codes "rest") (take n r) ++ lines_text (acknowledgement_lines (drop (nla_align n) r))) (bytes_line (codes "rest") r) (λ s. length s ≤ factor * length r)
+    (λ e. followed_short n r a e) (λ e. bytes_line_short (codes "rest") r (omega arith))
+
+after_code_short : (numbers : Bool) (t flags : ℕ) (r : List ℕ) → AreBytes r → length (after_code numbers t flags r) ≤ factor * length r
+unfolding after_code
+after_code_short numbers t flags r a =
+    let request = request_line numbers r in
+    let rest = rest_lines (request_rest flags (u32_at 0 r)) (drop 16 r) in
+    cond_both (t == 2 && nat_le 16 (length r)) (request ++ rest) (rest_lines (code_rest t flags) r) (λ s. length s ≤ factor * length r)
+    (λ e. omega (arith, leb-true 16 (length r) (and_parts (t == 2) _ e).1, request_short numbers r a, rest_short (request_rest flags (u32_at 0 r)) (drop 16 r) (AreBytes-drop 16 r a), length-drop 16 r, length-append request rest)) (λ e. rest_short (code_rest t flags) r a)
+
+errors_short : nat_le (longest errors) 40 ≡ true
+unfolding number_texts
+errors_short = refl
+
+-- The number of 4 bytes, or of fewer, and its name.
+code_size : (p : List ℕ) → length p ≤ 4 → length (value_text (Signed errors) p) ≤ 65
 code_size p h =
-    both (length p == 4) (32 ∷ named_signed [] (number p)) (bytes_text p) 17 (λ e. omega (arith, signed_short 2147483648 (number p) (omega arith), name_short [] (number p), length-append (signed_text (number p)) (bracketed (text_in [] (number p)))))
+    both (is_signed_size (length p)) (32 ∷ named_signed errors (length p) (number p)) (bytes_text p) 65
+    (λ e. omega (arith, h, signed_short (length p) (number p), name_short errors (number p), leb-true (longest errors) 40 errors_short, length-append (signed_by (half_of (length p)) (number p)) (bracketed (text_in errors (number p)))))
     (λ e. omega (arith, bytes_text_short p, h))
 
 line_end : (s t : List ℕ) → length (s ++ (10 ∷ [] ++ t)) ≡ length s + 1 + length t
 line_end s t = length-append s (10 ∷ [] ++ t) ∙ omega arith
 
-code_short : (numbers : Bool) (t : ℕ) (b : List ℕ) → AreBytes b → length (code_lines numbers t b) ≤ factor * length b
+code_short : (numbers : Bool) (t flags : ℕ) (b : List ℕ) → AreBytes b → length (code_lines numbers t flags b) ≤ factor * length b
 unfolding code_lines
-code_short numbers t b a =
-    let code = value_text (Signed []) (take 4 b) in
-    let after = after_code numbers t (drop 4 b) in
+code_short numbers t flags b a =
+    let code = value_text (Signed errors) (take 4 b) in
+    let after = after_code numbers t flags (drop 4 b) in
     cond_both (nat_le 4 (length b)) (codes "  code" ++ (code ++ (10 ∷ [] ++ after))) (bytes_line (codes "body") b) (λ s. length s ≤ factor * length b)
-    (λ e. omega (arith, leb-true 4 (length b) e, code_size (take 4 b) (omega (arith, length-take 4 b)), after_code_short numbers t (drop 4 b) (AreBytes-drop 4 b a), length-drop 4 b, line_end code after))
+    (λ e. omega (arith, leb-true 4 (length b) e, code_size (take 4 b) (omega (arith, length-take 4 b)), after_code_short numbers t flags (drop 4 b) (AreBytes-drop 4 b a), length-drop 4 b, line_end code after))
     (λ e. bytes_line_short (codes "body") b (omega arith))
 
 -- ---- other bodies
@@ -246,18 +278,19 @@ other_short t is_request b a =
 
 -- ---- frames and texts
 
-body_short : (numbers : Bool) (t : ℕ) (is_request : Bool) (b : List ℕ) → AreBytes b → length (body_lines numbers t is_request b) ≤ factor * length b
+body_short : (numbers : Bool) (t flags : ℕ) (b : List ℕ) → AreBytes b → length (body_lines numbers t flags b) ≤ factor * length b
 unfolding body_lines
-body_short numbers t is_request b a =
-    cond_both (is_link_type t) (link_lines (in_message is_request) b) (cond (t == 2 || t == 3) (code_lines numbers t b) (other_lines t is_request b)) (λ s. length s ≤ factor * length b) (λ e. link_short (in_message is_request) b a)
-    (λ e. cond_both (t == 2 || t == 3) (code_lines numbers t b) (other_lines t is_request b) (λ s. length s ≤ factor * length b) (λ f. code_short numbers t b a) (λ f. other_short t is_request b a))
+body_short numbers t flags b a =
+    let is_request = has_request_flag flags in
+    cond_both (is_link_type t) (link_lines (in_message is_request) b) (cond (t == 2 || t == 3) (code_lines numbers t flags b) (other_lines t is_request b)) (λ s. length s ≤ factor * length b) (λ e. link_short (in_message is_request) b a)
+    (λ e. cond_both (t == 2 || t == 3) (code_lines numbers t flags b) (other_lines t is_request b) (λ s. length s ≤ factor * length b) (λ f. code_short numbers t flags b a) (λ f. other_short t is_request b a))
 
 frame_short : (numbers : Bool) (f : List ℕ) → 16 ≤ length f → AreBytes f → length (frame_lines numbers f) ≤ factor * length f
 unfolding frame_lines
 frame_short numbers f h a =
     let header = header_line numbers f in
-    let body = body_lines numbers (u16_at 4 f) (has_request_flag f) (drop 16 f) in
-    omega (arith, h, header_line_short numbers f a, body_short numbers (u16_at 4 f) (has_request_flag f) (drop 16 f) (AreBytes-drop 16 f a), length-drop 16 f, length-append header body)
+    let body = body_lines numbers (u16_at 4 f) (u16_at 6 f) (drop 16 f) in
+    omega (arith, h, header_line_short numbers f a, body_short numbers (u16_at 4 f) (u16_at 6 f) (drop 16 f) (AreBytes-drop 16 f a), length-drop 16 f, length-append header body)
 
 shown_short : (o : Choice) (f : List ℕ) → 16 ≤ length f → AreBytes f → length (shown_lines o f) ≤ factor * length f
 shown_short o f h a = cond_both (is_chosen o.only (frame_type f)) (frame_lines o.numbers f) [] (λ s. length s ≤ factor * length f) (λ e. frame_short o.numbers f h a) (λ e. omega arith)

@@ -2,13 +2,13 @@
 use Rattle.std.proofs.Common.{◌≡◌, ℕ, zero, suc, ◌+◌, ◌*◌, ◌/◌, ◌%◌, ◌-◌, ◌^◌, ◌<◌, ◌≤◌, Bool, true, false, List, [], ◌∷◌, ◌++◌, length, refl, arith}
 use Rattle.std.specs.Prelude.{◌==◌, ◌||◌, bit_and, codes, if◌then◌else◌, nat_lt, reverse}
 use Rattle.std.specs.Fmt.{decimal, digit_glyph, digits, digits_onto}
-use Rattle.std.proofs.lemmas.Bool.{cond_both, ltb-true}
+use Rattle.std.proofs.lemmas.Bool.{cond_both, eqb-true, ltb-false, ltb-true}
 use Rattle.std.proofs.lemmas.Bool.Decides.{nat_tests}
 use Rattle.std.proofs.lemmas.Fmt.{length-decimal-le, length-decimal-le_wide}
 use Rattle.std.proofs.lemmas.List.{length-append, length-reverse}
 use Rattle.netlink_packet_core_grammar.specs.Bytes.{AreBytes}
 use Rattle.attribute_tables_grammar.specs.Shapes.{number}
-use Rattle.link_lines_values.specs.Digits.{big_endian, hex_number, signed_by}
+use Rattle.link_lines_values.specs.Digits.{big_endian, half_of, hex_number, signed_by}
 use Rattle.link_lines_values.specs.Flags.{flags_text, has_none, listed, named_flags, nameless, nameless_text, names_set, opened, separated, word_flags}
 use Rattle.link_lines_values.specs.Names.{Text, bracketed, named_number, text_in}
 use Rattle.link_lines_values.proofs.NumbersDetermined.{bounded, reversed_bytes}
@@ -135,5 +135,22 @@ signed_by_short half n l =
     cond_both (nat_lt n half) (decimal n) (45 ∷ decimal (half + half - n)) (λ t. length t ≤ 13) (λ e. omega (arith, length-decimal-le 12 n (omega arith) (omega (arith, ltb-true n half e, l)) (omega (arith, ltb-true n half e, l))))
     (λ e. omega (arith, length-decimal-le 12 (half + half - n) (omega arith) (omega (arith, l)) (omega (arith, l))))
 
-pub signed_short : (half n : ℕ) → half ≤ 2147483648 → length (signed_by half n) ≤ 13
-signed_short = signed_by_short
+-- Half of the numbers of 8 bytes.
+abbrev half_of_eight : ℕ
+half_of_eight = 9223372036854775808
+
+wide_short : (n : ℕ) → length (signed_by half_of_eight n) ≤ 21
+wide_short n =
+    cond_both (nat_lt n half_of_eight) (decimal n) (45 ∷ decimal (half_of_eight + half_of_eight - n)) (λ t. length t ≤ 21)
+    (λ e. omega (arith, length-decimal-le 20 n (omega arith) (omega (arith, ltb-true n half_of_eight e)) (omega (arith, ltb-true n half_of_eight e))))
+    (λ e. omega (arith, length-decimal-le 20 (half_of_eight + half_of_eight - n) (omega arith) (omega (arith, ltb-false n half_of_eight e)) (omega (arith, ltb-false n half_of_eight e))))
+
+-- A number of this size with a sign is short enough.
+abbrev IsSignedShort : ℕ → ℕ → ℕ → Type 0
+IsSignedShort size n half = length (signed_by half n) ≤ 2 * size + 13
+
+pub signed_short : (size n : ℕ) → IsSignedShort size n (half_of size)
+signed_short size n =
+    cond_both (size == 1) 128 _ (IsSignedShort size n) (λ e. omega (arith, signed_by_short 128 n (omega arith)))
+    (λ e. cond_both (size == 2) 32768 _ (IsSignedShort size n) (λ f. omega (arith, signed_by_short 32768 n (omega arith)))
+    (λ f. cond_both (size == 8) half_of_eight 2147483648 (IsSignedShort size n) (λ g. omega (arith, wide_short n, eqb-true size 8 g)) (λ g. omega (arith, signed_by_short 2147483648 n (omega arith)))))

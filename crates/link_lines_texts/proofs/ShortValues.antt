@@ -13,10 +13,10 @@ use Rattle.attribute_tables_grammar.specs.Shapes.{number}
 use Rattle.link_lines_values.specs.declared.fields.FieldShownBy.TheVariants as F
 use Rattle.link_lines_values.specs.declared.values.ShownBy.TheVariants as S
 use Rattle.link_lines_values.specs.Bytes.{address_text, bytes_text, hex_text, is_zero}
-use Rattle.link_lines_values.specs.Digits.{big_endian, hex_number, is_number, signed_by, signed_text}
+use Rattle.link_lines_values.specs.Digits.{big_endian, half_of, hex_number, is_number, is_signed_size, signed_by}
 use Rattle.link_lines_values.specs.Flags.{flags_text, word_flags}
 use Rattle.link_lines_values.specs.Names.{Text, bracketed, named_number, named_signed, text_in}
-use Rattle.link_lines_values.specs.Records.{Field, FieldShown, field_text, field_value, fields_text, group_address, group_text, half_of, handle_text, is_hidden, is_signed_size, record_text, total_size}
+use Rattle.link_lines_values.specs.Records.{Field, FieldShown, field_text, field_value, fields_text, group_address, group_text, handle_text, is_hidden, record_text, total_size}
 use Rattle.link_lines_values.specs.Values.{Shown, flags_and_mask_value, named_flags_value, optional_byte_value, port_range_value, value_text}
 use Rattle.link_lines_texts.specs.Growth.{allowance, factor, field_most, fields_most, is_short_value, joined_size, leaves_space, longest}
 use Rattle.link_lines_texts.proofs.ShortBytes.{boolean_text_short, bytes_text_short, colons_short, hardware_text_short, hex_text_short, ipv4_text_short, ipv6_text_short, padded_address_short, padded_text_short, quoted_short}
@@ -28,9 +28,6 @@ use Rattle.link_lines_texts.proofs.ShortNumbers.{IsSize, big_small, decimal_shor
 pub both : (b : Bool) (s t : List ℕ) (n : ℕ) → (b ≡ true → length s ≤ n) → (b ≡ false → length t ≤ n) → length (cond b s t) ≤ n
 both true s t n h k = h refl
 both false s t n h k = k refl
-
-half_small : (size : ℕ) → half_of size ≤ 2147483648
-half_small size = cond_both (size == 1) 128 (cond (size == 2) 32768 2147483648) (λ n. n ≤ 2147483648) (λ e. omega arith) (λ e. cond_both (size == 2) 32768 2147483648 (λ n. n ≤ 2147483648) (λ f. omega arith) (λ f. omega arith))
 
 handle_short : (texts : List Text) (n : ℕ) → n < 256 ^ 4 → length (handle_text texts n) ≤ 12 + longest texts
 handle_short texts n h =
@@ -58,7 +55,7 @@ number_field texts p size n l h =
 pub field_short : (f : FieldShown) (size : ℕ) (p : List ℕ) → AreBytes p → length p ≤ size → length (field_value f p) ≤ field_most f size
 field_short (F.Number texts) size p a l = number_field texts p size (number p) l (λ e. number_small p a)
 field_short F.Signed size p a l =
-    both (is_signed_size (length p)) (signed_by (half_of (length p)) (number p)) (hex_text p) (2 * size + 13) (λ e. omega (arith, signed_short (half_of (length p)) (number p) (half_small (length p)))) (λ e. omega (arith, hex_text_short p, l))
+    both (is_signed_size (length p)) (signed_by (half_of (length p)) (number p)) (hex_text p) (2 * size + 13) (λ e. omega (arith, signed_short (length p) (number p), l)) (λ e. omega (arith, hex_text_short p, l))
 field_short (F.BigEndian texts) size p a l = number_field texts p size (big_endian p) l (λ e. big_small p a)
 field_short (F.Flags names) size p a l =
     both (is_number p) (flags_text names p) (hex_text p) (4 * size + 8 + joined_size names) (λ e. omega (arith, flags_text_short names p a (size_of (length p) e), l)) (λ e. omega (arith, hex_text_short p, l))
@@ -161,8 +158,8 @@ pub value_short : (extra least : ℕ) (v : Shown) (p : List ℕ) → leaves_spac
 value_short extra least (S.Number texts) p h k l a = number_by extra texts p (number p) h k (number_small p a)
 value_short extra least (S.BigEndian texts) p h k l a = number_by extra texts p (big_endian p) h k (big_small p a)
 value_short extra least (S.Signed texts) p h k l a =
-    or_bytes extra (length p == 4) (32 ∷ named_signed texts (number p)) p h
-    (λ e. omega (arith, leb-true (extra + 17 + longest texts) allowance k, signed_short 2147483648 (number p) (omega arith), name_short texts (number p), length-append (signed_text (number p)) (bracketed (text_in texts (number p)))))
+    or_bytes extra (is_signed_size (length p)) (32 ∷ named_signed texts (length p) (number p)) p h
+    (λ e. omega (arith, leb-true (extra + 17 + longest texts) allowance k, signed_short (length p) (number p), name_short texts (number p), length-append (signed_by (half_of (length p)) (number p)) (bracketed (text_in texts (number p)))))
 value_short extra least S.Flags p h k l a = plain_flags_short extra p h a
 value_short extra least (S.NamedFlags names) p h k l a = flags_value_short extra least names p h k l a
 value_short extra least S.BigEndianFlags p h k l a =

@@ -11,6 +11,7 @@ use Rattle.attribute_tables_grammar.specs.Tables.{Payload, Payload.plain, Payloa
 use Rattle.attribute_tables_grammar.specs.Tables.{Table, Table.end, Table.row, Names, Names.others, Names.name}
 use Rattle.attribute_tables_grammar.specs.Tables.{lacks_name}
 use Rattle.link_lines_values.specs.declared.values.ShownBy.TheVariants as V
+use Rattle.link_lines_values.specs.Digits.{is_signed_size}
 use Rattle.link_lines_values.specs.Records.{Field, FieldShown, fields_determine, is_no_boolean, is_padding}
 use Rattle.link_lines_values.specs.Records.{total_size}
 use Rattle.link_lines_values.specs.Values.{Shown}
@@ -110,7 +111,7 @@ has_fields s fs = false
 abbrev pub shape_determines : Shape → Shown → Bool
 shape_determines s (V.Number numbers) = is_sized (canonical_size s) is_size
 shape_determines s (V.BigEndian numbers) = is_sized (canonical_size s) is_size
-shape_determines s (V.Signed numbers) = is_sized (canonical_size s) (λ n. n == 4)
+shape_determines s (V.Signed numbers) = is_sized (canonical_size s) is_signed_size
 shape_determines s V.Flags = is_sized (canonical_size s) is_size
 shape_determines s (V.NamedFlags names) = is_sized (canonical_size s) is_size
 shape_determines s V.BigEndianFlags = is_sized (canonical_size s) is_size

@@ -1,17 +1,21 @@
 -- The lines of a message: that of its header, of a link's header, and of its attributes.
-use Rattle.std.specs.Prelude.{ℕ, ◌%◌, ◌==◌, ◌||◌, ◌&&◌, nat_le, Bool, true, false, cond, List, [], ◌∷◌, ◌++◌, length}
-use Rattle.std.specs.Prelude.{take, drop, codes, decimal, Option, Some, None}
+use Rattle.std.specs.Prelude.{ℕ, ◌-◌, ◌%◌, ◌==◌, ◌||◌, ◌&&◌, not, nat_le, bit_and, Bool, true, false, cond, List, [], ◌∷◌}
+use Rattle.std.specs.Prelude.{◌++◌, length, take, drop, codes, decimal, Option, Some, None}
+use Rattle.netlink_packet_core_grammar.specs.Attributes.{nla_align}
 use Rattle.netlink_packet_core_grammar.specs.Numbers.{u16_at, u32_at}
 use Rattle.link_capture_grammar.specs.Bodies.{is_link_type}
+use Rattle.link_lines_values.specs.declared.error_texts.TheConstants.{ERROR}
 use Rattle.link_lines_values.specs.declared.flag_names.TheConstants.{MESSAGE_FLAGS, MESSAGE_GET_FLAGS, MESSAGE_CREATE_FLAGS}
 use Rattle.link_lines_values.specs.declared.flag_names.TheConstants.{MESSAGE_DELETE_FLAGS, MESSAGE_ACK_FLAGS}
 use Rattle.link_lines_values.specs.declared.number_texts.TheConstants.{MESSAGE_TYPE}
 use Rattle.link_lines_values.specs.declared.values.ShownBy.TheVariants.{Signed}
+use Rattle.link_lines_values.specs.Bytes.{is_zero}
 use Rattle.link_lines_values.specs.Flags.{named_flags}
 use Rattle.link_lines_values.specs.Names.{Text, text_in}
 use Rattle.link_lines_values.specs.NumberTexts.{number_texts}
 use Rattle.link_lines_values.specs.Values.{value_text}
 use Rattle.link_lines_parts.specs.BytesLines.{bytes_line}
+use Rattle.link_lines_raw.specs.Acknowledgements.{acknowledgement_lines, is_acknowledgement}
 use Rattle.link_lines_raw.specs.Bodies.{body_lines as raw_body_lines}
 use Rattle.link_lines_raw.specs.Lines.{Line, lines_text}
 use Rattle.link_lines_texts.specs.declared.format.Scope.{Scope}
@@ -22,6 +26,10 @@ use Rattle.link_lines_texts.specs.Lists.{in_peer, list_lines, of_link}
 -- The names of message types.
 abbrev pub message_types : List Text
 message_types = number_texts MESSAGE_TYPE
+
+-- The names of errors.
+abbrev pub errors : List Text
+errors = number_texts ERROR
 
 -- Whether there is a text.
 abbrev pub has_text : List ℕ → Bool
@@ -88,19 +96,50 @@ unfoldable pub property_lines : Bool → List ℕ → List ℕ
 property_lines is_request b =
     cond (is_canonical_peer b) (link_lines (in_peer (in_message is_request)) b) (bytes_line (codes "body") b)
 
--- The lines for what follows the code: for an NLMSG_ERROR (netlink.h, struct nlmsgerr) the request's header, if it is
--- there, and the remaining bytes.
-unfoldable pub after_code : Bool → ℕ → List ℕ → List ℕ
-after_code numbers t r =
-    cond (t == 2 && nat_le 16 (length r)) (request_line numbers r ++
-    bytes_line (codes "rest") (drop 16 r)) (bytes_line (codes "rest") r)
+-- Whether flags say that the attributes of an extended acknowledgement follow (netlink.h, NLM_F_ACK_TLVS).
+abbrev pub has_attributes : ℕ → Bool
+has_attributes flags = not (bit_and flags 512 == 0)
 
--- The lines of the body of an NLMSG_ERROR or NLMSG_DONE: a signed code, and what follows it; one without a code, which
--- no normal text has, is shown as bytes.
-unfoldable pub code_lines : Bool → ℕ → List ℕ → List ℕ
-code_lines numbers t b =
+-- Whether flags say that only the header of the request is repeated (netlink.h, NLM_F_CAPPED).
+abbrev pub is_capped : ℕ → Bool
+is_capped flags = not (bit_and flags 256 == 0)
+
+-- The number of bytes between the header of a request of this length and the padding before the attributes, if there
+-- are attributes.
+abbrev pub request_rest : ℕ → ℕ → Option ℕ
+request_rest flags size =
+    cond (has_attributes flags) (cond (is_capped flags) (Some 0) (cond (nat_le 16 size) (Some (size - 16)) None)) None
+
+-- The number of bytes between a code without a request and the attributes, if there are attributes: they follow the
+-- code of an NLMSG_DONE.
+abbrev pub code_rest : ℕ → ℕ → Option ℕ
+code_rest t flags = cond (t == 3 && has_attributes flags) (Some 0) None
+
+-- Whether the first n bytes are followed by zeros up to a multiple of 4, and then by attributes up to the end.
+abbrev pub is_followed : ℕ → List ℕ → Bool
+is_followed n r =
+    nat_le (nla_align n) (length r) && (is_zero (drop n (take (nla_align n) r)) && is_acknowledgement (drop (nla_align n) r))
+
+-- The remaining bytes, as a line of the word `rest`, and the attributes after them, which there may be after n bytes.
+unfoldable pub rest_lines : Option ℕ → List ℕ → List ℕ
+rest_lines None r = bytes_line (codes "rest") r
+rest_lines (Some n) r =
+    cond (is_followed n r) (bytes_line (codes "rest") (take n r) ++
+    lines_text (acknowledgement_lines (drop (nla_align n) r))) (bytes_line (codes "rest") r)
+
+-- The lines for what follows the code: for an NLMSG_ERROR (netlink.h, struct nlmsgerr) the request's header, if it is
+-- there; then the remaining bytes, and the attributes of an extended acknowledgement.
+unfoldable pub after_code : Bool → ℕ → ℕ → List ℕ → List ℕ
+after_code numbers t flags r =
+    cond (t == 2 && nat_le 16 (length r)) (request_line numbers r ++
+    rest_lines (request_rest flags (u32_at 0 r)) (drop 16 r)) (rest_lines (code_rest t flags) r)
+
+-- The lines of the body of an NLMSG_ERROR or NLMSG_DONE: a signed code with the name of its error, and what follows it;
+-- one without a code, which no normal text has, is shown as bytes.
+unfoldable pub code_lines : Bool → ℕ → ℕ → List ℕ → List ℕ
+code_lines numbers t flags b =
     cond (nat_le 4 (length b)) (codes "  code" ++
-    (value_text (Signed []) (take 4 b) ++ (10 ∷ [] ++ after_code numbers t (drop 4 b))))
+    (value_text (Signed errors) (take 4 b) ++ (10 ∷ [] ++ after_code numbers t flags (drop 4 b))))
     (bytes_line (codes "body") b)
 
 -- The lines of a body, or else a line of its bytes.
@@ -113,16 +152,16 @@ unfoldable pub other_lines : ℕ → Bool → List ℕ → List ℕ
 other_lines t is_request b =
     cond (is_property_type t) (property_lines is_request b) (or_bytes (raw_body_lines t is_request b) b)
 
--- The lines of a message's body, by the message's type and whether it is a request.
-unfoldable pub body_lines : Bool → ℕ → Bool → List ℕ → List ℕ
-body_lines numbers t is_request b =
-    cond (is_link_type t) (link_lines (in_message is_request) b) (cond (t == 2 ||
-    t == 3) (code_lines numbers t b) (other_lines t is_request b))
+-- Whether flags are those of a request: their lowest bit (netlink.h, NLM_F_REQUEST).
+unfoldable pub has_request_flag : ℕ → Bool
+has_request_flag flags = flags % 2 == 1
 
--- Whether a frame is a request: the lowest bit of its flags (netlink.h, NLM_F_REQUEST).
-unfoldable pub has_request_flag : List ℕ → Bool
-has_request_flag f = u16_at 6 f % 2 == 1
+-- The lines of a message's body, by the message's type and flags.
+unfoldable pub body_lines : Bool → ℕ → ℕ → List ℕ → List ℕ
+body_lines numbers t flags b =
+    cond (is_link_type t) (link_lines (in_message (has_request_flag flags)) b) (cond (t == 2 ||
+    t == 3) (code_lines numbers t flags b) (other_lines t (has_request_flag flags) b))
 
 -- The lines of a frame, given by its bytes without the padding; with sequence and port numbers, or without.
 unfoldable pub frame_lines : Bool → List ℕ → List ℕ
-frame_lines numbers f = header_line numbers f ++ body_lines numbers (u16_at 4 f) (has_request_flag f) (drop 16 f)
+frame_lines numbers f = header_line numbers f ++ body_lines numbers (u16_at 4 f) (u16_at 6 f) (drop 16 f)

@@ -1,7 +1,7 @@
 -- The text of a number determines it.
 use Rattle.std.proofs.Common.{◌≡◌, ℕ, zero, suc, ◌+◌, ◌-◌, ◌*◌, ◌/◌, ◌%◌, ◌^◌, ◌<◌, ◌≤◌, Bool, true, false, List, [], ◌∷◌, ◌++◌, length, drop, refl, sym, ap, subst, ◌∙◌, append_assoc, arith}
 use Rattle.std.proofs.lemmas.List.{append_cancel_left, reverse-append, reverse-reverse, length-reverse}
-use Rattle.std.proofs.lemmas.Bool.{cond_both}
+use Rattle.std.proofs.lemmas.Bool.{cond_both, eqb-true, ltb-false}
 use Rattle.std.specs.Prelude.{◌==◌, ◌||◌, codes, cond, nat_lt, reverse}
 use Rattle.std.specs.List.{AllByRecursion}
 use Rattle.std.specs.Fmt.{decimal, digit_glyph, digits, digits_onto}
@@ -11,7 +11,7 @@ use Rattle.std.proofs.lemmas.Bool.Decides.{nat_tests}
 use Rattle.netlink_packet_core_grammar.specs.Bytes.{AreBytes}
 use Rattle.attribute_tables_grammar.specs.Shapes.{number}
 use Rattle.link_lines_values.specs.Bytes.{bytes_text}
-use Rattle.link_lines_values.specs.Digits.{big_endian, hex_number, is_number, signed_text}
+use Rattle.link_lines_values.specs.Digits.{big_endian, half_of, hex_number, is_number, is_signed_size, signed_by}
 use Rattle.link_lines_values.specs.Flags.{listed, named_flags, nameless, names_set, word_flags}
 use Rattle.link_lines_values.specs.Laws.{DigitsAreDetermined, Ends, NumbersAreDetermined}
 use Rattle.link_lines_values.specs.Names.{Text, bracketed, named_number, named_signed, text_in}
@@ -181,28 +181,59 @@ no_minus (x ∷ ds) s t h l e = let first : x ≡ 45 = cc in omega (arith, h.0)
 pub decimal_is_some : (n : ℕ) → n < 2 ^ 64 → 0 < length (decimal n)
 decimal_is_some n h = (decimal_is_IsNumeral n h).0.0
 
-pub signed_at : (half m n : ℕ) (a b : Bool) → nat_lt m half ≡ a → nat_lt n half ≡ b → half ≤ 2147483648 → (s t : List ℕ) → m < half + half → n < half + half → Ends s → Ends t →
+pub signed_at : (half m n : ℕ) (a b : Bool) → nat_lt m half ≡ a → nat_lt n half ≡ b → half ≤ 9223372036854775808 → (s t : List ℕ) → m < half + half → n < half + half → Ends s → Ends t →
     cond a (decimal m) (45 ∷ decimal (half + half - m)) ++ s ≡ cond b (decimal n) (45 ∷ decimal (half + half - n)) ++ t → (m ≡ n) × (s ≡ t)
 signed_at half m n true true h k l s t p q i j e = decimal_determined m n s t (omega arith) (omega arith) i j e
 signed_at half m n true false h k l s t p q i j e = absurd (no_minus (decimal m) s (decimal (half + half - n) ++ t) (high 10 m) (decimal_is_some m (omega arith)) e)
 signed_at half m n false true h k l s t p q i j e = absurd (no_minus (decimal n) t (decimal (half + half - m) ++ s) (high 10 n) (decimal_is_some n (omega arith)) (sym e))
 signed_at half m n false false h k l s t p q i j e =
-    let r = decimal_determined (half + half - m) (half + half - n) s t (omega arith) (omega arith) i j (ap (drop 1) e) in
+    let r = decimal_determined (half + half - m) (half + half - n) s t (omega (arith, ltb-false m half h)) (omega (arith, ltb-false n half k)) i j (ap (drop 1) e) in
     (omega (arith, r.0), r.1)
 
-pub signed_determined : Determines 4294967296 signed_text
-signed_determined m n s t p q i j e = signed_at 2147483648 m n _ _ refl refl (omega arith) s t p q i j e
+-- Half of the numbers of a size, by whether it is 1, 2 or 8.
+abbrev half_by : Bool → Bool → Bool → ℕ
+half_by a b c = cond a 128 (cond b 32768 (cond c 9223372036854775808 2147483648))
+
+or_neither : (t : Bool) → (t || false) ≡ true → t ≡ true
+or_neither true h = refl
+or_neither false h = h
+
+signed_half_by : (size : ℕ) (a b c : Bool) → (size == 1) ≡ a → (size == 2) ≡ b → (size == 8) ≡ c → (a || (b || ((size == 4) || c))) ≡ true →
+    (256 ^ size ≡ half_by a b c + half_by a b c) × (half_by a b c ≤ 9223372036854775808)
+signed_half_by size true b c h k i l = (ap (λ n. 256 ^ n) (eqb-true size 1 h), omega arith)
+signed_half_by size false true c h k i l = (ap (λ n. 256 ^ n) (eqb-true size 2 k), omega arith)
+signed_half_by size false false true h k i l = (ap (λ n. 256 ^ n) (eqb-true size 8 i), omega arith)
+signed_half_by size false false false h k i l = (ap (λ n. 256 ^ n) (eqb-true size 4 (or_neither (size == 4) l)), omega arith)
+
+signed_half : (size : ℕ) → is_signed_size size ≡ true → (256 ^ size ≡ half_of size + half_of size) × (half_of size ≤ 9223372036854775808)
+signed_half size h = signed_half_by size _ _ _ refl refl refl h
+
+-- A number with a sign determines its bytes, of a size that such numbers have, and what follows it.
+pub signed_and_rest : (p q s t : List ℕ) → AreBytes p → AreBytes q → length p ≡ length q → is_signed_size (length p) ≡ true → Ends s → Ends t →
+    signed_by (half_of (length p)) (number p) ++ s ≡ signed_by (half_of (length q)) (number q) ++ t → (p ≡ q) × (s ≡ t)
+signed_and_rest p q s t a b l h m n e =
+    let size = length p in
+    let both = signed_half size h in
+    let low_p : number p < half_of size + half_of size = subst (λ x. number p < x) both.0 (bounded size p a (omega arith)) in
+    let low_q : number q < half_of size + half_of size = subst (λ x. number q < x) both.0 (bounded size q b (omega (arith, l))) in
+    let r = signed_at (half_of size) (number p) (number q) _ _ refl refl both.1 s t low_p low_q m n (rw (sym l) at e) in
+    (number_determined p q a b l r.0, r.1)
 
 pub four : (p : List ℕ) → AreBytes p → length p ≡ 4 → number p < 4294967296
 four p a l = omega (arith, bounded 4 p a (omega arith))
 
-named_signed_determined : (texts : List Text) → Determines 4294967296 (named_signed texts)
-named_signed_determined texts = with_name 4294967296 signed_text (λ n. bracketed (text_in texts n)) signed_determined (λ n. bracket_ends (text_in texts n))
+name_ends : (name : List ℕ) → Ends (bracketed name)
+name_ends [] = record {}
+name_ends (c ∷ name) = omega arith
 
-signed : (texts : List Text) (p q : List ℕ) → AreBytes p → AreBytes q → length p ≡ 4 → length q ≡ 4 →
-    cond (length p == 4) (32 ∷ named_signed texts (number p)) (bytes_text p) ≡ cond (length q == 4) (32 ∷ named_signed texts (number q)) (bytes_text q) → p ≡ q
-signed texts p q a b l k e =
-    number_determined p q a b (l ∙ sym k) (named_signed_determined texts (number p) (number q) [] [] (four p a l) (four q b k) (record {}) (record {}) (ap (λ z. drop 1 z ++ []) (rw (l, k) at e))).0
+signed : (texts : List Text) (p q : List ℕ) → AreBytes p → AreBytes q → length p ≡ length q → is_signed_size (length p) ≡ true →
+    cond (is_signed_size (length p)) (32 ∷ named_signed texts (length p) (number p)) (bytes_text p)
+    ≡ cond (is_signed_size (length q)) (32 ∷ named_signed texts (length q) (number q)) (bytes_text q) → p ≡ q
+signed texts p q a b l h e =
+    let k : is_signed_size (length q) ≡ true = ap is_signed_size (sym l) ∙ h in
+    let m = text_in texts (number p) in
+    let n = text_in texts (number q) in
+    (signed_and_rest p q (bracketed m) (bracketed n) a b l h (name_ends m) (name_ends n) (ap (drop 1) (rw (h, k) at e))).0
 
 -- ---- sets of flags
 

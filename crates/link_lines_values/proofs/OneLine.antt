@@ -11,7 +11,7 @@ use Rattle.attribute_tables_grammar.specs.Shapes.{number}
 use Rattle.link_lines_values.specs.declared.fields.FieldShownBy.TheVariants as F
 use Rattle.link_lines_values.specs.declared.values.ShownBy.TheVariants as S
 use Rattle.link_lines_values.specs.Bytes.{address_text, bytes_text, colon_byte, colons, count_without_zeros, escaped, hardware_text, hex_text, is_zero, quoted, boolean_text}
-use Rattle.link_lines_values.specs.Digits.{big_endian, hex_byte, hex_number, signed_by, signed_text}
+use Rattle.link_lines_values.specs.Digits.{big_endian, half_of, hex_byte, hex_number, signed_by}
 use Rattle.link_lines_values.specs.Flags.{listed, named_flags, nameless, nameless_text, names_set, separated, word_flags}
 use Rattle.link_lines_values.specs.Laws.{BeginsWithSpace, CountersAreOnALine, FieldsAreOnALine, IsLine, ValuesAreOnALine}
 use Rattle.link_lines_values.specs.Names.{Text, bracketed, named_number, named_signed, text_in}
@@ -145,8 +145,8 @@ bracketed_line (c ∷ name) h = let inner = lines_joined (c ∷ name) (codes ")"
 named_line : (texts : List Text) (n : ℕ) → are_lines texts ≡ true → IsLine (named_number texts n)
 named_line texts n h = lines_joined (decimal n) (bracketed (text_in texts n)) (decimal_line n) (bracketed_line (text_in texts n) (text_line texts n h))
 
-named_signed_line : (texts : List Text) (n : ℕ) → are_lines texts ≡ true → IsLine (named_signed texts n)
-named_signed_line texts n h = lines_joined (signed_text n) (bracketed (text_in texts n)) (signed_line 2147483648 n) (bracketed_line (text_in texts n) (text_line texts n h))
+named_signed_line : (texts : List Text) (size n : ℕ) → are_lines texts ≡ true → IsLine (named_signed texts size n)
+named_signed_line texts size n h = lines_joined (signed_by (half_of size) n) (bracketed (text_in texts n)) (signed_line (half_of size) n) (bracketed_line (text_in texts n) (text_line texts n h))
 
 -- Each of some names is on one line.
 abbrev AllLines : List (List ℕ) → Type 0

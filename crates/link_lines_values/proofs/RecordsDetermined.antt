@@ -15,13 +15,13 @@ use Rattle.netlink_packet_core_grammar.specs.Bytes.{AreBytes}
 use Rattle.attribute_tables_grammar.specs.Shapes.{number}
 use Rattle.link_lines_values.specs.declared.fields.FieldShownBy.TheVariants as S
 use Rattle.link_lines_values.specs.Bytes.{colon_byte, colons, count_without_zeros, escaped, hex_text, is_zero, padded_address, padded_text}
-use Rattle.link_lines_values.specs.Digits.{big_endian, is_number, signed_by}
+use Rattle.link_lines_values.specs.Digits.{big_endian, half_of, is_number, is_signed_size, signed_by}
 use Rattle.link_lines_values.specs.Names.{Text, bracketed, named_number, text_in}
 use Rattle.link_lines_values.specs.Laws.{AllKnown, Ends, FieldsAreDetermined, IsKnown, RecordsAreDetermined}
-use Rattle.link_lines_values.specs.Records.{Field, FieldShown, field_text, field_value, fields_text, half_of, has_no_booleans, has_size, has_zero_padding, is_hidden, is_no_boolean, is_padding, is_signed_size, lacks, names_apart, no_equals, record_text, sizes_known, total_size}
+use Rattle.link_lines_values.specs.Records.{Field, FieldShown, field_text, field_value, fields_text, has_no_booleans, has_size, has_zero_padding, is_hidden, is_no_boolean, is_padding, lacks, names_apart, no_equals, record_text, sizes_known, total_size}
 use Rattle.link_lines_values.proofs.BytesDetermined.{colons_are_determined, escaped_determined}
 use Rattle.link_lines_values.proofs.GroupsDetermined.{group_determined}
-use Rattle.link_lines_values.proofs.NumbersDetermined.{Determines, Digits, Reads, bounded, bracket_ends, cut, flags_of, flags_of_determined, four, high, high_glyph, highest_first, lowest_first, named_determined, number_and_rest, number_determined, same_size, signed_at, sized, with_name}
+use Rattle.link_lines_values.proofs.NumbersDetermined.{Determines, Digits, Reads, bounded, bracket_ends, cut, flags_of, flags_of_determined, four, high, high_glyph, highest_first, lowest_first, named_determined, number_and_rest, number_determined, same_size, signed_and_rest, sized, with_name}
 use Rattle.link_lines_values.proofs.ValuesDetermined.{both_parts, boolean_determined}
 use Rattle.link_lines_values.proofs.Zeros.{all_zero, zero_number}
 use Rattle.netlink_packet_core_grammar.proofs.Bytes.{AreBytes-drop, AreBytes-take}
@@ -74,25 +74,12 @@ number_field value reads text determined p q s t a b l h m n e =
     let k = same_size p q l h in
     number_and_rest value reads text determined p q s t a b (sized (length p) h) l m n (rw (h, k) at e)
 
-signed_half_by : (size : ℕ) (a b : Bool) → (size == 1) ≡ a → (size == 2) ≡ b → (a || (b || (size == 4))) ≡ true →
-    (256 ^ size ≡ cond a 128 (cond b 32768 2147483648) + cond a 128 (cond b 32768 2147483648)) × (cond a 128 (cond b 32768 2147483648) ≤ 2147483648)
-signed_half_by size true b h k l = (ap (λ n. 256 ^ n) (eqb-true size 1 h), omega arith)
-signed_half_by size false true h k l = (ap (λ n. 256 ^ n) (eqb-true size 2 k), omega arith)
-signed_half_by size false false h k l = (ap (λ n. 256 ^ n) (eqb-true size 4 l), omega arith)
-
-signed_half : (size : ℕ) → is_signed_size size ≡ true → (256 ^ size ≡ half_of size + half_of size) × (half_of size ≤ 2147483648)
-signed_half size h = signed_half_by size _ _ refl refl h
-
 -- A number with a sign, of a size that such numbers have.
 signed_field : (p q s t : List ℕ) → AreBytes p → AreBytes q → length p ≡ length q → is_signed_size (length p) ≡ true → Ends s → Ends t →
     cond (is_signed_size (length p)) (signed_by (half_of (length p)) (number p)) (hex_text p) ++ s ≡ cond (is_signed_size (length q)) (signed_by (half_of (length q)) (number q)) (hex_text q) ++ t → (p ≡ q) × (s ≡ t)
 signed_field p q s t a b l h m n e =
-    let size = length p in
-    let both = signed_half size h in
-    let low_p : number p < half_of size + half_of size = subst (λ x. number p < x) both.0 (bounded size p a (omega arith)) in
-    let low_q : number q < half_of size + half_of size = subst (λ x. number q < x) both.0 (bounded size q b (omega (arith, l))) in
-    let r = signed_at (half_of size) (number p) (number q) _ _ refl refl both.1 s t low_p low_q m n (rw (sym l, h) at e) in
-    (number_determined p q a b l r.0, r.1)
+    let k : is_signed_size (length q) ≡ true = ap is_signed_size (sym l) ∙ h in
+    signed_and_rest p q s t a b l h m n (rw (h, k) at e)
 
 -- A set of flags of a size that numbers have.
 flags_field : (names : List Text) (p q s t : List ℕ) → AreBytes p → AreBytes q → length p ≡ length q → is_number p ≡ true → Ends s → Ends t →

@@ -4,7 +4,7 @@ use Rattle.std.specs.Prelude.{◌==◌, ◌||◌, codes, decimal, nat_lt}
 use Rattle.std.specs.List.{All}
 use Rattle.std.specs.Net.Addr.{segments_of}
 use Rattle.std.specs.Net.Text.{hex_groups_text, ipv4_text, ipv6_text}
-use Rattle.std.proofs.lemmas.Bool.{eqb-true, ltb-true}
+use Rattle.std.proofs.lemmas.Bool.{cond_both, eqb-true, ltb-true}
 use Rattle.std.proofs.lemmas.Fmt.{decimal_is_IsNumeral}
 use Rattle.std.proofs.lemmas.List.{length-take}
 use Rattle.std.proofs.lemmas.Str.Parse.{digit_at}
@@ -14,7 +14,7 @@ use Rattle.netlink_packet_core_grammar.specs.Bytes.{AreBytes}
 use Rattle.attribute_tables_grammar.specs.Shapes.{number}
 use Rattle.link_lines_values.specs.declared.values.ShownBy.TheVariants as V
 use Rattle.link_lines_values.specs.Bytes.{address_text}
-use Rattle.link_lines_values.specs.Digits.{big_endian, hex_number, is_number, signed_text}
+use Rattle.link_lines_values.specs.Digits.{big_endian, half_of, hex_number, is_number, is_signed_size, signed_by}
 use Rattle.link_lines_values.specs.Flags.{flags_text}
 use Rattle.link_lines_values.specs.Laws.{SizedValuesAreDetermined}
 use Rattle.link_lines_values.specs.Names.{Text, named_number, named_signed}
@@ -37,7 +37,7 @@ address n false z p q h a b k l e = addresses_determined.ipv6 p q a b (k ∙ eqb
 value_determined : (n : ℕ) (v : Shown) (p q : List ℕ) → determines_sized n v ≡ true → AreBytes p → AreBytes q → length p ≡ n → length q ≡ n → value_text v p ≡ value_text v q → p ≡ q
 value_determined n (V.Number numbers) p q h a b k l e = numbers_determined.little numbers p q a b (k ∙ sym l) (ap is_size k ∙ h) e
 value_determined n (V.BigEndian numbers) p q h a b k l e = numbers_determined.big numbers p q a b (k ∙ sym l) (ap is_size k ∙ h) e
-value_determined n (V.Signed texts) p q h a b k l e = numbers_determined.signed texts p q a b (k ∙ eqb-true n 4 h) (l ∙ eqb-true n 4 h) e
+value_determined n (V.Signed texts) p q h a b k l e = numbers_determined.signed texts p q a b (k ∙ sym l) (ap is_signed_size k ∙ h) e
 value_determined n V.Flags p q h a b k l e = numbers_determined.flags p q a b (k ∙ sym l) (ap is_size k ∙ h) e
 value_determined n (V.NamedFlags names) p q h a b k l e = numbers_determined.named_flags names p q a b (k ∙ sym l) (ap is_size k ∙ h) e
 value_determined n V.BigEndianFlags p q h a b k l e = settings_determined.big p q a b (k ∙ sym l) (ap is_size k ∙ h) e
@@ -78,18 +78,24 @@ either_low : (b : Bool) (x y : List ℕ) (i : ℕ) → (b ≡ true → get_or x 
 either_low true x y i h l = h refl
 either_low false x y i h l = l
 
-signed_text_low : (n : ℕ) → get_or (signed_text n) 0 0 < 98
-signed_text_low n =
-    either_low (nat_lt n 2147483648) (decimal n) _ 0
-    (λ h. let k = digits_low n [] (omega (arith, ltb-true n 2147483648 h)) in omega (arith, k, first_kept (decimal n) [] (decimal_is_IsNumeral n (omega (arith, ltb-true n 2147483648 h))).0.0)) (omega arith)
+half_small : (size : ℕ) → half_of size ≤ 9223372036854775808
+half_small size =
+    cond_both (size == 1) 128 _ (λ n. n ≤ 9223372036854775808) (λ e. omega arith)
+    (λ e. cond_both (size == 2) 32768 _ (λ n. n ≤ 9223372036854775808) (λ f. omega arith)
+    (λ f. cond_both (size == 8) 9223372036854775808 2147483648 (λ n. n ≤ 9223372036854775808) (λ g. omega arith) (λ g. omega arith)))
+
+signed_by_low : (half n : ℕ) → half ≤ 9223372036854775808 → get_or (signed_by half n) 0 0 < 98
+signed_by_low half n l =
+    either_low (nat_lt n half) (decimal n) _ 0
+    (λ h. let k = digits_low n [] (omega (arith, ltb-true n half h, l)) in omega (arith, k, first_kept (decimal n) [] (decimal_is_IsNumeral n (omega (arith, ltb-true n half h, l))).0.0)) (omega arith)
 
 -- A number with its sign before any bytes.
-signed_is_some : (n : ℕ) (t : Bool) → nat_lt n 2147483648 ≡ t → 0 < length (cond t (decimal n) (45 ∷ decimal (4294967296 - n)))
-signed_is_some n true h = (decimal_is_IsNumeral n (omega (arith, ltb-true n 2147483648 h))).0.0
-signed_is_some n false h = omega arith
+signed_is_some : (half n : ℕ) (t : Bool) → half ≤ 9223372036854775808 → nat_lt n half ≡ t → 0 < length (cond t (decimal n) (45 ∷ decimal (half + half - n)))
+signed_is_some half n true l h = (decimal_is_IsNumeral n (omega (arith, ltb-true n half h, l))).0.0
+signed_is_some half n false l h = omega arith
 
-pub signed_low : (n : ℕ) (s : List ℕ) → get_or (signed_text n ++ s) 0 0 < 98
-signed_low n s = omega (arith, first_kept (signed_text n) s (signed_is_some n _ refl), signed_text_low n)
+pub signed_low : (size n : ℕ) (s : List ℕ) → get_or (signed_by (half_of size) n ++ s) 0 0 < 98
+signed_low size n s = omega (arith, first_kept (signed_by (half_of size) n) s (signed_is_some (half_of size) n _ (half_small size) refl), signed_by_low (half_of size) n (half_small size))
 
 -- Flags, whichever names follow.
 pub flags_low : (t : Bool) (n : ℕ) (a b : List ℕ) → get_or (32 ∷ cond t (hex_number n ++ a) (hex_number n ++ b)) 1 0 < 98
@@ -154,7 +160,7 @@ no_word n (V.BigEndian numbers) p s h a k e =
     let size = ap is_size k ∙ h in
     low_second _ s (chosen_low (is_number p) (32 ∷ named_number numbers (big_endian p)) _ 1 size
     (digits_low (big_endian p) _ (highest_first.small p a (sized (length p) size)))) e
-no_word n (V.Signed texts) p s h a k e = low_second _ s (chosen_low (length p == 4) (32 ∷ named_signed texts (number p)) _ 1 (ap (λ m. m == 4) k ∙ h) (signed_low (number p) _)) e
+no_word n (V.Signed texts) p s h a k e = low_second _ s (chosen_low (is_signed_size (length p)) (32 ∷ named_signed texts (length p) (number p)) _ 1 (ap is_signed_size k ∙ h) (signed_low (length p) (number p) _)) e
 no_word n V.Flags p s h a k e = no_flags [] p s (ap is_size k ∙ h) e
 no_word n (V.NamedFlags names) p s h a k e = no_flags names p s (ap is_size k ∙ h) e
 no_word n V.BigEndianFlags p s h a k e = low_second _ s (chosen_low (is_number p) (32 ∷ _) _ 1 (ap is_size k ∙ h) (omega arith)) e

@@ -30,6 +30,11 @@ four_digits n = codes "0x" ++ (hex_byte (n / 256) ++ hex_byte (n % 256))
 abbrev pub signed_by : ℕ → ℕ → List ℕ
 signed_by half n = cond (nat_lt n half) (decimal n) (45 ∷ decimal (half + half - n))
 
--- A number of 4 bytes with its sign.
-abbrev pub signed_text : ℕ → List ℕ
-signed_text n = signed_by 2147483648 n
+-- Half of the numbers of 1, 2 or 8 bytes, or of 4 for any other size.
+abbrev pub half_of : ℕ → ℕ
+half_of size =
+    cond (size == 1) 128 (cond (size == 2) 32768 (cond (size == 8) 9223372036854775808 2147483648))
+
+-- The sizes that signed numbers have.
+abbrev pub is_signed_size : ℕ → Bool
+is_signed_size n = (n == 1) || ((n == 2) || ((n == 4) || (n == 8)))

@@ -8,7 +8,7 @@ use Rattle.netlink_packet_core_grammar.specs.Bytes.{AreBytes}
 use Rattle.netlink_packet_core_grammar.specs.Texts.{without_nul}
 use Rattle.link_lines_values.specs.declared.fields.FieldShownBy.TheVariants as S
 use Rattle.link_lines_values.specs.Bytes.{address_text, bytes_text, hardware_text, is_zero, quoted, boolean_text}
-use Rattle.link_lines_values.specs.Digits.{hex_number, is_number}
+use Rattle.link_lines_values.specs.Digits.{hex_number, is_number, is_signed_size}
 use Rattle.link_lines_values.specs.Names.{Text}
 use Rattle.link_lines_values.specs.Records.{Field, FieldShown, counters_determine, counters_text, fields_determine}
 use Rattle.link_lines_values.specs.Records.{fields_text, has_no_booleans, is_counters, is_record, record_text}
@@ -58,8 +58,8 @@ pub record NumbersAreDetermined : Type 0 where
       number_value texts p ≡ number_value texts q → p ≡ q
   pub big : (texts : List Text) (p q : List ℕ) → AreBytes p → AreBytes q → length p ≡ length q → is_number p ≡ true →
       big_endian_value texts p ≡ big_endian_value texts q → p ≡ q
-  pub signed : (texts : List Text) (p q : List ℕ) → AreBytes p → AreBytes q → length p ≡ 4 → length q ≡ 4 →
-      signed_value texts p ≡ signed_value texts q → p ≡ q
+  pub signed : (texts : List Text) (p q : List ℕ) → AreBytes p → AreBytes q → length p ≡ length q →
+      is_signed_size (length p) ≡ true → signed_value texts p ≡ signed_value texts q → p ≡ q
   pub flags : (p q : List ℕ) → AreBytes p → AreBytes q → length p ≡ length q → is_number p ≡ true →
       flags_value p ≡ flags_value q → p ≡ q
   pub named_flags : (names : List Text) (p q : List ℕ) → AreBytes p → AreBytes q → length p ≡ length q →

@@ -1,7 +1,7 @@
 -- Numbers, and the names that are shown beside them.
 use Rattle.std.specs.Prelude.{ℕ, ◌==◌, List, [], ◌∷◌, ◌++◌, codes, cond}
 use Rattle.std.specs.Fmt.{decimal}
-use Rattle.link_lines_values.specs.Digits.{signed_text}
+use Rattle.link_lines_values.specs.Digits.{half_of, signed_by}
 
 -- A number and its name.
 abbrev pub Text : Type 0
@@ -26,6 +26,6 @@ bracketed (c ∷ name) = codes " (" ++ (c ∷ name ++ codes ")")
 abbrev pub named_number : List Text → ℕ → List ℕ
 named_number texts n = decimal n ++ bracketed (text_in texts n)
 
--- A number of 4 bytes with its sign and its name, as in `-1 (all)`; the rows of names have it without a sign.
-abbrev pub named_signed : List Text → ℕ → List ℕ
-named_signed texts n = signed_text n ++ bracketed (text_in texts n)
+-- A number of this size in bytes with its sign and its name, as in `-1 (all)`; the rows of names have it without a sign.
+abbrev pub named_signed : List Text → ℕ → ℕ → List ℕ
+named_signed texts size n = signed_by (half_of size) n ++ bracketed (text_in texts n)

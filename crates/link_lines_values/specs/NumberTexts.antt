@@ -41,6 +41,7 @@ use Rattle.link_lines_values.specs.declared.bridge_texts.TheConstants.{PORT_REQU
 use Rattle.link_lines_values.specs.declared.bridge_texts.TheConstants.{MDB_FLAGS_TEXTS, BRIDGE_FLAGS_TEXTS}
 use Rattle.link_lines_values.specs.declared.bridge_texts.TheConstants.{BRIDGE_VLAN_FLAGS_TEXTS, VLAN_FLAGS_TEXTS}
 use Rattle.link_lines_values.specs.declared.bridge_texts.TheConstants.{BR_BOOLOPT_TEXTS, CAN_CTRLMODE_FLAGS_TEXTS}
+use Rattle.link_lines_values.specs.declared.error_texts.TheConstants.{ERROR, ERROR_TEXTS}
 use Rattle.link_lines_values.specs.declared.flag_names.TheConstants.{LINK_FLAGS}
 use Rattle.link_lines_values.specs.declared.route_texts.TheConstants.{FAMILY}
 use Rattle.link_lines_values.specs.declared.neighbour_texts.TheConstants.{FR_ACT}
@@ -95,6 +96,10 @@ bridge_texts =
     PORT_REQUEST_TEXTS ∷ VLANDB_DUMP_FLAGS_TEXTS ∷ MDB_FLAGS_TEXTS ∷ BRIDGE_FLAGS_TEXTS ∷ BRIDGE_VLAN_FLAGS_TEXTS ∷
     VLAN_FLAGS_TEXTS ∷ BR_BOOLOPT_TEXTS ∷ CAN_CTRLMODE_FLAGS_TEXTS ∷ [])
 
+-- Names of errors in acknowledgements.
+abbrev pub error_texts : List (List Text)
+error_texts = map (λ b. texts_of (λ n. n.now) b.now) (ERROR_TEXTS ∷ [])
+
 -- The numbers, or the bits, of a table with their names.
 unfoldable pub number_texts : Numbers → List Text
 number_texts table =
@@ -102,4 +107,5 @@ number_texts table =
     (cond (nat_lt table.0 FAMILY.0) (get_or link_flag_names (table.0 - LINK_FLAGS.0) [])
     (cond (nat_lt table.0 FR_ACT.0) (get_or route_texts (table.0 - FAMILY.0) [])
     (cond (nat_lt table.0 MCAST_MODE.0) (get_or neighbour_texts (table.0 - FR_ACT.0) [])
-    (get_or bridge_texts (table.0 - MCAST_MODE.0) []))))
+    (cond (nat_lt table.0 ERROR.0) (get_or bridge_texts (table.0 - MCAST_MODE.0) [])
+    (get_or error_texts (table.0 - ERROR.0) [])))))

@@ -10,7 +10,7 @@ use Rattle.link_lines_values.specs.declared.fields.FieldOf.{FieldOf}
 use Rattle.link_lines_values.specs.declared.fields.FieldShownBy.{FieldShownBy}
 use Rattle.link_lines_values.specs.declared.fields.FieldShownBy.TheVariants as S
 use Rattle.link_lines_values.specs.declared.number_tables.Numbers.{Numbers}
-use Rattle.link_lines_values.specs.Digits.{big_endian, is_number, signed_by}
+use Rattle.link_lines_values.specs.Digits.{big_endian, half_of, is_number, is_signed_size, signed_by}
 use Rattle.link_lines_values.specs.Bytes.{boolean_text, bytes_text, colons, hex_text, is_zero}
 use Rattle.link_lines_values.specs.Bytes.{padded_address, padded_text}
 use Rattle.link_lines_values.specs.Flags.{flags_text}
@@ -56,14 +56,6 @@ total_size (f ∷ fs) = f.1 + total_size fs
 abbrev pub number_or_hex : List Text → Option ℕ → List ℕ → List ℕ
 number_or_hex texts (Some n) part = named_number texts n
 number_or_hex texts None part = hex_text part
-
--- Half of the numbers of 1 or 2 bytes, or of 4 for any other size.
-abbrev pub half_of : ℕ → ℕ
-half_of size = cond (size == 1) 128 (cond (size == 2) 32768 2147483648)
-
--- The sizes that signed numbers have.
-abbrev pub is_signed_size : ℕ → Bool
-is_signed_size n = (n == 1) || ((n == 2) || (n == 4))
 
 -- A handle of 4 bytes with its name, as in `8001:0` or `ffff:ffff (root)`: its upper and its lower 16 bits in hex.
 abbrev pub handle_text : List Text → ℕ → List ℕ

@@ -9,7 +9,7 @@ use Rattle.link_lines_values.specs.declared.fields.FieldShownBy.TheVariants as F
 use Rattle.link_lines_values.specs.declared.number_tables.Numbers.{Numbers}
 use Rattle.link_lines_values.specs.declared.values.ShownBy.{ShownBy}
 use Rattle.link_lines_values.specs.declared.values.ShownBy.TheVariants as S
-use Rattle.link_lines_values.specs.Digits.{big_endian, is_number, hex_number}
+use Rattle.link_lines_values.specs.Digits.{big_endian, is_number, is_signed_size, hex_number}
 use Rattle.link_lines_values.specs.Bytes.{address_text, bytes_text, hardware_text, quoted, boolean_text}
 use Rattle.link_lines_values.specs.Flags.{flags_text, word_flags}
 use Rattle.link_lines_values.specs.Names.{Text, named_number, named_signed}
@@ -49,9 +49,10 @@ number_value texts p = cond (is_number p) (32 ∷ named_number texts (number p))
 abbrev pub big_endian_value : List Text → List ℕ → List ℕ
 big_endian_value texts p = cond (is_number p) (32 ∷ named_number texts (big_endian p)) (bytes_text p)
 
--- A signed number of 4 bytes with its name; other sizes as bytes.
+-- A signed number of 1, 2, 4 or 8 bytes with its name; other sizes as bytes.
 abbrev pub signed_value : List Text → List ℕ → List ℕ
-signed_value texts p = cond (length p == 4) (32 ∷ named_signed texts (number p)) (bytes_text p)
+signed_value texts p =
+    cond (is_signed_size (length p)) (32 ∷ named_signed texts (length p) (number p)) (bytes_text p)
 
 -- A set of little-endian flags of 1, 2, 3, 4 or 8 bytes with the names of their bits; other sizes as bytes.
 abbrev pub named_flags_value : List Text → List ℕ → List ℕ
@@ -138,7 +139,7 @@ is_shown_on_a_line shown = true
 abbrev pub determines_sized : ℕ → Shown → Bool
 determines_sized n (S.Number texts) = is_size n
 determines_sized n (S.BigEndian texts) = is_size n
-determines_sized n (S.Signed texts) = n == 4
+determines_sized n (S.Signed texts) = is_signed_size n
 determines_sized n S.Flags = is_size n
 determines_sized n (S.NamedFlags names) = is_size n
 determines_sized n S.BigEndianFlags = is_size n

@@ -5,7 +5,7 @@ ghost use Rattle.std.specs.Fmt.{decimal, digits, digit_glyph};
 ghost use Rattle.link_lines_values.specs.Appends.{Appends};
 ghost use Rattle.attribute_tables_grammar.specs.Shapes.{number};
 ghost use Rattle.link_lines_values.specs.Digits.{big_endian, is_number, hex_byte, hex_number, four_digits};
-ghost use Rattle.link_lines_values.specs.Digits.{signed_by, signed_text};
+ghost use Rattle.link_lines_values.specs.Digits.{half_of, is_signed_size, signed_by};
 
 use itoa::Buffer;
 use std::alloc::AllocError;
@@ -70,22 +70,40 @@ pub fn push_decimal(number: u64, out: &mut Vec<u8>) -> Result<(), AllocError>
 }
 
 /// Appends a number with its sign: from `half` on it is the number minus twice that.
-pub(crate) fn push_signed_by(half: u64, number: u64, out: &mut Vec<u8>) -> Result<(), AllocError>
-    requires { half ≤ 2147483648 }
+fn push_signed_by(half: u64, number: u64, out: &mut Vec<u8>) -> Result<(), AllocError>
     ensures { Appends out.old out.new result (signed_by half number) }
 {
     if number < half {
         return push_decimal(number, out);
     }
     out.push(b'-')?;
-    push_decimal((half + half).saturating_sub(number), out)
+    push_decimal(half.saturating_sub(number - half), out)
 }
 
-/// Appends a number of 4 bytes as a signed one, in decimal.
-pub(crate) fn push_signed(number: u64, out: &mut Vec<u8>) -> Result<(), AllocError>
-    ensures { Appends out.old out.new result (signed_text number) }
+/// Returns half of the numbers of 1, 2 or 8 bytes, or of 4 for any other size.
+fn half_of(size: usize) -> u64
+    ensures { result ≡ half_of size }
 {
-    push_signed_by(0x8000_0000, number, out)
+    match size {
+        1 => 0x80,
+        2 => 0x8000,
+        8 => 0x8000_0000_0000_0000,
+        _ => 0x8000_0000,
+    }
+}
+
+/// Returns whether signed numbers have this size.
+pub(crate) fn is_signed_size(size: usize) -> bool
+    ensures { result ≡ is_signed_size size }
+{
+    size == 1 || size == 2 || size == 4 || size == 8
+}
+
+/// Appends a number of 1, 2, 4 or 8 bytes as a signed one, in decimal.
+pub(crate) fn push_signed(size: usize, number: u64, out: &mut Vec<u8>) -> Result<(), AllocError>
+    ensures { Appends out.old out.new result (signed_by (half_of size) number) }
+{
+    push_signed_by(half_of(size), number, out)
 }
 
 /// Returns a hex digit in lower case.

@@ -7,6 +7,7 @@ mod bytes;
 mod dense_rows;
 pub mod device_layouts;
 mod digits;
+mod error_texts;
 mod exact;
 mod fields;
 mod flag_names;
@@ -29,6 +30,7 @@ mod values;
 pub use bytes::{is_zero, push_bytes};
 pub use dense_rows::look_up;
 pub use digits::{hex_byte, push_decimal, push_four_digits};
+pub use error_texts::ERROR;
 pub use exact::{Exact, ExactBy, push_raw_value};
 pub use fields::{Field, FieldOf, FieldShown, FieldShownBy, Fields, Layout};
 pub use flag_names::{

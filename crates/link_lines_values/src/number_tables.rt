@@ -5,11 +5,12 @@ ghost use Rattle.link_lines_values.specs.Names.{texts_of};
 ghost use Rattle.link_lines_values.specs.NumberTexts.{number_texts};
 
 use crate::bridge_texts::MCAST_MODE;
+use crate::error_texts::ERROR;
 use crate::flag_names::LINK_FLAGS;
 use crate::neighbour_texts::FR_ACT;
 use crate::number_texts::PLAIN;
 use crate::route_texts::FAMILY;
-use crate::{bridge_texts, flag_names, neighbour_texts, number_texts, route_texts};
+use crate::{bridge_texts, error_texts, flag_names, neighbour_texts, number_texts, route_texts};
 
 /// A number, or a bit, and its name.
 pub type NumberText = (u32, &'static [u8]);
@@ -48,8 +49,10 @@ impl Numbers {
             route_texts::texts(index - FAMILY.0)
         } else if index < MCAST_MODE.0 {
             neighbour_texts::texts(index - FR_ACT.0)
-        } else {
+        } else if index < ERROR.0 {
             bridge_texts::texts(index - MCAST_MODE.0)
+        } else {
+            error_texts::texts(index - ERROR.0)
         }
     }
 }

@@ -71,15 +71,17 @@ pub fn push_number(texts: &[NumberText], number: u64, out: &mut Vec<u8>) -> Resu
     push_bracketed(find_text(texts, number), out)
 }
 
-/// Appends a number of 4 bytes as a signed one, followed by its name in brackets if it has one. The
-/// names are those of the numbers without a sign.
+/// Appends a number of 1, 2, 4 or 8 bytes as a signed one, followed by its name in brackets if it
+/// has one. The names are those of the numbers without a sign.
 pub(crate) fn push_signed_number(
     texts: &[NumberText],
+    size: usize,
     number: u64,
     out: &mut Vec<u8>,
 ) -> Result<(), AllocError>
-    ensures { Appends out.old out.new result (named_signed (texts_of (λ b. b.now) texts.now) number) }
+    ensures { Appends out.old out.new result
+        (named_signed (texts_of (λ b. b.now) texts.now) size number) }
 {
-    push_signed(number, out)?;
+    push_signed(size, number, out)?;
     push_bracketed(find_text(texts, number), out)
 }

@@ -6,15 +6,17 @@ ghost use Rattle.link_lines_values.specs.Appends.{Appends};
 ghost use Rattle.link_lines_values.specs.Bytes.{is_zero};
 ghost use Rattle.link_lines_values.specs.Names.{texts_of};
 ghost use Rattle.link_lines_values.specs.Records.{field_of, field_text, field_value, fields_of, fields_text};
-ghost use Rattle.link_lines_values.specs.Records.{half_of, handle_or_hex, has_zero_padding, is_hidden, is_padding};
-ghost use Rattle.link_lines_values.specs.Records.{is_record, is_signed_size};
+ghost use Rattle.link_lines_values.specs.Records.{handle_or_hex, has_zero_padding, is_hidden, is_padding};
+ghost use Rattle.link_lines_values.specs.Records.{is_record};
 ghost use Rattle.link_lines_values.specs.Records.{counter_name, counters_text, is_counters, nonzero_text, slots_text};
 ghost use Rattle.link_lines_values.specs.Records.{number_or_hex, record_text, shown_of, total_size};
 
 use crate::bytes::{
     is_zero, push_boolean, push_bytes, push_hex_text, push_padded_address, push_padded_text,
 };
-use crate::digits::{big_endian, little_endian, push_decimal, push_hex_digits, push_signed_by};
+use crate::digits::{
+    big_endian, is_signed_size, little_endian, push_decimal, push_hex_digits, push_signed,
+};
 use crate::fields::{Field, FieldShown, FieldShownBy};
 use crate::flags::{FlagName, push_flags_of};
 use crate::groups::push_group;
@@ -58,32 +60,12 @@ fn push_field_number(
     }
 }
 
-// Returns half of the numbers of 1 or 2 bytes, or of 4 for any other size.
-fn half_of(size: usize) -> u64
-    ensures { result ≡ half_of size }
-{
-    match size {
-        1 => 0x80,
-        2 => 0x8000,
-        _ => 0x8000_0000,
-    }
-}
-
-// Returns whether signed numbers have this size.
-fn is_signed_size(size: usize) -> bool
-    ensures { result ≡ is_signed_size size }
-{
-    size == 1 || size == 2 || size == 4
-}
-
 // Appends the number of a field with its sign, or its bytes if no signed number has their size.
 fn push_field_signed(part: &[u8], out: &mut Vec<u8>) -> Result<(), AllocError>
     ensures { Appends out.old out.new result (field_value FieldShownBy.Signed part.now) }
 {
     match little_endian(part) {
-        Some(number) if is_signed_size(part.len()) => {
-            push_signed_by(half_of(part.len()), number, out)
-        }
+        Some(number) if is_signed_size(part.len()) => push_signed(part.len(), number, out),
         _ => push_hex_text(part, out),
     }
 }

@@ -11,7 +11,7 @@ ghost use Rattle.link_lines_values.specs.Values.{port_range_value, format_of, si
 
 use crate::addresses::push_address;
 use crate::bytes::{push_boolean, push_bytes, push_hardware_address, push_text};
-use crate::digits::{big_endian, little_endian, push_decimal, push_hex};
+use crate::digits::{big_endian, is_signed_size, little_endian, push_decimal, push_hex};
 use crate::fields::Layout;
 use crate::flags::{FlagName, push_flags_of, push_word_flags};
 use crate::number_tables::{NumberText, Numbers};
@@ -27,7 +27,7 @@ pub enum ShownBy<N, R> {
     Number(N),
     /// A big-endian number of 1, 2, 3, 4 or 8 bytes, with its name.
     BigEndian(N),
-    /// A signed little-endian number of 4 bytes, with its name.
+    /// A signed little-endian number of 1, 2, 4 or 8 bytes, with its name.
     Signed(N),
     /// Little-endian flags of 1, 2, 3, 4 or 8 bytes, without names.
     Flags,
@@ -95,7 +95,7 @@ fn push_big_endian_value(
     push_number(texts, number, out)
 }
 
-/// Appends a space and a signed number with its name, or bytes if they are not 4.
+/// Appends a space and a signed number with its name, or bytes if no signed number has their size.
 fn push_signed_value(
     texts: &[NumberText],
     payload: &[u8],
@@ -104,9 +104,9 @@ fn push_signed_value(
     ensures { Appends out.old out.new result (signed_value (texts_of (λ b. b.now) texts.now) payload.now) }
 {
     match little_endian(payload) {
-        Some(number) if payload.len() == 4 => {
+        Some(number) if is_signed_size(payload.len()) => {
             out.push(b' ')?;
-            push_signed_number(texts, number, out)
+            push_signed_number(texts, payload.len(), number, out)
         }
         _ => push_bytes(payload, out),
     }

@@ -1,11 +1,11 @@
 -- The first word of a text, as a loop cuts it off.
-use Rattle.std.proofs.Common.{◌≡◌, ◌+◌, ◌≤◌, ◌==◌, Bool, ℕ, zero, suc, true, false, not, cond, refl, sym, ap, ◌∙◌, List, [], ◌∷◌, Some, None, take, drop, length, map, arith}
-use Rattle.std.specs.Prelude.{◌||◌}
+use Rattle.std.proofs.Common.{◌≡◌, ◌+◌, ◌≤◌, Bool, ℕ, zero, suc, true, false, not, cond, refl, sym, ap, ◌∙◌, List, [], ◌∷◌, Some, None, take, drop, length, map, arith}
 use Rattle.std.specs.List.{prefix_len}
 use Rattle.link_lines_parts.specs.Lines.{with_byte}
-use Rattle.link_lines_json.specs.Tokens.{begins_in_brackets, ends_word, is_in_brackets, is_plain_in_word, next_region, terms_of, tokens, without_last, without_space, word_size, words_in}
+use Rattle.link_lines_json.specs.Tokens.{begins_in_brackets, ends_word, is_in_brackets, next_region, terms_of, tokens, without_last, without_space, word_size, words_in}
+use Rattle.link_lines_json.specs.Runs.{is_simple}
 use Rattle.link_lines_json.specs.declared.tokens.Region.{Region}
-use Rattle.link_lines_json.specs.declared.tokens.Region.TheVariants.{Word, Quotes, Brackets}
+use Rattle.link_lines_json.specs.declared.tokens.Region.TheVariants.{Word}
 
 -- A first word of this length, and the words that follow it.
 abbrev words_at : List ℕ → ℕ → List (List ℕ)
@@ -35,28 +35,24 @@ pub word_within : (p : Region) (t : List ℕ) → word_size p t ≤ length t
 word_within p [] = omega arith
 word_within p (c ∷ t) = within_by (word_size (next_region p c) t) (length t) (ends_word p c) (word_within (next_region p c) t)
 
--- ---- words without quotes and brackets
+-- ---- words of simple bytes
 
-plain_bits : (space newline quote bracket : Bool) → not (space || (newline || (quote || bracket))) ≡ true → (not (not (space || newline)) ≡ false) × (cond quote Quotes (cond bracket Brackets Word) ≡ Word)
-plain_bits true n q b h = absurd cc
-plain_bits false true q b h = absurd cc
-plain_bits false false true b h = absurd cc
-plain_bits false false false true h = absurd cc
-plain_bits false false false false h = (refl, refl)
+simple_goes_on : (c : ℕ) → is_simple c ≡ true → (ends_word Word c ≡ false) × (next_region Word c ≡ Word)
+simple_goes_on c h = grind arith
 
-plain_step : (c n : ℕ) (t : List ℕ) → ends_word Word c ≡ false → next_region Word c ≡ Word → word_size Word t ≡ n + word_size Word (drop n t) → word_size Word (c ∷ t) ≡ (1 + n) + word_size Word (drop (1 + n) (c ∷ t))
-plain_step c n t e r h =
+simple_step : (c n : ℕ) (t : List ℕ) → ends_word Word c ≡ false → next_region Word c ≡ Word → word_size Word t ≡ n + word_size Word (drop n t) → word_size Word (c ∷ t) ≡ (1 + n) + word_size Word (drop (1 + n) (c ∷ t))
+simple_step c n t e r h =
     let here : word_size Word (c ∷ t) ≡ 1 + word_size Word t = ap (λ b. cond b 0 (1 + word_size (next_region Word c) t)) e ∙ ap (λ p. 1 + word_size p t) r in
     let rest : word_size Word (drop n t) ≡ word_size Word (drop (1 + n) (c ∷ t)) = ap (λ m. word_size Word (drop m (c ∷ t))) {x = suc n} {y = 1 + n} (omega arith) in
     omega (arith, here, h, rest)
 
--- The bytes of a word before its first quote or bracket belong to it.
-pub plain_part : (t : List ℕ) → word_size Word t ≡ prefix_len is_plain_in_word t + word_size Word (drop (prefix_len is_plain_in_word t) t)
-plain_part [] = refl
-plain_part (c ∷ t) =
-    let n = prefix_len is_plain_in_word t in
-    elim (is_plain_in_word c) as (λ b. is_plain_in_word c ≡ b → word_size Word (c ∷ t) ≡ cond b (1 + n) 0 + word_size Word (drop (cond b (1 + n) 0) (c ∷ t))) [
-      | true ↦ (λ e. let p = plain_bits (c == 32) (c == 10) (c == 34) (c == 40) e in plain_step c n t p.0 p.1 (plain_part t))
+-- The simple bytes at the start of a word belong to it.
+pub simple_part : (t : List ℕ) → word_size Word t ≡ prefix_len is_simple t + word_size Word (drop (prefix_len is_simple t) t)
+simple_part [] = refl
+simple_part (c ∷ t) =
+    let n = prefix_len is_simple t in
+    elim (is_simple c) as (λ b. is_simple c ≡ b → word_size Word (c ∷ t) ≡ cond b (1 + n) 0 + word_size Word (drop (cond b (1 + n) 0) (c ∷ t))) [
+      | true ↦ (λ e. let p = simple_goes_on c e in simple_step c n t p.0 p.1 (simple_part t))
       | false ↦ (λ e. omega arith)
     ] refl
 

@@ -1,5 +1,5 @@
 -- Names at the start of lines.
-use Rattle.std.specs.Prelude.{ℕ, List, [], ◌∷◌, codes}
+use Rattle.std.specs.Prelude.{ℕ, ◌-◌, ◌==◌, ◌||◌, ◌&&◌, nat_le, Bool, false, cond, List, [], ◌∷◌, codes, length, slice_index}
 
 -- The attributes whose values are bytes in hex, which may look like numbers.
 unfoldable pub bytes_names : List (List ℕ)
@@ -77,6 +77,27 @@ bytes_names =
     codes "VNIFILTER_ENTRY_STATS_PAD" ∷
     codes "VXCAN_INFO_PEER" ∷
     []
+
+-- Whether some of these names end in these two letters.
+abbrev pub ends_as_bytes : ℕ → ℕ → Bool
+ends_as_bytes before last =
+    cond (before == 65) ((last == 67) || (last == 68))
+    (cond (before == 67) (last == 69)
+    (cond (before == 68) ((nat_le 50 last && nat_le last 53) || (last == 82))
+    (cond (before == 69) ((last == 67) || ((last == 77) || (last == 82)))
+    (cond ((before == 70) || (before == 71)) (last == 79)
+    (cond (before == 73) ((last == 68) || (last == 69))
+    (cond (before == 78) (last == 83)
+    (cond (before == 79) (last == 78)
+    (cond (before == 80) (last == 80)
+    (cond (before == 82) (last == 72)
+    (cond (before == 83) ((last == 83) || (last == 84))
+    (cond (before == 84) ((last == 65) || ((last == 83) || (last == 89))) false)))))))))))
+
+-- Whether a name ends as some of these do.
+abbrev pub has_end_of_bytes : List ℕ → Bool
+has_end_of_bytes name =
+    nat_le 2 (length name) && ends_as_bytes (slice_index name (length name - 2)) (slice_index name (length name - 1))
 
 -- The attributes whose values are any number of numbers.
 unfoldable pub number_list_names : List (List ℕ)

@@ -1,5 +1,5 @@
 -- Strings of JSON (RFC 8259).
-use Rattle.std.specs.Prelude.{ℕ, ◌==◌, ◌||◌, ◌&&◌, nat_le, nat_lt, Bool, true, false, not, cond, List, [], ◌∷◌, ◌++◌, codes, flat_map}
+use Rattle.std.specs.Prelude.{ℕ, ◌==◌, ◌||◌, ◌&&◌, nat_le, nat_lt, Bool, true, false, cond, List, [], ◌∷◌, ◌++◌, codes, flat_map}
 use Rattle.link_lines_values.specs.Digits.{hex_byte}
 
 -- A byte of a string: `\"` and `\\` as they are in a line too, and `\u00nn` for a byte under 32 or from 127 on.
@@ -7,10 +7,6 @@ abbrev pub escaped : ℕ → List ℕ
 escaped c =
     cond ((c == 34) || (c == 92)) (92 ∷ c ∷ [])
     (cond (nat_le 32 c && nat_lt c 127) (c ∷ []) (codes "\\u00" ++ hex_byte c))
-
--- Whether a byte of a string stands for itself.
-abbrev pub is_plain : ℕ → Bool
-is_plain c = (nat_le 32 c && nat_lt c 127) && not ((c == 34) || (c == 92))
 
 -- The string of a text.
 abbrev pub string : List ℕ → List ℕ

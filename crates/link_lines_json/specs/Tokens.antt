@@ -1,5 +1,5 @@
 -- The words of a line, where a text in quotes or in brackets is one word, and the brackets after a word.
-use Rattle.std.specs.Prelude.{ℕ, ◌+◌, ◌-◌, ◌==◌, ◌||◌, Bool, false, not, cond, List, [], ◌∷◌, length, take, drop, map}
+use Rattle.std.specs.Prelude.{ℕ, ◌+◌, ◌-◌, ◌==◌, ◌&&◌, Bool, true, false, not, cond, List, [], ◌∷◌, length, take, drop, map}
 use Rattle.std.specs.Prelude.{Option, Some, None, option_map}
 use Rattle.link_lines_parts.specs.Lines.{is_in_word, with_byte}
 use Rattle.link_lines_json.specs.declared.tokens.Region.{Region}
@@ -22,10 +22,6 @@ ends_word region c = false
 abbrev pub word_size : Region → List ℕ → ℕ
 word_size region [] = 0
 word_size region (c ∷ text) = cond (ends_word region c) 0 (1 + word_size (next_region region c) text)
-
--- Whether a byte of a word neither ends it nor begins a text in quotes or brackets.
-abbrev pub is_plain_in_word : ℕ → Bool
-is_plain_in_word c = not ((c == 32) || ((c == 10) || ((c == 34) || (c == 40))))
 
 -- Whether the word before a text continues in it.
 abbrev pub continues : Region → List ℕ → Bool
@@ -66,6 +62,11 @@ is_in_brackets (c ∷ word) = c == 40
 abbrev pub begins_in_brackets : List ℕ → Bool
 begins_in_brackets [] = false
 begins_in_brackets (c ∷ text) = is_in_brackets text
+
+-- Whether a term without brackets ends before a text.
+abbrev pub ends_term : List ℕ → Bool
+ends_term [] = true
+ends_term (c ∷ text) = (c == 32) && not (is_in_brackets text)
 
 -- A word without its last byte, the closing bracket.
 abbrev pub without_last : List ℕ → List ℕ

@@ -161,6 +161,19 @@ abbrev pub assignments_json : Bool → List TermText → List ℕ
 assignments_json after [] = []
 assignments_json after (term ∷ terms) = (separator after ++ assignment_json term) ++ assignments_json true terms
 
+-- The first field of a record.
+abbrev pub first_assignment_json : Bool → List TermText → List ℕ
+first_assignment_json after [] = []
+first_assignment_json after (term ∷ terms) = separator after ++ assignment_json term
+
+-- The field `name=number` of a record.
+abbrev pub number_field : List ℕ → List ℕ → TermText
+number_field name number = (name ++ 61 ∷ number, None)
+
+-- It as JSON, if each byte of the name stands for itself.
+abbrev pub number_field_json : List ℕ → List ℕ → List ℕ
+number_field_json name number = 34 ∷ (name ++ (codes "\": " ++ number))
+
 -- Whether a term is a decimal number alone.
 abbrev pub is_plain_number : TermText → Bool
 is_plain_number (word, None) = is_number word

@@ -243,7 +243,7 @@ fn push_nested_payload(name: &[u8], text: &[u8], out: &mut Vec<u8>) -> Result<()
 }
 
 /// Appends the nested bit and the payload of an attribute with this name.
-#[tactic(auto, unfolding(crate::specs::Attributes::nested_and_payload))]
+#[tactic(auto, unfolding(crate::specs::Attributes::nested_and_payload, crate::specs::Attributes::payload_json))]
 fn push_nested_and_payload(name: &[u8], text: &[u8], out: &mut Vec<u8>) -> Result<(), AllocError>
     ensures { Appends out.old out.new result (nested_and_payload name.now (terms text.now)) }
 {
@@ -253,7 +253,8 @@ fn push_nested_and_payload(name: &[u8], text: &[u8], out: &mut Vec<u8>) -> Resul
     if term.word == b"nested".as_slice() {
         return push_nested_payload(name, rest, out);
     }
-    push_payload(name, text, out)
+    out.extend_from_slice(b", ")?;
+    push_first_payload(name, text, term, rest, out)
 }
 
 /// Appends an attribute with a name.

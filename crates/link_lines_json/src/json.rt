@@ -13,7 +13,8 @@ use crate::attributes::{first_of, is_lower, push_entry, push_terms_string};
 use crate::strings::push_string;
 use crate::tokens::{Term, split_term};
 use crate::values::{push_field, push_fields, push_key, push_word};
-use link_lines_parts::{line_parts, split_line, without_newline};
+use crate::words::first_parts;
+use link_lines_parts::{split_line, without_newline};
 use std::alloc::AllocError;
 
 /// Appends the number of a message type without a name, and the fields after it.
@@ -154,6 +155,9 @@ fn push_next_entry(lists: usize, depth: usize, out: &mut Vec<u8>) -> Result<(), 
     if lists < depth {
         return out.extend_from_slice(b", \"nested\": [{");
     }
+    if lists == depth {
+        return out.extend_from_slice(b"}, {");
+    }
     out.extend_from_slice(b"}")?;
     push_closing(lists - depth, out)?;
     out.extend_from_slice(b", {")
@@ -218,7 +222,7 @@ fn push_line(lists: usize, line: &[u8], out: &mut Vec<u8>) -> Result<usize, Allo
     ensures appends { Appends out.old out.new result (line_json lists line.now) }
     ensures open { IfOk result (λ after. after ≡ open_after lists line.now) }
 {
-    let parts = line_parts(line);
+    let parts = first_parts(line);
     let text = without_newline(parts.rest);
     if is_member(lists, parts.word) {
         push_next_member(parts.word, text, out)?;
@@ -247,7 +251,7 @@ fn push_lines(lines: &[u8], out: &mut Vec<u8>) -> Result<(), AllocError>
 fn push_start(line: &[u8], out: &mut Vec<u8>) -> Result<(), AllocError>
     ensures { Appends out.old out.new result (123 ∷ typed_json (first_word line.now) (line_terms line.now)) }
 {
-    let parts = line_parts(line);
+    let parts = first_parts(line);
     out.extend_from_slice(b"{")?;
     push_typed(parts.word, without_newline(parts.rest), out)
 }

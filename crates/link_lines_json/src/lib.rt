@@ -4,9 +4,11 @@
 mod attributes;
 mod json;
 mod names;
+mod runs;
 mod strings;
 mod tokens;
 mod values;
+mod words;
 
 pub use json::push_json;
 pub use names::{BYTES, NUMBER_LISTS};

@@ -1,7 +1,7 @@
 //! Names of attributes whose values have a form of their own.
 
 ghost use Rattle.std.specs.Prelude.{◌≡◌};
-ghost use Rattle.link_lines_json.specs.Names.{bytes_names, number_list_names};
+ghost use Rattle.link_lines_json.specs.Names.{bytes_names, ends_as_bytes, has_end_of_bytes, number_list_names};
 ghost use Rattle.link_lines_parts.specs.Names.{is_among};
 
 use link_lines_parts::is_among;
@@ -91,12 +91,43 @@ pub const NUMBER_LISTS: &[&[u8]] = &[
     b"TCA_STAB_DATA",
 ];
 
-/// Returns whether the values of attributes with this name are bytes in hex.
-#[tactic(auto, unfolding(crate::specs::Names::bytes_names))]
+/// Returns whether some name of `BYTES` ends in these two letters. If a name with another end is
+/// added to `BYTES`, the proof of `is_bytes` fails until its end is added here.
+fn ends_as_bytes(before: u8, last: u8) -> bool
+    ensures { result ≡ ends_as_bytes before last }
+{
+    match before {
+        b'A' => last == b'C' || last == b'D',
+        b'C' => last == b'E',
+        b'D' => (last >= b'2' && last <= b'5') || last == b'R',
+        b'E' => last == b'C' || last == b'M' || last == b'R',
+        b'F' | b'G' => last == b'O',
+        b'I' => last == b'D' || last == b'E',
+        b'N' => last == b'S',
+        b'O' => last == b'N',
+        b'P' => last == b'P',
+        b'R' => last == b'H',
+        b'S' => last == b'S' || last == b'T',
+        b'T' => last == b'A' || last == b'S' || last == b'Y',
+        _ => false,
+    }
+}
+
+/// Returns whether a name ends as some name of `BYTES` does.
+fn has_end_of_bytes(name: &[u8]) -> bool
+    ensures { result ≡ has_end_of_bytes name.now }
+{
+    let len = name.len();
+    len >= 2 && ends_as_bytes(name[len - 2], name[len - 1])
+}
+
+/// Returns whether the values of attributes with this name are bytes in hex. The names of most
+/// numbers end otherwise, and aren't searched for.
+#[tactic(auto, using(crate::proofs::NameEnds::ends_differ), unfolding(crate::specs::Names::bytes_names))]
 pub(crate) fn is_bytes(name: &[u8]) -> bool
     ensures { result ≡ is_among bytes_names name.now }
 {
-    is_among(BYTES, name)
+    has_end_of_bytes(name) && is_among(BYTES, name)
 }
 
 /// Returns whether the values of attributes with this name are lists of numbers.

@@ -1,10 +1,10 @@
 //! Strings of JSON (RFC 8259).
 
 ghost use Rattle.std.specs.Prelude.{◌≡◌, flat_map};
-ghost use Rattle.std.specs.List.{prefix_len};
 ghost use Rattle.link_lines_values.specs.Appends.{Appends};
-ghost use Rattle.link_lines_json.specs.Strings.{after_backslash, escaped, is_plain, requoted, string};
+ghost use Rattle.link_lines_json.specs.Strings.{after_backslash, escaped, requoted, string};
 
+use crate::runs::simple_len;
 use link_lines_values::hex_byte;
 use std::alloc::AllocError;
 
@@ -22,27 +22,8 @@ fn push_escaped(byte: u8, out: &mut Vec<u8>) -> Result<(), AllocError>
     out.extend_from_slice(&hex_byte(byte))
 }
 
-/// Returns whether a byte of a string stands for itself.
-fn is_plain(byte: u8) -> bool
-    ensures { result ≡ is_plain byte }
-{
-    byte >= 32 && byte < 127 && !(byte == b'"' || byte == b'\\')
-}
-
-/// Returns the number of bytes before the first one that is escaped.
-fn plain_len(text: &[u8]) -> usize
-    ensures { result ≡ prefix_len is_plain text.now }
-{
-    for (i, byte) in text.iter().enumerate() {
-        if !is_plain(*byte) {
-            return i;
-        }
-    }
-    text.len()
-}
-
 /// Appends bytes that stand for themselves.
-fn push_plain(text: &[u8], out: &mut Vec<u8>) -> Result<(), AllocError>
+fn push_simple(text: &[u8], out: &mut Vec<u8>) -> Result<(), AllocError>
     ensures { Appends out.old out.new result text.now }
 {
     out.extend_from_slice(text)
@@ -58,14 +39,14 @@ fn push_escaped_bytes(text: &[u8], out: &mut Vec<u8>) -> Result<(), AllocError>
     Ok(())
 }
 
-/// Appends the bytes of a string, without its quotes. Those before the first one that is escaped
+/// Appends the bytes of a string, without its quotes. The simple ones before the first other one
 /// are appended at once, since most strings have no other.
 #[tactic(auto, using(link_lines_parts::proofs::FirstParts::prefix_within))]
 pub(crate) fn push_escaped_text(text: &[u8], out: &mut Vec<u8>) -> Result<(), AllocError>
     ensures { Appends out.old out.new result (flat_map escaped text.now) }
 {
-    let (plain, rest) = text.split_at(plain_len(text));
-    push_plain(plain, out)?;
+    let (simple, rest) = text.split_at(simple_len(text));
+    push_simple(simple, out)?;
     push_escaped_bytes(rest, out)
 }
 

@@ -2,10 +2,11 @@
 //! after a word.
 
 ghost use Rattle.std.specs.Prelude.{◌≡◌, ◌∷◌, [], ◌<◌, length, IfNone, IfSome};
-ghost use Rattle.std.specs.List.{prefix_len};
-ghost use Rattle.link_lines_json.specs.Tokens.{begins_in_brackets, ends_word, is_in_brackets, is_plain_in_word, next_region};
+ghost use Rattle.link_lines_json.specs.Tokens.{begins_in_brackets, ends_term, ends_word, is_in_brackets, next_region};
 ghost use Rattle.link_lines_json.specs.Tokens.{term_text, terms, tokens};
 ghost use Rattle.link_lines_json.specs.Tokens.{without_last, word_size};
+
+use crate::runs::simple_len;
 
 /// The region of a line that a byte is in.
 #[derive(Clone, Copy, PartialEq, Eq)]
@@ -64,19 +65,6 @@ impl Region {
     }
 }
 
-/// Returns the number of bytes before the first one that ends a word or begins a text in quotes or
-/// brackets.
-fn plain_len(text: &[u8]) -> usize
-    ensures { result ≡ prefix_len is_plain_in_word text.now }
-{
-    for (i, byte) in text.iter().enumerate() {
-        if *byte == b' ' || *byte == b'\n' || *byte == b'"' || *byte == b'(' {
-            return i;
-        }
-    }
-    text.len()
-}
-
 /// Returns the number of bytes up to the end of the word that a text begins in, byte by byte.
 fn size_by_regions(start: Region, text: &[u8]) -> usize
     ensures { result ≡ word_size start text.now }
@@ -92,15 +80,15 @@ fn size_by_regions(start: Region, text: &[u8]) -> usize
 }
 
 /// Returns the number of bytes up to the end of the word that a text begins in. Most words have
-/// neither quotes nor brackets.
-#[tactic(auto, using(link_lines_parts::proofs::FirstParts::prefix_within, crate::proofs::FirstTokens::word_within, crate::proofs::FirstTokens::plain_part))]
+/// simple bytes alone.
+#[tactic(auto, using(link_lines_parts::proofs::FirstParts::prefix_within, crate::proofs::FirstTokens::word_within, crate::proofs::FirstTokens::simple_part))]
 fn word_size(start: Region, text: &[u8]) -> usize
     ensures { result ≡ word_size start text.now }
 {
     match start {
         Region::Word => {
-            let (plain, rest) = text.split_at(plain_len(text));
-            plain.len() + size_by_regions(Region::Word, rest)
+            let (simple, rest) = text.split_at(simple_len(text));
+            simple.len() + size_by_regions(Region::Word, rest)
         }
         _ => size_by_regions(start, text),
     }
@@ -137,6 +125,17 @@ fn begins_in_brackets(text: &[u8]) -> bool
     match text {
         [_, first, ..] => *first == b'(',
         _ => false,
+    }
+}
+
+/// Returns whether a term without brackets ends before a text: whether that is empty, or begins with
+/// a space and a word that isn't in brackets.
+pub(crate) fn ends_term(text: &[u8]) -> bool
+    ensures { result ≡ ends_term text.now }
+{
+    match text {
+        [first, ..] => *first == b' ' && !begins_in_brackets(text),
+        [] => true,
     }
 }
 

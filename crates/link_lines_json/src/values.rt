@@ -1,25 +1,36 @@
 //! Values and fields of lines as JSON.
 
-ghost use Rattle.std.specs.Prelude.{◌≡◌, ◌<◌, false, drop, map, flat_map, option_map};
+ghost use Rattle.std.specs.Prelude.{◌≡◌, ◌∷◌, ◌<◌, false, drop, length, map, flat_map, option_map, IfOk, IfSome};
 ghost use Rattle.link_lines_values.specs.Appends.{Appends};
 ghost use Rattle.link_lines_parts.specs.Lines.{words_of};
 ghost use Rattle.link_lines_json.specs.Tokens.{term_text, terms};
 ghost use Rattle.link_lines_json.specs.Values.{are_numbers, assignment_json, assignments_json, begins_with_equals_sign};
-ghost use Rattle.link_lines_json.specs.Values.{elements_json, field_json, fields_json};
+ghost use Rattle.link_lines_json.specs.Values.{elements_json, field_json, fields_json, first_assignment_json};
 ghost use Rattle.link_lines_json.specs.Values.{flag_json, flags_json, hex_after, hex_digit, hex_value, is_address_field};
 ghost use Rattle.link_lines_json.specs.Values.{is_assignment, is_bare, is_digit, is_hex, is_in_key, is_natural, is_number};
+ghost use Rattle.link_lines_json.specs.Values.{number_field, number_field_json};
 ghost use Rattle.link_lines_json.specs.Values.{is_plain_number, is_quoted, key, key_size, members_json, next_key, separator, set_json};
 ghost use Rattle.link_lines_json.specs.Values.{text_json, text_or_word, value_json, with_digit, without_sign, word_json};
 ghost use Rattle.std.specs.List.{list_all, prefix_len};
 
-use crate::strings::{push_requoted, push_string};
-use crate::tokens::{Term, split_term};
+use crate::runs::simple_len;
+use crate::strings::{push_escaped_text, push_requoted, push_string};
+use crate::tokens::{Term, ends_term, split_term};
 use link_lines_parts::split_word;
 use link_lines_values::push_decimal;
 use std::alloc::AllocError;
 
 /// The numbers of 15 hex digits, one less than a number of 64 bits has.
 const FIFTEEN_DIGITS: u64 = 1 << 60;
+
+/// A field of a record, `name=number`.
+#[derive(Clone, Copy)]
+struct NumberField<'a> {
+    /// Its name.
+    name: &'a [u8],
+    /// Its value, a decimal number.
+    number: &'a [u8],
+}
 
 /// Returns a word without its first byte.
 fn without_first(word: &[u8]) -> &[u8]
@@ -140,8 +151,9 @@ pub(crate) fn push_separator(after: bool, out: &mut Vec<u8>) -> Result<(), Alloc
 pub(crate) fn push_key(name: &[u8], out: &mut Vec<u8>) -> Result<(), AllocError>
     ensures { Appends out.old out.new result (key name.now) }
 {
-    push_string(name, out)?;
-    out.extend_from_slice(b": ")
+    out.extend_from_slice(b"\"")?;
+    push_escaped_text(name, out)?;
+    out.extend_from_slice(b"\": ")
 }
 
 /// Appends the name of a member after another one.
@@ -368,17 +380,72 @@ fn push_assignment(term: Term<'_>, out: &mut Vec<u8>) -> Result<(), AllocError>
     push_value(false, value, out)
 }
 
+/// Returns the first field of a record, if its name has simple bytes alone and its value is a
+/// decimal number without brackets after it, as in most records; and what follows it.
+#[tactic(auto, using(link_lines_parts::proofs::FirstParts::prefix_within))]
+fn split_number_field(text: &[u8]) -> Option<(NumberField<'_>, &[u8])>
+    ensures term { IfSome result (λ r. terms text.now ≡ number_field r.0.name.now r.0.number.now ∷ terms r.1.now) }
+    ensures json { IfSome result (λ r. assignment_json (number_field r.0.name.now r.0.number.now)
+        ≡ number_field_json r.0.name.now r.0.number.now) }
+    ensures shorter { IfSome result (λ r. length r.1.now < length text.now) }
+{
+    let Some((space, words)) = text.split_first() else {
+        return None;
+    };
+    let (name, assigned) = words.split_at(simple_len(words));
+    let value = without_first(assigned);
+    let (number, rest) = value.split_at(simple_len(value));
+    if *space == b' ' && begins_with_equals_sign(assigned) && is_number(number) && ends_term(rest) {
+        Some((NumberField { name, number }, rest))
+    } else {
+        None
+    }
+}
+
+/// Appends a field of a record whose value is a number, and whose name has simple bytes alone.
+fn push_number_field(field: NumberField<'_>, out: &mut Vec<u8>) -> Result<(), AllocError>
+    ensures { Appends out.old out.new result (number_field_json field.entry.name.now field.entry.number.now) }
+{
+    out.extend_from_slice(b"\"")?;
+    out.extend_from_slice(field.name)?;
+    out.extend_from_slice(b"\": ")?;
+    out.extend_from_slice(field.number)
+}
+
+/// Appends the first field of a record, after others or not. Returns what follows it.
+fn push_first_assignment<'a>(
+    after: bool,
+    text: &'a [u8],
+    out: &mut Vec<u8>,
+) -> Result<&'a [u8], AllocError>
+    requires { 0 < length text.now }
+    ensures appends { Appends out.old out.new result (first_assignment_json after (terms text.now)) }
+    ensures rest { IfOk result (λ rest. terms rest.now ≡ drop 1 (terms text.now)) }
+    ensures shorter { IfOk result (λ rest. length rest.now < length text.now) }
+{
+    if let Some((field, rest)) = split_number_field(text) {
+        push_separator(after, out)?;
+        push_number_field(field, out)?;
+        return Ok(rest);
+    }
+    let Some((term, rest)) = split_term(text) else {
+        return Ok(b"");
+    };
+    push_separator(after, out)?;
+    push_assignment(term, out)?;
+    Ok(rest)
+}
+
 /// Appends fields as records have them.
+#[tactic(auto, unfolding(crate::specs::Tokens::terms))]
 pub(crate) fn push_assignments(text: &[u8], out: &mut Vec<u8>) -> Result<(), AllocError>
     ensures { Appends out.old out.new result (assignments_json false (terms text.now)) }
 {
     let mut is_after = false;
     let mut left = text;
-    while let Some((term, rest)) = split_term(left) {
-        push_separator(is_after, out)?;
-        push_assignment(term, out)?;
+    'fields: while !left.is_empty() {
+        left = push_first_assignment(is_after, left, out)?;
         is_after = true;
-        left = rest;
     }
     Ok(())
 }

@@ -1,7 +1,0 @@
-use Rattle.std.proofs.Common.{◌≡◌, ◌+◌, drop}
-use Rattle.std.specs.List.{prefix_len}
-use Rattle.link_lines_json.specs.Strings.{is_plain}
-use Rattle.link_lines_json.proofs.strings.plain_len.Given as goal
-
-abbrev pub invariant-loop-i : goal.invariant-loop-i
-invariant-loop-i l = l.i + prefix_len is_plain (drop l.i l.text) ≡ prefix_len is_plain l.text

@@ -13,7 +13,7 @@ declare -gA _linkcap_options=(
     ["linkrec strace"]="--help --output --answers"
     ["linkrec cut"]="--help --output --at --type --legal"
     ["linkrec split"]="--help"
-    ["linkgold"]="--help --update --effect --all --setup --here --may-fail --legal --keep-going --reasons --numbers --counters --without --replace --only --link --ignore-order"
+    ["linkgold"]="--help --update --effect --all --setup --here --may-fail --legal --keep-going --reasons --numbers --counters --padding --without --replace --only --link --ignore-order"
     ["linkjson"]="--help --without --without-numbers --replace --link --only --offsets --keep-going --limit --no-record"
 )
 declare -gA _linkcap_values=(
@@ -61,7 +61,7 @@ _linkcap_value() {
     COMPREPLY=()
     case ${_linkcap_values[$option]} in
         types) _linkcap_list "$_linkcap_types" ;;
-        groups) _linkcap_list "numbers counters indexes" ;;
+        groups) _linkcap_list "numbers counters indexes padding" ;;
         files) _linkcap_files ;;
         ?*) _linkcap_words "${_linkcap_values[$option]}" ;;
     esac

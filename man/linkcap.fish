@@ -26,7 +26,7 @@ function __linkcap_types
 end
 
 function __linkcap_groups
-    __linkcap_list numbers counters indexes
+    __linkcap_list numbers counters indexes padding
 end
 
 # What completes the command after --
@@ -52,7 +52,7 @@ complete -c linkshow -l version -d "the version of linkshow, and the format vers
 complete -c linkdiff -s h -l help -d "show this help message and exit"
 complete -c linkdiff -s q -l quiet -d "prints nothing"
 complete -c linkdiff -l without-numbers -d "sequence and port numbers don't count"
-complete -c linkdiff -l without -x -a '(__linkcap_groups)' -d "these attributes don't count, or what the groups numbers, counters and indexes name"
+complete -c linkdiff -l without -x -a '(__linkcap_groups)' -d "these attributes don't count, or what the groups numbers, counters, indexes and padding name"
 complete -c linkdiff -l replace -x -d "puts NAME in place of names of links and hardware addresses that match"
 complete -c linkdiff -l link -x -d "messages about this link alone count"
 complete -c linkdiff -l only -x -a '(__linkcap_types)' -d "messages of these types alone count"
@@ -111,13 +111,14 @@ complete -c linkgold -l keep-going -d "compares messages with an invalid body by
 complete -c linkgold -l reasons -d "shows the kernel's words for what it refused, which change from kernel to kernel"
 complete -c linkgold -l numbers -d "keeps numbers"
 complete -c linkgold -l counters -d "keeps counters"
+complete -c linkgold -l padding -d "keeps padding"
 complete -c linkgold -l without -x -a '(__linkcap_groups)' -d "leaves out these attributes too"
 complete -c linkgold -l replace -x -d "puts NAME in place of names of links and hardware addresses that match"
 complete -c linkgold -l only -x -a '(__linkcap_types)' -d "messages of these types alone count"
 complete -c linkgold -l link -x -d "messages about this link alone count"
 complete -c linkgold -l ignore-order -d "compares the attributes of each list without their order"
 complete -c linkjson -s h -l help -d "show this help message and exit"
-complete -c linkjson -l without -x -a '(__linkcap_groups)' -d "without these attributes, or what the groups numbers, counters and indexes name"
+complete -c linkjson -l without -x -a '(__linkcap_groups)' -d "without these attributes, or what the groups numbers, counters, indexes and padding name"
 complete -c linkjson -l without-numbers -d "as --without numbers"
 complete -c linkjson -l replace -x -d "puts NAME in place of names of links and hardware addresses that match"
 complete -c linkjson -l link -x -d "messages about this link alone"

@@ -19,7 +19,7 @@ local -a _linkcap_options_linkdiff=(
     '(-h --help)'{-h,--help}"[show this help message and exit]"
     '(-q --quiet)'{-q,--quiet}"[prints nothing]"
     --without-numbers"[sequence and port numbers don't count]"
-    --without"[these attributes don't count, or what the groups numbers, counters and indexes name]:without:_linkcap_groups"
+    --without"[these attributes don't count, or what the groups numbers, counters, indexes and padding name]:without:_linkcap_groups"
     --replace"[puts NAME in place of names of links and hardware addresses that match]:replace:"
     --link"[messages about this link alone count]:link:"
     --only"[messages of these types alone count]:only:_linkcap_types"
@@ -98,6 +98,7 @@ local -a _linkcap_options_linkgold=(
     --reasons"[shows the kernel's words for what it refused, which change from kernel to kernel]"
     --numbers"[keeps numbers]"
     --counters"[keeps counters]"
+    --padding"[keeps padding]"
     --without"[leaves out these attributes too]:without:_linkcap_groups"
     --replace"[puts NAME in place of names of links and hardware addresses that match]:replace:"
     --only"[messages of these types alone count]:only:_linkcap_types"
@@ -106,7 +107,7 @@ local -a _linkcap_options_linkgold=(
 )
 local -a _linkcap_options_linkjson=(
     '(-h --help)'{-h,--help}"[show this help message and exit]"
-    --without"[without these attributes, or what the groups numbers, counters and indexes name]:without:_linkcap_groups"
+    --without"[without these attributes, or what the groups numbers, counters, indexes and padding name]:without:_linkcap_groups"
     --without-numbers"[as --without numbers]"
     --replace"[puts NAME in place of names of links and hardware addresses that match]:replace:"
     --link"[messages about this link alone]:link:"
@@ -131,7 +132,7 @@ local -a _linkcap_types=(noop error done overrun tstamp newlink dellink getlink 
 
 # Words for a list with commas between them. Words that are none of them may precede them.
 _linkcap_types() { _sequence compadd - $_linkcap_types }
-_linkcap_groups() { _sequence compadd - numbers counters indexes }
+_linkcap_groups() { _sequence compadd - numbers counters indexes padding }
 _linkcap_files() { _files }
 
 # Completes the command after --. The status is 1 if -- isn't before the word.

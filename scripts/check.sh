@@ -235,7 +235,6 @@ json+='"flags": {"value": 0, "flags": []}, "change": {"value": 0, "flags": []}},
 json+='"attributes": [{"name": "IFLA_EXT_MASK", "value": 9, "flags": ["Vf", "SkipStats"]}, {"name": "IFLA_IFNAME", "value": "lo", "quoted": true}]}'
 succeeds "stored lines as JSON" "$top/scripts/tests/lines.py"
 succeeds "lines with what a record knows" "$top/scripts/tests/record.py"
-succeeds "padding of routes that is taken for zeros" "$top/scripts/tests/padding_test.py"
 expect "a capture as JSON" 0 "" "$linkjson" a <<< "$json"
 expect "JSON of linkshow" 0 "" "$LINKSHOW" --json a <<< "$json"
 # an RTM_NEWLINK whose IFLA_IFNAME has control characters, a quotation mark and a backslash

@@ -21,9 +21,6 @@ RTM_NEWLINK, RTM_DELLINK, RTM_GETLINK, RTM_SETLINK = 16, 17, 18, 19
 IFLA_IFNAME, IFLA_LINKINFO, IFLA_NET_NS_PID, IFLA_NET_NS_FD = 3, 18, 19, 28  # linux/if_link.h
 IFLA_INFO_DATA = 2
 VETH_INFO_PEER = 1  # linux/veth.h, and VXCAN_INFO_PEER of linux/can/vxcan.h
-ROUTES = (24, 25, 26)  # RTM_NEWROUTE, RTM_DELROUTE, RTM_GETROUTE
-RTMSG_SIZE, RTNEXTHOP_SIZE = 12, 8  # linux/rtnetlink.h, struct rtmsg, struct rtnexthop
-RTA_METRICS, RTA_MULTIPATH, RTA_ENCAP = 8, 9, 22
 
 MESSAGE_TYPES = {  # linux/rtnetlink.h
     1: "NLMSG_NOOP", 2: "NLMSG_ERROR", 3: "NLMSG_DONE", 4: "NLMSG_OVERRUN", 15: "NLMSG_TSTAMP",
@@ -143,42 +140,6 @@ def attributes(data, offset, end):
         if not ATTRIBUTE_HEADER_SIZE <= length <= end - offset:
             return
         yield kind & KIND_BITS, data[offset + ATTRIBUTE_HEADER_SIZE:offset + length]
-        offset += padded_length(length)
-
-
-def with_zero_padding(capture):
-    """The capture with zeros after the attributes of its routes, in place of what iproute2's memory had there. No kernel reads
-    these bytes."""
-    made = bytearray(capture)
-    for offset, length in messages(capture):
-        if message_type(capture, offset) in ROUTES:
-            for start, stop in _route_padding(capture, offset + HEADER_SIZE + RTMSG_SIZE, offset + length):
-                made[start:stop] = bytes(stop - start)
-    return bytes(made)
-
-
-def _route_padding(data, offset, end, is_outer=True):
-    """The start and the end of the padding after each attribute of a list: of a route or a next hop, if it is an outer one, and
-    then also of its metrics, encapsulation and next hops."""
-    while offset + ATTRIBUTE_HEADER_SIZE <= end:
-        length, kind = struct.unpack_from("<HH", data, offset)
-        stop, payload = offset + length, offset + ATTRIBUTE_HEADER_SIZE
-        if not payload <= stop <= end:
-            return
-        offset += padded_length(length)
-        yield stop, min(offset, end)
-        if is_outer and kind & KIND_BITS in (RTA_METRICS, RTA_ENCAP):
-            yield from _route_padding(data, payload, stop, False)
-        elif is_outer and kind & KIND_BITS == RTA_MULTIPATH:
-            yield from _next_hop_padding(data, payload, stop)
-
-
-def _next_hop_padding(data, offset, end):
-    while offset + RTNEXTHOP_SIZE <= end:
-        length, = struct.unpack_from("<H", data, offset)
-        if not RTNEXTHOP_SIZE <= length <= end - offset:
-            return
-        yield from _route_padding(data, offset + RTNEXTHOP_SIZE, offset + length)
         offset += padded_length(length)
 
 

@@ -32,7 +32,8 @@ def names_with(*formats):
     return {name for name, style in rows if style.split()[0] in formats and name != "[]"}
 
 
-BYTES = names_with("bytes", "hardware_address", "bridge_id")
+# A line of padding has bytes too, as if it were an attribute below its own.
+BYTES = names_with("bytes", "hardware_address", "bridge_id") | {"padding"}
 NUMBER_LISTS = names_with("numbers")
 # The group has two kinds of names: those of numbers of namespaces end alike, and all others hold indexes of links.
 LINK_INDEXES = {name for name in linkshow.GROUPS["indexes"] if not name.endswith("NETNSID")}

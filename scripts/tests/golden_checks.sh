@@ -52,8 +52,22 @@ done
 # ---- what a golden file leaves out
 
 succeeds "a golden file says what it leaves out" bash -c '"$0" --update --without IFLA_EXT_MASK headed.made a && [ "$(head -n 3 headed.made)" = "# linkcap lines, format 4
-# leaves out: numbers, counters, IFLA_EXT_MASK, probes
+# leaves out: numbers, counters, padding, IFLA_EXT_MASK, probes
 RTM_GETLINK flags 0x301 (REQUEST | ROOT | MATCH)" ]' "$linkgold"
+# An RTM_NEWROUTE to 10.7.0.0/16 with RTA_ENCAP_TYPE 2, as ip 6.1 sends it: what its memory held is the padding of 2 bytes.
+route() {
+    printf '\x2c\0\0\0\x18\0\x05\x06\x01\0\0\0\0\0\0\0\x02\x10\0\0\xfe\x03\0\x01\0\0\0\0'
+    printf '\x08\0\x01\0\x0a\x07\0\0\x06\0\x15\0\x02\0'"$1"
+}
+route '\x01\0' > "$work/padded.bin"
+route '\x15\x7f' > "$work/padded_otherwise.bin"
+expect "padding is shown" 0 "" bash -c '"$0" padded.bin | tail -n 2' "$LINKSHOW" << 'END_OF_LINES'
+  RTA_ENCAP_TYPE 2 (ip)
+    padding 0100
+END_OF_LINES
+succeeds "padding as JSON" bash -c '"$0" --json padded.bin > json && "$1" padded.bin | cmp - json && grep -qF "{\"name\": \"padding\", \"value\": \"0100\"}" json' "$LINKSHOW" "$linkjson"
+succeeds "padding isn't compared" bash -c '"$0" --update padded.lines padded.bin && "$0" padded.lines padded_otherwise.bin' "$linkgold"
+succeeds "padding is compared with --padding" bash -c '"$0" --padding --update padded.lines padded.bin && { "$0" --padding padded.lines padded_otherwise.bin > diff; [ $? -eq 1 ] && grep -qx -- "+    padding 157f" diff; }' "$linkgold"
 expect "a golden file and its own capture" 0 "" "$linkdiff" headed.made a < /dev/null
 expect "a capture and its own golden file" 0 "" "$linkdiff" a headed.made < /dev/null
 expect "a golden file's selection is that of its update" 0 "" "$linkgold" headed.made a < /dev/null

@@ -76,7 +76,7 @@ END
 succeeds "namespaces" bash -c '"$0" --update namespaces.lines -- sh namespaces.sh && for run in {1..5}; do "$0" namespaces.lines -- sh namespaces.sh || exit; done' "$linkgold"
 expect "the lines of namespaces" 0 "" grep -e '^# ' -e '^RTM_NEWADDR' -e ifaddrmsg -e NET_NS -e 'change 0x1' "$work/namespaces.lines" << 'END'
 # linkcap lines, format 4
-# leaves out: numbers, counters, probes
+# leaves out: numbers, counters, padding, probes
   IFLA_NET_NS_PID netns 2
 # namespace 2
   ifinfomsg family 0 (AF_UNSPEC) type 0 (netrom) index "v1" flags 0x1 (Up) change 0x1 (Up)

@@ -16,8 +16,8 @@ from values import quote      # noqa: E402
 
 WORDS = re.compile(r'[^\s"(]*"(?:[^"\\]|\\.)*"|\([^)]*\)|\S+')
 ESCAPES = re.compile(r"\\(?:x([0-9a-f]{2})|(.))")
-# The formats of an attribute's values, by its name
-FORMATS = {}
+# The formats of an attribute's values, by its name; a line of padding has bytes, as if it were an attribute below its own
+FORMATS = {"padding": {"bytes"}}
 for _name, _style in [*ROWS.values(), *RAW_ROWS.values()]:
     FORMATS.setdefault(_name, set()).add(_style.partition(" ")[0])
 SEVERAL_NUMBERS = {"numbers", "port_range"}

@@ -78,14 +78,16 @@ def line(depth, name, text=""):
 # Lists of raw attributes
 
 def cut_exactly(b):
-    """The attributes (kind, payload) of a list without anything after them and with padding that is zero, or None."""
+    """The attributes (kind, payload, padding) of a list without anything after them, or None.  The padding is None if it is
+    all there and zero."""
     out, at = [], 0
     while at < len(b):
         size = o.u16(b, at) if len(b) - at >= 4 else 0
         end = at + o.round_up(size)
-        if size < 4 or end > len(b) or any(b[at + size:end]):
+        if size < 4 or at + size > len(b):
             return None
-        out.append((o.u16(b, at + 2), b[at + 4:at + size]))
+        padding = b[at + size:end]
+        out.append((o.u16(b, at + 2), b[at + 4:at + size], None if padding == bytes(end - at - size) else padding))
         at = end
     return out
 
@@ -95,7 +97,11 @@ def raw_list(depth, table, b):
     attributes = cut_exactly(b)
     if attributes is None:
         return None
-    return [text for kind, p in attributes for text in raw_lines(depth, table, kind, p, attributes)]
+    out = []
+    for kind, p, padding in attributes:
+        name, *below = raw_lines(depth, table, kind, p, attributes)
+        out += [name] + ([] if padding is None else [line(depth + 1, "padding", padding.hex())]) + below
+    return out
 
 
 def raw_lines(depth, table, kind, p, attributes=()):
@@ -134,7 +140,7 @@ def list_block(depth, p, _, table):
 
 def encapsulation_block(depth, p, attributes, type_kind):
     """The list of an encapsulation, whose type is that of the first attribute of its list with 2 bytes and a kind."""
-    types = [o.u16(q, 0) for kind, q in attributes if kind & ~NESTED == int(type_kind) and len(q) == 2]
+    types = [o.u16(q, 0) for kind, q, _ in attributes if kind & ~NESTED == int(type_kind) and len(q) == 2]
     table = "encap %d" % types[0] if types else None
     return raw_list(depth, table, p) if table in RAW_TABLES else None
 
@@ -460,9 +466,10 @@ def read_only(argument):
 
 
 def read_omitted(argument):
-    """What `IFLA_MTU,counters` leaves out: names of attributes and of groups, and the names that groups stand for."""
+    """What `IFLA_MTU,padding,counters` leaves out: names of attributes, `padding`, groups, and the names that groups stand for."""
     names = {name.lower(): {name} for name in NAMES}
     names.update({group: {group, *members} for group, members in GROUPS.items()})
+    names["padding"] = {"padding"}          # the first word of its lines
     omitted = set()
     for word in argument.split(","):
         if word.lower() not in names:

@@ -35,7 +35,7 @@ def golden(capture: Capture, path: Union[str, "os.PathLike[str]"], *, update: bo
     """
     __tracebackhide__ = True
     check_use(options, OF_GOLDEN, "golden")
-    replacement, excluded = Replacement(replace), _Excluded(options.pop("without", ()))
+    replacement, excluded = Replacement(replace), _Excluded(options.pop("without", ()), isinstance(capture, Recording))
     text = _lines(capture, limit, options)
     made = replacement.apply(text.splitlines())
     if not made:
@@ -55,14 +55,16 @@ def golden(capture: Capture, path: Union[str, "os.PathLike[str]"], *, update: bo
 class _Excluded:
     """The attributes and groups that a test leaves out."""
 
-    def __init__(self, without: Iterable[str]) -> None:
-        """# Errors
+    def __init__(self, without: Iterable[str], is_recorded: bool) -> None:
+        """Those of `without`, and of a recording padding too, which ip(8) takes from memory that it didn't write.
+
+        # Errors
 
         TypeError for a single name, which would be read as the list of its letters, and ValueError for one that isn't known.
         """
         if isinstance(without, (str, bytes)):
             raise TypeError(f"without is a list of names, as ['IFLA_MTU'], and not {without!r}")
-        self.words = list(without)
+        self.words = [*without, *["padding"] * is_recorded]
         self.names = lines_filter.names_of(",".join(self.words)) if self.words else set()
 
 

@@ -250,11 +250,11 @@ NUMBERS = re.compile(r" seq [0-9]+ port [0-9]+(?=(?: namespace [0-9]+)?(?: offse
 LINE_WITH_OFFSET = re.compile(r"(\S.*) offset ([0-9]+)")
 
 # The group indexes also has the references to namespaces by a process or a descriptor, which change from run to run.
-_GROUPS = {"numbers": frozenset({"numbers"}), "counters": COUNTERS,
+_GROUPS = {"numbers": frozenset({"numbers"}), "counters": COUNTERS, "padding": frozenset({"padding"}),
            "indexes": INDEXES | {"indexes", "IFLA_NET_NS_PID", "IFLA_NET_NS_FD"}}
 # An index, or what lines_record.py shows instead: a name, or a number in order of appearance.
 _INDEX = re.compile(r' (?:if)?index (?:-?[0-9]+|#[0-9]+|"(?:[^"\\]|\\.)*")(?= |$)')
-_NO_STRUCT = {"kind", "code", "request", "rest", "body", "refused:"}
+_NO_STRUCT = {"kind", "code", "request", "rest", "body", "refused:", "padding"}
 
 
 def names_of(words: str) -> Set[str]:

@@ -1,7 +1,7 @@
 """The head of a golden file of lines, and the lines without what the file leaves out.
 
     # linkcap lines, format 4
-    # leaves out: numbers, counters, IFLA_MTU, probes
+    # leaves out: numbers, counters, padding, IFLA_MTU, probes
     # leaves out what varies: RTM_NEWLINK "br0" > IFLA_ADDRESS
 
 The first line has the format version. The others, if there are any, name attributes and groups (`lines_filter.names_of`), the

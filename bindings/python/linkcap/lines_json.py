@@ -26,7 +26,7 @@ BYTES = frozenset("""
     LWTUNNEL_IP_OPT_GENEVE_DATA LWTUNNEL_IP_PAD NDA_LLADDR NDTA_PAD NDTPA_PAD NHA_RES_BUCKET_PAD NHA_RES_GROUP_PAD
     NLMSGERR_ATTR_COOKIE NL_POLICY_TYPE_ATTR_PAD RPL_IPTUNNEL_SRH RTA_MP_ALGO RTA_PAD RTA_PROTOINFO RTA_SESSION
     SEG6_IPTUNNEL_SRH SEG6_LOCAL_CNT_PAD SEG6_LOCAL_SRH TCA_ACT_COOKIE TCA_ACT_OPTIONS TCA_ACT_PAD TCA_OPTIONS TCA_PAD
-    TCA_STATS_APP TCA_STATS_PAD TCA_XSTATS VETH_INFO_PEER VNIFILTER_ENTRY_STATS_PAD VXCAN_INFO_PEER""".split())
+    TCA_STATS_APP TCA_STATS_PAD TCA_XSTATS VETH_INFO_PEER VNIFILTER_ENTRY_STATS_PAD VXCAN_INFO_PEER padding""".split())
 
 # The attributes whose values are any number of numbers.
 NUMBER_LISTS = frozenset("""
@@ -172,8 +172,8 @@ def _refusal(text: str) -> Json:
 
 
 def _is_struct(word: str) -> bool:
-    """Whether a word is the name of a struct. Names of attributes are in upper case, or `[3]`."""
-    return word[0].islower() and word != "kind"
+    """Whether a word is the name of a struct: it is in lower case, and neither `kind` nor `padding`."""
+    return word[0].islower() and word not in ("kind", "padding")
 
 
 class _Message:

@@ -50,11 +50,11 @@ class Record(unittest.TestCase):
                 text = file.read()
             self.assertTrue(text.endswith('index "v0" flags 0x0 change 0x0\n  IFLA_MASTER "br0"\n'), text)
             self.assertNotIn("refused", text)
-            self.assertIn("\n# leaves out: probes\n", text)
+            self.assertIn("\n# leaves out: padding, probes\n", text)
             linkcap.golden(linkcap.record(["ip", "link", "set", "v0", "master", "br0"], setup=setup), path)
             linkcap.golden(recording, path, update=True, without=["IFLA_MASTER"])
             with open(path, encoding="ascii") as file:
-                self.assertRegex(file.read(), '\n# leaves out: IFLA_MASTER, probes\n(?s:.*)index "v0" flags 0x0 change 0x0\n\\Z')
+                self.assertRegex(file.read(), '\n# leaves out: IFLA_MASTER, padding, probes\n(?s:.*)index "v0" flags 0x0 change 0x0\n\\Z')
             linkcap.golden(recording, path)
             linkcap.golden(recording, path, update=True)
             with self.assertRaisesRegex(AssertionError, '-  IFLA_MASTER "br0"\n\\+  IFLA_MASTER "br1"\n'):

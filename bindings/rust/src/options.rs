@@ -67,7 +67,7 @@ impl<'a> Options<'a> {
     }
 
     /// No attributes with these names, with all that they nest: the kernel's names with commas between them, at most 32; and
-    /// the groups `numbers`, `counters` and `indexes`. The case of ASCII letters doesn't count.
+    /// the groups `numbers`, `counters`, `indexes` and `padding`. The case of ASCII letters doesn't count.
     #[must_use]
     pub const fn without(self, without: &'a str) -> Self {
         Options { without, ..self }

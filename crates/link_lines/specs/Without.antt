@@ -15,23 +15,27 @@ with_name x name = cond (nat_lt (length x.names) 32) (Some (record x { names = x
 abbrev pub attribute_name : List ℕ → Option (List ℕ)
 attribute_name w = first_name (raw_name w) (text_name w)
 
+-- The first word of lines that the word is: of those of padding, or of an attribute.
+abbrev pub line_name : List ℕ → Option (List ℕ)
+line_name w = cond (str_eq_ignore_ascii_case w (codes "padding")) (Some (codes "padding")) (attribute_name w)
+
 -- What is left out with one more attribute, or too many.
 abbrev pub or_too_many : Option Omitted → Result Omitted WordFault
 or_too_many None = Err WordFault.TooMany
 or_too_many (Some x) = Ok x
 
--- What is left out by the name of an attribute that a word is, if it is one.
+-- What is left out by the first word of lines that a word is, if it is one.
 abbrev pub with_found : Omitted → List ℕ → Option (List ℕ) → Result Omitted WordFault
 with_found x w None = Err (WordFault.Unknown w)
 with_found x w (Some name) = or_too_many (with_name x name)
 
--- What one more word leaves out: a group, or an attribute; the case of ASCII letters doesn't count.
+-- What one more word leaves out: a group, padding, or an attribute; the case of ASCII letters doesn't count.
 abbrev pub with_word : Omitted → List ℕ → Result Omitted WordFault
 with_word x w =
     cond (str_eq_ignore_ascii_case w (codes "numbers")) (Ok (record x { numbers = true }))
     (cond (str_eq_ignore_ascii_case w (codes "counters")) (Ok (record x { counters = true }))
     (cond (str_eq_ignore_ascii_case w (codes "indexes")) (Ok (record x { indexes = true }))
-    (with_found x w (attribute_name w))))
+    (with_found x w (line_name w))))
 
 -- The same as a step of a list of words.
 abbrev pub TakesWord : Step Omitted

@@ -3,16 +3,20 @@
 ghost use Rattle.std.specs.Prelude.{◌≡◌, option_map};
 ghost use Rattle.std.specs.Result.{result_map_both};
 ghost use Rattle.link_lines_parts.specs.Remaining.{nothing_omitted, omitted_of};
-ghost use Rattle.link_lines.specs.Without.{attribute_name, with_name, with_word, TakesWord};
+ghost use Rattle.link_lines.specs.Without.{line_name, with_name, with_word, TakesWord};
 ghost use Rattle.link_lines.specs.Words.{parts, word_fault, Reads};
 
 use crate::words::{WordError, first_part};
 use link_lines_parts::Without;
 
-/// Returns the kernel's name of an attribute, raw or not, that the word is.
+/// Returns the kernel's name of an attribute, raw or not, that the word is, or the word of the lines
+/// of padding.
 fn find_name(word: &str) -> Option<&'static [u8]>
-    ensures { option_map (λ name. name.now) result ≡ attribute_name word.now }
+    ensures { option_map (λ name. name.now) result ≡ line_name word.now }
 {
+    if word.eq_ignore_ascii_case("padding") {
+        return Some(b"padding".as_slice());
+    }
     match link_lines_raw::find_name(word.as_bytes()) {
         Some(name) => Some(name),
         None => link_lines_texts::find_name(word.as_bytes()),
@@ -53,8 +57,8 @@ fn with_word(without: Without, word: &str) -> Result<Without, WordError<'_>>
     }
 }
 
-/// Reads words with commas between them: each is the kernel's name of an attribute, or a group:
-/// `numbers`, `counters` or `indexes`. The case of ASCII letters doesn't count.
+/// Reads words with commas between them: each is the kernel's name of an attribute, `padding`, or a
+/// group: `numbers`, `counters` or `indexes`. The case of ASCII letters doesn't count.
 ///
 /// # Errors
 ///

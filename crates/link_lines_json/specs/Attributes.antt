@@ -1,6 +1,6 @@
 -- The entries of lists of attributes as JSON.
 use Rattle.std.specs.Prelude.{ℕ, ◌&&◌, nat_le, Bool, true, false, cond, List, [], ◌∷◌, ◌++◌, codes, flat_map}
-use Rattle.std.specs.Prelude.{bytes_eq, Some, None}
+use Rattle.std.specs.Prelude.{bytes_eq, not, Some, None}
 use Rattle.std.specs.Fmt.{decimal}
 use Rattle.link_lines_json.specs.Names.{bytes_names, number_list_names}
 use Rattle.link_lines_parts.specs.Names.{is_among}
@@ -107,6 +107,10 @@ abbrev pub is_lower : List ℕ → Bool
 is_lower [] = false
 is_lower (c ∷ word) = nat_le 97 c && nat_le c 122
 
+-- Whether a word names a struct among attributes: it is in lower case, and isn't that of a line of padding.
+abbrev pub is_struct : List ℕ → Bool
+is_struct word = is_lower word && not (bytes_eq word (codes "padding"))
+
 -- A struct among attributes.
 unfoldable pub struct_json : List ℕ → List TermText → List ℕ
 struct_json name terms =
@@ -116,4 +120,4 @@ struct_json name terms =
 unfoldable pub entry_json : List ℕ → List TermText → List ℕ
 entry_json word terms =
     cond (bytes_eq word (codes "kind")) (kind_json terms)
-    (cond (is_lower word) (struct_json word terms) (attribute_json word terms))
+    (cond (is_struct word) (struct_json word terms) (attribute_json word terms))

@@ -76,6 +76,7 @@ bytes_names =
     codes "VETH_INFO_PEER" ∷
     codes "VNIFILTER_ENTRY_STATS_PAD" ∷
     codes "VXCAN_INFO_PEER" ∷
+    codes "padding" ∷
     []
 
 -- Whether some of these names end in these two letters.
@@ -92,7 +93,8 @@ ends_as_bytes before last =
     (cond (before == 80) (last == 80)
     (cond (before == 82) (last == 72)
     (cond (before == 83) ((last == 83) || (last == 84))
-    (cond (before == 84) ((last == 65) || ((last == 83) || (last == 89))) false)))))))))))
+    (cond (before == 84) ((last == 65) || ((last == 83) || (last == 89)))
+    (cond (before == 110) (last == 103) false))))))))))))
 
 -- Whether a name ends as some of these do.
 abbrev pub has_end_of_bytes : List ℕ → Bool

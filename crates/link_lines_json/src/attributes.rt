@@ -3,7 +3,7 @@
 ghost use Rattle.std.specs.Prelude.{◌≡◌, ◌&&◌, ◌∷◌, false, flat_map};
 ghost use Rattle.link_lines_values.specs.Appends.{Appends};
 ghost use Rattle.link_lines_json.specs.Strings.{escaped};
-ghost use Rattle.link_lines_json.specs.Attributes.{attribute_json, counted_json, entry_json, first_of, first_payload, is_lower};
+ghost use Rattle.link_lines_json.specs.Attributes.{attribute_json, counted_json, entry_json, first_of, first_payload, is_lower, is_struct};
 ghost use Rattle.link_lines_json.specs.Attributes.{joined, kind_json, list_json, mask_json, nested_and_payload, nested_payload};
 ghost use Rattle.link_lines_json.specs.Attributes.{payload_json, record_json, several_json, space, struct_json, term_words, terms_string};
 ghost use Rattle.link_lines_json.specs.Attributes.{value_or_several};
@@ -291,6 +291,14 @@ pub(crate) fn is_lower(word: &[u8]) -> bool
     }
 }
 
+/// Returns whether a word names a struct among attributes, and not padding, which is shown as an
+/// attribute with bytes.
+fn is_struct(word: &[u8]) -> bool
+    ensures { result ≡ is_struct word.now }
+{
+    is_lower(word) && word != b"padding".as_slice()
+}
+
 /// Appends a struct among attributes.
 #[tactic(auto, unfolding(crate::specs::Attributes::struct_json))]
 fn push_struct(name: &[u8], text: &[u8], out: &mut Vec<u8>) -> Result<(), AllocError>
@@ -311,7 +319,7 @@ pub(crate) fn push_entry(word: &[u8], text: &[u8], out: &mut Vec<u8>) -> Result<
 {
     if word == b"kind".as_slice() {
         push_kind(text, out)
-    } else if is_lower(word) {
+    } else if is_struct(word) {
         push_struct(word, text, out)
     } else {
         push_attribute(word, text, out)

@@ -80,6 +80,7 @@ pub const BYTES: &[&[u8]] = &[
     b"VETH_INFO_PEER",
     b"VNIFILTER_ENTRY_STATS_PAD",
     b"VXCAN_INFO_PEER",
+    b"padding",
 ];
 
 /// The attributes whose values are any number of numbers.
@@ -109,6 +110,7 @@ fn ends_as_bytes(before: u8, last: u8) -> bool
         b'R' => last == b'H',
         b'S' => last == b'S' || last == b'T',
         b'T' => last == b'A' || last == b'S' || last == b'Y',
+        b'n' => last == b'g',
         _ => false,
     }
 }

@@ -16,4 +16,4 @@ pub use kind_names::{has_byte_order_bit, has_nested_bit, push_kind_name};
 pub use levels::DEEPEST_LEVEL;
 pub use names::{COUNTERS, INDEXES, is_among};
 pub use remaining::{Without, is_header, is_index_field, push_remaining};
-pub use whole::is_whole;
+pub use whole::{is_whole, shown_padding};

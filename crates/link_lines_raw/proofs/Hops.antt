@@ -8,18 +8,17 @@ use Rattle.netlink_packet_core_grammar.specs.Bytes.{AreBytes}
 use Rattle.netlink_packet_core_grammar.specs.Numbers.{u16_at}
 use Rattle.netlink_packet_core_grammar.proofs.Bytes.{AreBytes-drop, AreBytes-take}
 use Rattle.link_lines_values.specs.Records.{Field, is_record, total_size}
-use Rattle.link_lines_values.specs.Layouts.{layout_fields}
-use Rattle.link_lines_values.specs.NumberTexts.{number_texts}
 use Rattle.link_lines_values.proofs.ValuesDetermined.{both_parts}
 use Rattle.link_lines_raw.specs.declared.lists.ListedBy.TheVariants as L
 use Rattle.link_lines_raw.specs.declared.raw_tables.RawTable.{RawTable}
 use Rattle.link_lines_raw.specs.Attributes.{are_next_hops_after, are_records_after, is_first_record, is_next_hop, is_whole, next_hop_line, record_words}
 use Rattle.link_lines_raw.specs.Coverage.{is_line_determined}
-use Rattle.link_lines_raw.specs.Lists.{Listed, first_bytes, first_part, listed_lines, part_head, part_list, part_text}
+use Rattle.link_lines_raw.specs.Lists.{Listed, first_bytes, first_part, listed_lines, part_head, part_list, part_padding, part_text}
 use Rattle.link_lines_raw.specs.Rows.{RecordLine}
+use Rattle.link_lines_raw.proofs.ListLines.{next_hop_determined}
 use Rattle.link_lines_raw.proofs.Payloads.{HopsDetermined, RecordsDetermined, ShorterDetermined, words_determined}
 use Rattle.link_lines_raw.proofs.Spans.{IsUnder, first_text, listed_deep, span}
-use Rattle.link_lines_raw.proofs.Whole.{cut_part}
+use Rattle.link_lines_raw.proofs.Whole.{cut_part, take_less}
 use Rattle.link_lines_raw.proofs.Unfolding.{IsHop, hop_sizes, next, none, nothing_listed}
 
 -- The lines of what is listed begin with one of its level, if there are any.
@@ -72,18 +71,12 @@ hop_parts p h =
 -- The lines of next hops: the first's, and the others'.
 hop_lines : (level : ℕ) (t : RawTable) (p : List ℕ) → is_next_hop p ≡ true →
     listed_lines level (L.NextHops t) p ≡ (level, record_words next_hop_line (drop 2 (take 8 (take (u16_at 0 p) p)))) ∷ (listed_lines (level + 1) (L.Attributes t (hop_list p)) (hop_list p) ++ listed_lines level (L.NextHops t) (drop (u16_at 0 p) p))
-unfolding first_part part_text part_head part_list
+unfolding first_part part_text part_head part_list part_padding
 hop_lines level t p h =
     let list = hop_list p in
     let more = listed_lines (level + 1) (L.Attributes t list) list ++ listed_lines level (L.NextHops t) (drop (u16_at 0 p) p) in
     next level (L.NextHops t) p (record { kind = 0; payload = take (u16_at 0 p) p }) (drop (u16_at 0 p) p) (ap (λ b. first_bytes b (u16_at 0 p) p) h)
     ∙ ap (λ z. (level, record_words next_hop_line z) ∷ more) (cut_part 2 8 (take (u16_at 0 p) p) (omega arith))
-
-take_less : (m n : ℕ) (p : List ℕ) → m ≤ n → take m (take n p) ≡ take m p
-take_less zero n p h = refl
-take_less (suc m) zero p h = absurd (omega (arith, h))
-take_less (suc m) (suc n) [] h = refl
-take_less (suc m) (suc n) (x ∷ p) h = ap (λ z. x ∷ z) (take_less m n p (omega (arith, h)))
 
 two_determined : (p q : List ℕ) → AreBytes p → AreBytes q → 2 ≤ length p → 2 ≤ length q → u16_at 0 p ≡ u16_at 0 q → take 2 p ≡ take 2 q
 unfolding u16_at
@@ -95,10 +88,6 @@ two_determined (x ∷ y ∷ p) (z ∷ w ∷ q) a b i j e =
     let low : x ≡ z = omega (arith, a.0, a.1.0, b.0, b.1.0, e) in
     let high : y ≡ w = omega (arith, a.0, a.1.0, b.0, b.1.0, e) in
     λ k. low k ∷ high k ∷ []
-
-next_hop_determined : is_line_determined next_hop_line ≡ true
-unfolding next_hop_line layout_fields number_texts
-next_hop_determined = refl
 
 -- Next hops whose structs and lists are equal are equal.
 hop_same : (p q : List ℕ) → AreBytes p → AreBytes q → IsHop p → IsHop q → drop 2 (take 8 p) ≡ drop 2 (take 8 q) → hop_list p ≡ hop_list q → (u16_at 0 p ≡ u16_at 0 q) × (take (u16_at 0 p) p ≡ take (u16_at 0 q) q)
@@ -177,7 +166,7 @@ record_step fs b p h =
 
 record_lines : (level : ℕ) (line : RecordLine) (p : List ℕ) → is_first_record line.1 p ≡ true →
     listed_lines level (L.Records line) p ≡ (level, record_words line (take (total_size line.1) p)) ∷ listed_lines level (L.Records line) (drop (total_size line.1) p)
-unfolding first_part part_text part_head part_list
+unfolding first_part part_text part_head part_list part_padding
 record_lines level line p h = next level (L.Records line) p (record { kind = 0; payload = take (total_size line.1) p }) (drop (total_size line.1) p) (ap (λ b. first_bytes b (total_size line.1) p) h)
 
 records_by : (m level : ℕ) (line : RecordLine) (p q : List ℕ) → length p ≤ m → is_line_determined line ≡ true → AreBytes p → AreBytes q → are_records_after line.1 0 p ≡ true → are_records_after line.1 0 q ≡ true →

@@ -11,6 +11,7 @@ pub mod Unnamed
 pub mod RawRows
 pub mod Payloads
 pub mod Hops
+pub mod Padding
 pub mod ListsDetermined
 pub mod ListLines
 pub mod RawDetermined

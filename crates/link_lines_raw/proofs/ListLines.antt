@@ -3,18 +3,20 @@ use Rattle.std.proofs.Common.{◌≡◌, ℕ, zero, suc, ◌+◌, Bool, true, fa
 use Rattle.std.specs.Prelude.{⊤, nat_le, codes}
 use Rattle.std.proofs.lemmas.Bool.{and_parts, leb-true}
 use Rattle.netlink_packet_core_grammar.specs.Attributes.{Attribute}
+use Rattle.link_lines_values.specs.declared.values.ShownBy.TheVariants.{Bytes}
+use Rattle.link_lines_values.specs.Bytes.{bytes_text}
 use Rattle.link_lines_values.specs.Laws.{Ends, IsLine}
 use Rattle.link_lines_values.specs.Records.{fields_text, total_size}
 use Rattle.link_lines_values.specs.Layouts.{layout_fields}
 use Rattle.link_lines_values.specs.NumberTexts.{number_texts}
-use Rattle.link_lines_values.proofs.OneLine.{fields_are_lines, is_line_checked}
+use Rattle.link_lines_values.proofs.OneLine.{fields_are_lines, is_line_checked, values_are_lines}
 use Rattle.link_lines_raw.specs.declared.lists.ListedBy.TheVariants as L
 use Rattle.link_lines_raw.specs.declared.raw_tables.RawTable.{RawTable}
 use Rattle.link_lines_raw.specs.declared.rows.RawBy.TheVariants as R
 use Rattle.link_lines_raw.specs.Attributes.{after_name, encapsulation, has_nested_bit, is_shown, named_text, nested_word, next_hop_line, raw_row, raw_text, record_words}
 use Rattle.link_lines_raw.specs.Coverage.{determines_raw, is_line_determined, is_line_word}
 use Rattle.link_lines_raw.specs.Lines.{Line}
-use Rattle.link_lines_raw.specs.Lists.{Listed, attributes_if_known, first_part, head_line, head_of, inside_lines, lines_inside, lines_within, listed_in, listed_lines, named_head, named_list, next_lines, part_head, part_list, part_text, shown_head, shown_list}
+use Rattle.link_lines_raw.specs.Lists.{Listed, attributes_if_known, first_part, head_line, head_of, inside_lines, lines_inside, lines_within, listed_in, listed_lines, named_head, named_list, next_lines, padding_text, padding_words, part_head, part_list, part_padding, part_text, shown_head, shown_list}
 use Rattle.link_lines_raw.specs.Names.{Named}
 use Rattle.link_lines_raw.specs.Rows.{Raw, RecordLine}
 use Rattle.link_lines_raw.proofs.Payloads.{line_facts, name_line}
@@ -117,7 +119,7 @@ named_head_line : (level : ℕ) (t : RawTable) (w : List ℕ) (e : Attribute) (o
 named_head_line level t w e None h = record {}
 named_head_line level t w e (Some row) h = shown_head_line level row.1 w e.payload (row_facts t e.kind row h).determined
 
-named_determined : (level : ℕ) (t : RawTable) (w : List ℕ) (e : Attribute) (o : Option (Named Raw)) → raw_row t e.kind ≡ o → AreDetermined (named_list level o w e)
+pub named_determined : (level : ℕ) (t : RawTable) (w : List ℕ) (e : Attribute) (o : Option (Named Raw)) → raw_row t e.kind ≡ o → AreDetermined (named_list level o w e)
 named_determined level t w e None h = record {}
 named_determined level t w e (Some row) h = shown_determined level row.1 w e.payload (row_facts t e.kind row h).determined
 
@@ -125,7 +127,11 @@ pub heads_are_lines : (level : ℕ) (o : Option (List ℕ)) → IsHeadLine o →
 heads_are_lines level None h = record {}
 heads_are_lines level (Some s) h = (h, record {})
 
-next_hop_determined : is_line_determined next_hop_line ≡ true
+padding_is_line : (o : Option (List ℕ)) → IsHeadLine (padding_words o)
+padding_is_line None = record {}
+padding_is_line (Some p) = (lines_joined (codes "padding") (bytes_text p) (is_line_checked (codes "padding") refl) (values_are_lines.line Bytes p refl), omega arith)
+
+pub next_hop_determined : is_line_determined next_hop_line ≡ true
 unfolding next_hop_line layout_fields number_texts
 next_hop_determined = refl
 
@@ -155,19 +161,22 @@ inside_are_lines : (n level : ℕ) (o : Option (Listed × List ℕ)) → AllLine
 inside_are_lines n level None h d = record {}
 inside_are_lines n level (Some x) h d = h level x.0 x.1 d
 
-next_are_lines : (n level : ℕ) (listed : Listed) (o : Option (Attribute × List ℕ)) → AllLines n → IsDetermined listed → AreLines (next_lines (λ l m b. lines_within n l m b) level listed o)
-next_are_lines n level listed None h d = record {}
-next_are_lines n level listed (Some x) h d =
-    let f = part_is_lines level listed x.0 d in (
+next_are_lines : (n level : ℕ) (listed : Listed) (bytes : List ℕ) (o : Option (Attribute × List ℕ)) → AllLines n → IsDetermined listed → AreLines (next_lines (λ l m b. lines_within n l m b) level listed bytes o)
+next_are_lines n level listed bytes None h d = record {}
+next_are_lines n level listed bytes (Some x) h d =
+    let f = part_is_lines level listed x.0 d in
+    let padding = padding_words (part_padding listed x.0 bytes) in
+    let head = part_head level listed x.0 in (
       f.text,
-      lines_of_both (head_line (level + 1) (part_head level listed x.0)) _ (heads_are_lines (level + 1) (part_head level listed x.0) f.head)
+      lines_of_both (head_line (level + 1) padding ++ head_line (level + 1) head) _
+          (lines_of_both (head_line (level + 1) padding) (head_line (level + 1) head) (heads_are_lines (level + 1) padding (padding_is_line (part_padding listed x.0 bytes))) (heads_are_lines (level + 1) head f.head))
           (lines_of_both (lines_inside (λ l m b. lines_within n l m b) (level + 1) (part_list level listed x.0)) _ (inside_are_lines n (level + 1) (part_list level listed x.0) h f.list) (h level listed x.1 d)),
     )
 
 within_lines : (n : ℕ) → AllLines n
 unfolding lines_within
 within_lines zero level listed p d = record {}
-within_lines (suc n) level listed p d = next_are_lines n level listed (first_part listed p) (within_lines n) d
+within_lines (suc n) level listed p d = next_are_lines n level listed p (first_part listed p) (within_lines n) d
 
 pub listed_are_lines : (level : ℕ) (listed : Listed) (p : List ℕ) → IsDetermined listed → AreLines (listed_lines level listed p)
 unfolding listed_lines

@@ -5,10 +5,10 @@ use Rattle.std.specs.List.{AllByRecursion}
 use Rattle.std.proofs.lemmas.Bool.{and_parts, eqb-true, not-true}
 use Rattle.std.proofs.lemmas.Bool.Decides.{nat_tests}
 use Rattle.std.proofs.lemmas.Option.{same_Some}
-use Rattle.netlink_packet_core_grammar.specs.Attributes.{Attribute, attribute_length, first_attribute, list_text, nla_align}
+use Rattle.netlink_packet_core_grammar.specs.Attributes.{Attribute, attribute_length, first_attribute, nla_align}
 use Rattle.netlink_packet_core_grammar.specs.Bytes.{AreBytes}
 use Rattle.netlink_packet_core_grammar.specs.Numbers.{u16_at}
-use Rattle.netlink_packet_core_grammar.proofs.Attributes.{first_attribute_text, sized}
+use Rattle.netlink_packet_core_grammar.proofs.Attributes.{sized}
 use Rattle.link_lines_values.specs.Laws.{BeginsWithSpace}
 use Rattle.link_lines_values.proofs.ExactDetermined.{raw_values_determined}
 use Rattle.link_lines_raw.specs.declared.lists.ListedBy.TheVariants as L
@@ -18,18 +18,19 @@ use Rattle.link_lines_raw.specs.Coverage.{determines_raw, is_value}
 use Rattle.link_lines_raw.specs.declared.rows.RawBy.TheVariants as R
 use Rattle.link_lines_raw.specs.Laws.{IsEncodable}
 use Rattle.link_lines_raw.specs.Lines.{Line}
-use Rattle.link_lines_raw.specs.Lists.{first_part, head_line, inside_lines, listed_lines, named_head, named_list, part_head, part_list, part_text}
+use Rattle.link_lines_raw.specs.Lists.{first_part, head_line, inside_lines, listed_lines, named_head, named_list, padding_words, part_head, part_list, part_padding, part_text}
 use Rattle.link_lines_raw.specs.Names.{Named}
 use Rattle.link_lines_raw.specs.Rows.{Raw}
 use Rattle.link_lines_raw.proofs.Hops.{hops_determined, records_determined}
+use Rattle.link_lines_raw.proofs.Padding.{held_apart, paddings_determined}
 use Rattle.link_lines_raw.proofs.Payloads.{ShorterDetermined, below, name_space, payload_determined, unnested}
 use Rattle.link_lines_raw.proofs.RawRows.{TypeRow, is_row, names_determined, row_facts, type_row}
-use Rattle.link_lines_raw.proofs.Spans.{IsUnder, below_deep, first_text, span}
+use Rattle.link_lines_raw.proofs.Spans.{AreDeep, IsUnder, below_deep, deep_joined, first_text, head_deep, span}
 use Rattle.link_lines_raw.proofs.Types.{is_kind, same_table, type_among, type_is}
 use Rattle.link_lines_raw.proofs.Unfolding.{next, none}
 use Rattle.link_lines_raw.proofs.Unnamed.{unnamed_determined}
-use Rattle.link_lines_raw.proofs.Whole.{AreEncodable, listing}
-use Rattle.link_lines_raw.proofs.Words.{cut_word, not_unnamed, space_ends}
+use Rattle.link_lines_raw.proofs.Whole.{AreEncodable, AreItems, IsItem, Item, items_determine, listing}
+use Rattle.link_lines_raw.proofs.Words.{cut_word, not_lower, space_ends}
 
 -- ---- attributes, one after the other
 
@@ -37,52 +38,73 @@ use Rattle.link_lines_raw.proofs.Words.{cut_word, not_unnamed, space_ends}
 abbrev pub under : ℕ → RawTable → List ℕ → Attribute → List Line
 under level t w e = head_line level (named_head level (raw_row t e.kind) w e) ++ inside_lines level (named_list level (raw_row t e.kind) w e)
 
--- The line of an attribute, and those below it.
-abbrev block : ℕ → RawTable → List ℕ → Attribute → List Line
-block level t w e = (level, raw_text (level + 1) t w e) ∷ under (level + 1) t w e
+-- The lines below the line of an attribute with its padding.
+abbrev padded_under : ℕ → RawTable → List ℕ → Item → List Line
+padded_under level t w x = head_line level (padding_words x.1) ++ under level t w x.0
 
-abbrev lines_of : ℕ → RawTable → List ℕ → List Attribute → List Line
-lines_of level t w es = flat_map (block level t w) es
+-- The line of an attribute, and those below it.
+abbrev block : ℕ → RawTable → List ℕ → Item → List Line
+block level t w x = (level, raw_text (level + 1) t w x.0) ∷ padded_under (level + 1) t w x
+
+abbrev lines_of : ℕ → RawTable → List ℕ → List Item → List Line
+lines_of level t w items = flat_map (block level t w) items
 
 no_attribute : first_attribute [] ≡ None
 unfolding first_attribute
 no_attribute = refl
 
-lines_are : (level : ℕ) (t : RawTable) (w : List ℕ) (es : List Attribute) → listed_lines level (L.Attributes t w) (list_text es) ≡ lines_of level t w es
-unfolding list_text first_part part_text part_head part_list
-lines_are level t w [] = none level (L.Attributes t w) [] no_attribute
-lines_are level t w (e ∷ es) =
+no_lines : (level : ℕ) (t : RawTable) (w : List ℕ) → listed_lines level (L.Attributes t w) [] ≡ []
+unfolding first_part
+no_lines level t w = none level (L.Attributes t w) [] no_attribute
+
+three_joined : (a b c d : List Line) → (a ++ b) ++ (c ++ d) ≡ (a ++ (b ++ c)) ++ d
+three_joined a b c d = sym (append_assoc (a ++ b) c d) ∙ ap (λ z. z ++ d) (append_assoc a b c)
+
+lines_are : (level : ℕ) (t : RawTable) (w p : List ℕ) (items : List Item) → AreItems p items → listed_lines level (L.Attributes t w) p ≡ lines_of level t w items
+unfolding first_part part_text part_head part_list part_padding
+lines_are level t w p [] h = ap (λ z. listed_lines level (L.Attributes t w) z) h ∙ no_lines level t w
+lines_are level t w p (x ∷ items) h =
+    let e = x.0 in
+    let text = raw_text (level + 1) t w e in
+    let padding = head_line (level + 1) (padding_words x.1) in
     let head = head_line (level + 1) (named_head (level + 1) (raw_row t e.kind) w e) in
     let list = inside_lines (level + 1) (named_list (level + 1) (raw_row t e.kind) w e) in
-    next level (L.Attributes t w) (list_text (e ∷ es)) e (list_text es) (first_attribute_text e (list_text es))
-    ∙ ap (λ z. (level, raw_text (level + 1) t w e) ∷ (head ++ (list ++ z))) (lines_are level t w es)
-    ∙ ap (λ z. (level, raw_text (level + 1) t w e) ∷ z) (sym (append_assoc head list (lines_of level t w es)))
+    let more = listed_lines level (L.Attributes t w) h.0 in
+    next level (L.Attributes t w) p e h.0 h.1
+    ∙ ap (λ o. (level, text) ∷ ((head_line (level + 1) (padding_words o) ++ head) ++ (list ++ more))) h.2
+    ∙ ap (λ z. (level, text) ∷ ((padding ++ head) ++ (list ++ z))) (lines_are level t w h.0 items h.3)
+    ∙ ap (λ z. (level, text) ∷ z) (three_joined padding head list (lines_of level t w items))
 
-lines_under : (level : ℕ) (t : RawTable) (w : List ℕ) (es : List Attribute) → IsUnder (level + 1) (lines_of level t w es)
+lines_under : (level : ℕ) (t : RawTable) (w : List ℕ) (items : List Item) → IsUnder (level + 1) (lines_of level t w items)
 lines_under level t w [] = record {}
-lines_under level t w (e ∷ es) = omega arith
+lines_under level t w (x ∷ items) = omega arith
+
+padded_deep : (level : ℕ) (t : RawTable) (w : List ℕ) (x : Item) → AreDeep level (padded_under level t w x)
+padded_deep level t w x =
+    let e = x.0 in
+    deep_joined level (head_line level (padding_words x.1)) (under level t w e) (head_deep level (padding_words x.1)) (below_deep level (named_head level (raw_row t e.kind) w e) (named_list level (raw_row t e.kind) w e))
 
 -- Pairs of a relation, in two lists of one length.
-abbrev Pairs : (Attribute → Attribute → Type 0) → List Attribute → List Attribute → Type 0
+abbrev Pairs : (Item → Item → Type 0) → List Item → List Item → Type 0
 Pairs P [] [] = ⊤
-Pairs P (e ∷ es) (f ∷ fs) = P e f × Pairs P es fs
-Pairs P es fs = ⊥
+Pairs P (x ∷ xs) (y ∷ ys) = P x y × Pairs P xs ys
+Pairs P xs ys = ⊥
 
--- Two attributes have the same line, and the same lines below it.
-pub record Alike (level : ℕ) (t : RawTable) (w v : List ℕ) (e f : Attribute) : Type 0 where
-  pub text : raw_text (level + 1) t w e ≡ raw_text (level + 1) t v f
-  pub lines : under (level + 1) t w e ≡ under (level + 1) t v f
+-- Two attributes have the same line, the same padding, and the same lines below it.
+pub record Alike (level : ℕ) (t : RawTable) (w v : List ℕ) (x y : Item) : Type 0 where
+  pub text : raw_text (level + 1) t w x.0 ≡ raw_text (level + 1) t v y.0
+  pub padding : x.1 ≡ y.1
+  pub lines : under (level + 1) t w x.0 ≡ under (level + 1) t v y.0
 
-blocks : (level : ℕ) (t : RawTable) (w v : List ℕ) (es fs : List Attribute) → lines_of level t w es ≡ lines_of level t v fs → Pairs (Alike level t w v) es fs
-blocks level t w v [] [] h = record {}
-blocks level t w v [] (f ∷ fs) h = absurd cc
-blocks level t w v (e ∷ es) [] h = absurd cc
-blocks level t w v (e ∷ es) (f ∷ fs) h =
-    let own_e = named_head (level + 1) (raw_row t e.kind) w e in
-    let own_f = named_head (level + 1) (raw_row t f.kind) v f in
-    let c = span (level + 1) (under (level + 1) t w e) (under (level + 1) t v f) (lines_of level t w es) (lines_of level t v fs)
-    (below_deep (level + 1) own_e (named_list (level + 1) (raw_row t e.kind) w e)) (below_deep (level + 1) own_f (named_list (level + 1) (raw_row t f.kind) v f)) (lines_under level t w es) (lines_under level t v fs) (ap (drop 1) h) in
-    (record { text = ap first_text h; lines = c.0 }, blocks level t w v es fs c.1)
+blocks : (level : ℕ) (t : RawTable) (w v : List ℕ) (xs ys : List Item) → AreEncodable xs → AreEncodable ys → lines_of level t w xs ≡ lines_of level t v ys → Pairs (Alike level t w v) xs ys
+blocks level t w v [] [] a b h = record {}
+blocks level t w v [] (y ∷ ys) a b h = absurd cc
+blocks level t w v (x ∷ xs) [] a b h = absurd cc
+blocks level t w v (x ∷ xs) (y ∷ ys) a b h =
+    let c = span (level + 1) (padded_under (level + 1) t w x) (padded_under (level + 1) t v y) (lines_of level t w xs) (lines_of level t v ys)
+    (padded_deep (level + 1) t w x) (padded_deep (level + 1) t v y) (lines_under level t w xs) (lines_under level t v ys) (ap (drop 1) h) in
+    let d = paddings_determined (level + 1) x.1 y.1 (under (level + 1) t w x.0) (under (level + 1) t v y.0) a.0.padding b.0.padding (held_apart (level + 1) t w x.0) (held_apart (level + 1) t v y.0) c.0 in
+    (record { text = ap first_text h; padding = d.0; lines = d.1 }, blocks level t w v xs ys a.1 b.1 c.1)
 
 -- ---- one attribute
 
@@ -125,8 +147,8 @@ named_kind level t w v e f x y a b h i same =
 either_kind : (level : ℕ) (t : RawTable) (w v : List ℕ) (e f : Attribute) (a b : Option (Named Raw)) → IsEncodable e → IsEncodable f → raw_row t e.kind ≡ a → raw_row t f.kind ≡ b → named_text level a w e ≡ named_text level b v f →
     ((a ≡ None) × (e ≡ f)) ⊎ ((x : Named Raw) × (y : Named Raw) × (raw_row t e.kind ≡ Some x) × (raw_row t f.kind ≡ Some y) × SameKind level t w v e f x y)
 either_kind level t w v e f None None a b h i same = inl (refl, unnamed_determined e f a b same)
-either_kind level t w v e f None (Some y) a b h i same = let n = row_facts t f.kind y i in absurd (not_unnamed y.0 (nested_word f.kind ++ after_name level y.1 v f.payload) _ n.starts n.upper (sym same))
-either_kind level t w v e f (Some x) None a b h i same = let n = row_facts t e.kind x h in absurd (not_unnamed x.0 (nested_word e.kind ++ after_name level x.1 w e.payload) _ n.starts n.upper same)
+either_kind level t w v e f None (Some y) a b h i same = let n = row_facts t f.kind y i in absurd (not_lower 107 y.0 (nested_word f.kind ++ after_name level y.1 v f.payload) _ (omega arith) n.starts n.upper (sym same))
+either_kind level t w v e f (Some x) None a b h i same = let n = row_facts t e.kind x h in absurd (not_lower 107 x.0 (nested_word e.kind ++ after_name level x.1 w e.payload) _ (omega arith) n.starts n.upper same)
 either_kind level t w v e f (Some x) (Some y) a b h i same = inr (x, y, h, i, named_kind level t w v e f x y a b h i same)
 
 same_attribute : (e f : Attribute) → e.kind ≡ f.kind → e.payload ≡ f.payload → e ≡ f
@@ -152,15 +174,20 @@ simple_by level t w v e f a b (inr (x, y, h, i, s)) = record {
       same_attribute e f s.kind (value_is level x.1 w v e.payload f.payload (ap (λ r. is_value r.1) one ∙ k) (row_facts t e.kind x h).determined a.payload b.payload s.after);
 }
 
-simple : (level : ℕ) (t : RawTable) (w v : List ℕ) (e f : Attribute) → IsEncodable e → IsEncodable f → Alike level t w v e f → Simple t e f
+simple : (level : ℕ) (t : RawTable) (w v : List ℕ) (x y : Item) → IsItem x → IsItem y → Alike level t w v x y → Simple t x.0 y.0
 unfolding raw_text
-simple level t w v e f a b h = simple_by (level + 1) t w v e f a b (either_kind (level + 1) t w v e f (raw_row t e.kind) (raw_row t f.kind) a b refl refl h.text)
+simple level t w v x y a b h =
+    simple_by (level + 1) t w v x.0 y.0 a.attribute b.attribute (either_kind (level + 1) t w v x.0 y.0 (raw_row t x.0.kind) (raw_row t y.0.kind) a.attribute b.attribute refl refl h.text)
 
-all_simple : (level : ℕ) (t : RawTable) (w v : List ℕ) (es fs : List Attribute) → AreEncodable es → AreEncodable fs → Pairs (Alike level t w v) es fs → Pairs (Simple t) es fs
+-- The same of the attributes of two items.
+abbrev AreSimple : RawTable → Item → Item → Type 0
+AreSimple t x y = Simple t x.0 y.0
+
+all_simple : (level : ℕ) (t : RawTable) (w v : List ℕ) (xs ys : List Item) → AreEncodable xs → AreEncodable ys → Pairs (Alike level t w v) xs ys → Pairs (AreSimple t) xs ys
 all_simple level t w v [] [] a b h = record {}
-all_simple level t w v [] (f ∷ fs) a b h = absurd h
-all_simple level t w v (e ∷ es) [] a b h = absurd h
-all_simple level t w v (e ∷ es) (f ∷ fs) a b h = (simple level t w v e f a.0 b.0 h.0, all_simple level t w v es fs a.1 b.1 h.1)
+all_simple level t w v [] (y ∷ ys) a b h = absurd h
+all_simple level t w v (x ∷ xs) [] a b h = absurd h
+all_simple level t w v (x ∷ xs) (y ∷ ys) a b h = (simple level t w v x y a.0 b.0 h.0, all_simple level t w v xs ys a.1 b.1 h.1)
 
 -- ---- types of encapsulations
 
@@ -179,11 +206,11 @@ type_pair t k r e f x y false h s same =
     let no_f : is_type k f ≡ false = type_is k f ∙ ap (λ b. b && (length f.payload == 2)) (ap (is_kind k) (sym s.kind) ∙ h) in
     ap (λ b. cond b (Some (u16_at 0 e.payload)) x) no_e ∙ same ∙ sym (ap (λ b. cond b (Some (u16_at 0 f.payload)) y) no_f)
 
-same_type : (t : RawTable) (k : ℕ) (r : TypeRow t k) (es fs : List Attribute) → Pairs (Simple t) es fs → type_among k es ≡ type_among k fs
+same_type : (t : RawTable) (k : ℕ) (r : TypeRow t k) (xs ys : List Item) → Pairs (AreSimple t) xs ys → type_among k xs ≡ type_among k ys
 same_type t k r [] [] h = refl
-same_type t k r [] (f ∷ fs) h = absurd h
-same_type t k r (e ∷ es) [] h = absurd h
-same_type t k r (e ∷ es) (f ∷ fs) h = type_pair t k r e f (type_among k es) (type_among k fs) (is_kind k e.kind) refl h.0 (same_type t k r es fs h.1)
+same_type t k r [] (y ∷ ys) h = absurd h
+same_type t k r (x ∷ xs) [] h = absurd h
+same_type t k r (x ∷ xs) (y ∷ ys) h = type_pair t k r x.0 y.0 (type_among k xs) (type_among k ys) (is_kind k x.0.kind) refl h.0 (same_type t k r xs ys h.1)
 
 -- ---- an attribute, and lists
 
@@ -211,33 +238,24 @@ module _ (n : ℕ) (shorter : ShorterDetermined n) where
   unfolding raw_text
   attribute_determined level t w v e f l a b types text lines = attribute_by level t w v e f l a b types lines (either_kind level t w v e f (raw_row t e.kind) (raw_row t f.kind) a b refl refl text)
 
-  attributes : (level : ℕ) (t : RawTable) (w v : List ℕ) (es fs : List Attribute) → SameTables t w v → AllByRecursion (λ e. length e.payload < n) es → AreEncodable es → AreEncodable fs → Pairs (Alike level t w v) es fs → es ≡ fs
-  attributes level t w v [] [] types l a b h = refl
-  attributes level t w v [] (f ∷ fs) types l a b h = absurd h
-  attributes level t w v (e ∷ es) [] types l a b h = absurd h
-  attributes level t w v (e ∷ es) (f ∷ fs) types l a b h =
-      let first = attribute_determined (level + 1) t w v e f l.0 a.0 b.0 types h.0.text h.0.lines in
-      let rest = attributes level t w v es fs types l.1 a.1 b.1 h.1 in
-      λ i. first i ∷ rest i
+  items_same : (level : ℕ) (t : RawTable) (w v : List ℕ) (xs ys : List Item) → SameTables t w v → AllByRecursion (λ x. length x.0.payload < n) xs → AreEncodable xs → AreEncodable ys → Pairs (Alike level t w v) xs ys → xs ≡ ys
+  items_same level t w v [] [] types l a b h = refl
+  items_same level t w v [] (y ∷ ys) types l a b h = absurd h
+  items_same level t w v (x ∷ xs) [] types l a b h = absurd h
+  items_same level t w v (x ∷ xs) (y ∷ ys) types l a b h =
+      let first = attribute_determined (level + 1) t w v x.0 y.0 l.0 a.0.attribute b.0.attribute types h.0.text h.0.lines in
+      let rest = items_same level t w v xs ys types l.1 a.1 b.1 h.1 in
+      λ i. (first i, h.0.padding i) ∷ rest i
 
-payloads_shorter : (n : ℕ) (es : List Attribute) → length (list_text es) ≤ n → AllByRecursion (λ e. length e.payload < n) es
-unfolding list_text
-payloads_shorter n [] l = record {}
-payloads_shorter n (e ∷ es) l =
-    let s = sized (list_text (e ∷ es)) e (list_text es) (first_attribute_text e (list_text es)) in
-    let a : attribute_length e ≤ nla_align (attribute_length e) = omega arith in
-    (omega (arith, s.within, l), payloads_shorter n es (omega (arith, s.within, s.rest_length, a, l)))
+payloads_shorter : (n : ℕ) (p : List ℕ) (items : List Item) → AreItems p items → length p ≤ n → AllByRecursion (λ x. length x.0.payload < n) items
+payloads_shorter n p [] h l = record {}
+payloads_shorter n p (x ∷ items) h l =
+    let s = sized p x.0 h.0 h.1 in
+    let a : attribute_length x.0 ≤ nla_align (attribute_length x.0) = omega arith in
+    (omega (arith, s.within, l), payloads_shorter n h.0 items h.3 (omega (arith, s.within, s.rest_length, a, l)))
 
-same_tables : (t : RawTable) (es fs : List Attribute) → Pairs (Simple t) es fs → SameTables t (list_text es) (list_text fs)
-same_tables t es fs h l k x row same = same_table k es fs (same_type t k (type_row t l k x row same) es fs h)
-
-of_attributes : (n level : ℕ) (t : RawTable) (es fs : List Attribute) → ShorterDetermined n → length (list_text es) ≤ n → AreEncodable es → AreEncodable fs →
-    listed_lines level (L.Attributes t (list_text es)) (list_text es) ≡ listed_lines level (L.Attributes t (list_text fs)) (list_text fs) → es ≡ fs
-of_attributes n level t es fs shorter l a b h =
-    let w = list_text es in
-    let v = list_text fs in
-    let pairs = blocks level t w v es fs (sym (lines_are level t w es) ∙ h ∙ lines_are level t v fs) in
-    attributes n shorter level t w v es fs (same_tables t es fs (all_simple level t w v es fs a b pairs)) (payloads_shorter n es l) a b pairs
+same_tables : (t : RawTable) (p q : List ℕ) (xs ys : List Item) → AreItems p xs → AreItems q ys → Pairs (AreSimple t) xs ys → SameTables t p q
+same_tables t p q xs ys a b h l k x row same = same_table k p q xs ys a b (same_type t k (type_row t l k x row same) xs ys h)
 
 -- Lines determine whole lists.
 pub shorter_determined : (n : ℕ) → ShorterDetermined n
@@ -245,6 +263,7 @@ shorter_determined zero level t p q l a b h i e = absurd (omega (arith, l))
 shorter_determined (suc n) level t p q l a b h i e =
     let x = listing p a h in
     let y = listing q b i in
-    let lines = subst (λ z. listed_lines level (L.Attributes t z) z ≡ listed_lines level (L.Attributes t (list_text y.attributes)) (list_text y.attributes)) x.is (subst (λ z. listed_lines level (L.Attributes t p) p ≡ listed_lines level (L.Attributes t z) z) y.is e) in
-    let same = of_attributes n level t x.attributes y.attributes (shorter_determined n) (omega (arith, ap length (sym x.is), l)) x.encodable y.encodable lines in
-    x.is ∙ ap list_text same ∙ sym y.is
+    let pairs = blocks level t p q x.items y.items x.encodable y.encodable (sym (lines_are level t p p x.items x.are) ∙ e ∙ lines_are level t q q y.items y.are) in
+    let types = same_tables t p q x.items y.items x.are y.are (all_simple level t p q x.items y.items x.encodable y.encodable pairs) in
+    let same = items_same n (shorter_determined n) level t p q x.items y.items types (payloads_shorter n p x.items x.are (omega (arith, l))) x.encodable y.encodable pairs in
+    items_determine p q y.items a b (subst (AreItems p) same x.are) y.are

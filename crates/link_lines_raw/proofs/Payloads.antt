@@ -1,7 +1,7 @@
 -- What follows a name, and the lines below it, determine a payload, provided that lines determine shorter lists.
 use Rattle.std.proofs.Common.{◌≡◌, ℕ, ◌+◌, ◌<◌, Bool, true, false, cond, List, [], ◌∷◌, ◌++◌, length, take, drop, get_or, Option, Some, None, refl, sym, ap, ◌∙◌, arith}
-use Rattle.std.specs.Prelude.{◌&&◌, nat_le, codes}
-use Rattle.std.proofs.lemmas.Bool.{and_parts}
+use Rattle.std.specs.Prelude.{◌&&◌, not, nat_le, bytes_eq, codes}
+use Rattle.std.proofs.lemmas.Bool.{and_parts, not-true}
 use Rattle.std.proofs.lemmas.List.{append_cancel_left, length-drop}
 use Rattle.netlink_packet_core_grammar.specs.Bytes.{AreBytes}
 use Rattle.netlink_packet_core_grammar.proofs.Bytes.{AreBytes-drop, AreBytes-take}
@@ -81,13 +81,15 @@ pub record LineFacts (line : RecordLine) : Type 0 where
   pub sizes : sizes_known line.1 ≡ true
   pub booleans : has_no_booleans line.1 ≡ true
   pub lines : are_fields_on_a_line line.1 ≡ true
+  pub unpadded : bytes_eq line.0 (codes "padding") ≡ false
 
 pub line_facts : (line : RecordLine) → is_line_determined line ≡ true → LineFacts line
 line_facts line h =
     let a = and_parts (is_line_word line.0) _ h in
     let b = and_parts (sizes_known line.1) _ a.1 in
-    let c = and_parts (has_no_booleans line.1) (are_fields_on_a_line line.1) b.1 in
-    record { word = a.0; sizes = b.0; booleans = c.0; lines = c.1 }
+    let c = and_parts (has_no_booleans line.1) _ b.1 in
+    let d = and_parts (are_fields_on_a_line line.1) (not (bytes_eq line.0 (codes "padding"))) c.1 in
+    record { word = a.0; sizes = b.0; booleans = c.0; lines = d.0; unpadded = not-true (bytes_eq line.0 (codes "padding")) d.1 }
 
 -- The words of a record determine it.
 pub words_determined : (line : RecordLine) (p q : List ℕ) → is_line_determined line ≡ true → AreBytes p → AreBytes q → is_record line.1 p ≡ true → is_record line.1 q ≡ true → record_words line p ≡ record_words line q → p ≡ q

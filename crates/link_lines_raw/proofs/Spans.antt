@@ -7,7 +7,7 @@ use Rattle.netlink_packet_core_grammar.specs.Attributes.{Attribute}
 use Rattle.link_lines_values.specs.Indents.{indent}
 use Rattle.link_lines_values.specs.Laws.{IsLine}
 use Rattle.link_lines_raw.specs.Lines.{IsShallow, Line, line_text, lines_text}
-use Rattle.link_lines_raw.specs.Lists.{Listed, first_part, head_line, head_text, inside_lines, lines_inside, lines_within, listed_lines, next_lines, part_head, part_lines, part_list, part_text, part_with_head}
+use Rattle.link_lines_raw.specs.Lists.{Listed, first_part, head_line, head_text, inside_lines, lines_inside, lines_within, listed_lines, next_lines, padding_words, part_head, part_lines, part_list, part_padding, part_text, part_with_head}
 use Rattle.link_lines_raw.proofs.Words.{Starts, cut_line, starts_joined}
 
 -- ---- lines
@@ -48,9 +48,12 @@ span level (x ∷ a) (y ∷ b) s t h k i j e =
 
 -- ---- the lines of lists
 
-head_deep : (level : ℕ) (o : Option (List ℕ)) → AreDeep level (head_line level o)
+pub head_deep : (level : ℕ) (o : Option (List ℕ)) → AreDeep level (head_line level o)
 head_deep level None = record {}
 head_deep level (Some t) = (omega arith, record {})
+
+heads_deep : (level : ℕ) (a b : Option (List ℕ)) → AreDeep level (head_line level a ++ head_line level b)
+heads_deep level a b = deep_joined level (head_line level a) (head_line level b) (head_deep level a) (head_deep level b)
 
 -- The lines of lists, computed in at most n steps, have their level.
 abbrev AllDeep : ℕ → Type 0
@@ -60,11 +63,12 @@ inside_deep : (n level : ℕ) (o : Option (Listed × List ℕ)) → AllDeep n �
 inside_deep n level None h = record {}
 inside_deep n level (Some x) h = h level x.0 x.1
 
-next_deep : (n level : ℕ) (listed : Listed) (o : Option (Attribute × List ℕ)) → AllDeep n → AreDeep level (next_lines (λ l m b. lines_within n l m b) level listed o)
-next_deep n level listed None h = record {}
-next_deep n level listed (Some x) h = (
+next_deep : (n level : ℕ) (listed : Listed) (bytes : List ℕ) (o : Option (Attribute × List ℕ)) → AllDeep n → AreDeep level (next_lines (λ l m b. lines_within n l m b) level listed bytes o)
+next_deep n level listed bytes None h = record {}
+next_deep n level listed bytes (Some x) h = (
   omega arith,
-  deep_joined level (head_line (level + 1) (part_head level listed x.0)) _ (less_deep level _ (head_deep (level + 1) (part_head level listed x.0)))
+  deep_joined level (head_line (level + 1) (padding_words (part_padding listed x.0 bytes)) ++ head_line (level + 1) (part_head level listed x.0)) _
+      (less_deep level _ (heads_deep (level + 1) (padding_words (part_padding listed x.0 bytes)) (part_head level listed x.0)))
       (deep_joined level (lines_inside (λ l m b. lines_within n l m b) (level + 1) (part_list level listed x.0)) _ (less_deep level _ (inside_deep n (level + 1) (part_list level listed x.0) h))
       (h level listed x.1)),
 )
@@ -72,7 +76,7 @@ next_deep n level listed (Some x) h = (
 within_deep : (n : ℕ) → AllDeep n
 unfolding lines_within
 within_deep zero level listed bytes = record {}
-within_deep (suc n) level listed bytes = next_deep n level listed (first_part listed bytes) (within_deep n)
+within_deep (suc n) level listed bytes = next_deep n level listed bytes (first_part listed bytes) (within_deep n)
 
 pub listed_deep : (level : ℕ) (listed : Listed) (bytes : List ℕ) → AreDeep level (listed_lines level listed bytes)
 unfolding listed_lines
@@ -150,11 +154,16 @@ unfolding lines_text
 head_is level None = refl
 head_is level (Some t) = append-nil (line_text (level, t))
 
+heads_are : (level : ℕ) (a b : Option (List ℕ)) → lines_text (head_line level a ++ head_line level b) ≡ head_text level a ++ head_text level b
+heads_are level a b = lines_joined_text (head_line level a) (head_line level b) ∙ ap (λ z. z ++ lines_text (head_line level b)) (head_is level a) ∙ ap (λ z. head_text level a ++ z) (head_is level b)
+
 -- The text of a part's lines.
-pub part_is : (level : ℕ) (listed : Listed) (e : Attribute) → lines_text (part_lines level listed e) ≡ part_with_head level listed e
-part_is level listed e =
-    sym (append-nil (lines_text (part_lines level listed e))) ∙ line_parts (level, part_text level listed e) (head_line (level + 1) (part_head level listed e)) []
-    ∙ ap (λ z. indent level ++ (part_text level listed e ++ 10 ∷ z)) (append-nil (lines_text (head_line (level + 1) (part_head level listed e))) ∙ head_is (level + 1) (part_head level listed e))
+pub part_is : (level : ℕ) (listed : Listed) (e : Attribute) (padding : Option (List ℕ)) → lines_text (part_lines level listed e padding) ≡ part_with_head level listed e padding
+part_is level listed e padding =
+    let own = padding_words padding in
+    let head = part_head level listed e in
+    sym (append-nil (lines_text (part_lines level listed e padding))) ∙ line_parts (level, part_text level listed e) (head_line (level + 1) own ++ head_line (level + 1) head) []
+    ∙ ap (λ z. indent level ++ (part_text level listed e ++ 10 ∷ z)) (append-nil (lines_text (head_line (level + 1) own ++ head_line (level + 1) head)) ∙ heads_are (level + 1) own head)
 
 -- The text of a head and of a list below it.
 pub below_is_text : (level : ℕ) (o : Option (List ℕ)) (l : Option (Listed × List ℕ)) → lines_text (head_line level o ++ inside_lines level l) ≡ head_text level o ++ lines_text (inside_lines level l)
@@ -179,3 +188,9 @@ held_text text level o l a b h k =
 -- Nothing is listed.
 pub nothing_text : (a : List ℕ) (level : ℕ) (l : Option (Listed × List ℕ)) → l ≡ None → a ≡ a ++ lines_text (inside_lines level l)
 nothing_text a level l h = sym (append-nil a) ∙ ap (λ z. a ++ z) (sym no_text) ∙ ap (λ o. a ++ lines_text (inside_lines level o)) (sym h)
+
+-- A line, and the line of padding below it.
+pub padded_line : (level : ℕ) (text padding : List ℕ) → line_text (level, text) ++ padding ≡ indent level ++ (text ++ 10 ∷ (padding ++ []))
+padded_line level text padding =
+    append_assoc (indent level) (text ++ 10 ∷ []) padding ∙ ap (λ z. indent level ++ z) (append_assoc text (10 ∷ []) padding)
+    ∙ ap (λ z. indent level ++ (text ++ 10 ∷ z)) (sym (append-nil padding))

@@ -1,11 +1,11 @@
 -- The type of an encapsulation, attribute by attribute.
 use Rattle.std.proofs.Common.{◌≡◌, ℕ, zero, suc, ◌-◌, ◌%◌, ◌≤◌, Bool, true, false, cond, List, [], ◌∷◌, length, drop, Option, Some, None, refl, sym, ap, ◌∙◌, arith}
 use Rattle.std.specs.Prelude.{◌==◌, ◌&&◌, not}
-use Rattle.netlink_packet_core_grammar.specs.Attributes.{Attribute, attribute_length, first_attribute, list_text, nla_align}
+use Rattle.netlink_packet_core_grammar.specs.Attributes.{Attribute, attribute_length, first_attribute, nla_align}
 use Rattle.netlink_packet_core_grammar.specs.Numbers.{u16_at}
-use Rattle.netlink_packet_core_grammar.proofs.Attributes.{first_attribute_text, sized}
+use Rattle.netlink_packet_core_grammar.proofs.Attributes.{sized}
 use Rattle.link_lines_raw.specs.Attributes.{encapsulation, has_byte_order_bit, is_type, padded_length, type_after, type_or, type_table}
-use Rattle.link_lines_raw.proofs.Whole.{rest_is}
+use Rattle.link_lines_raw.proofs.Whole.{AreItems, Item, rest_is}
 
 -- The bytes after some that are skipped.
 skipped : (k skip : ℕ) (p : List ℕ) → type_after k skip p ≡ type_after k 0 (drop skip p)
@@ -33,22 +33,24 @@ unfolding type_after
 no_type k [] h = refl
 no_type k (b ∷ p) h = ap (λ o. type_or k o (type_after k (padded_length o - 1) p)) h
 
--- The type among attributes.
-abbrev pub type_among : ℕ → List Attribute → Option ℕ
-type_among k [] = None
-type_among k (e ∷ es) = cond (is_type k e) (Some (u16_at 0 e.payload)) (type_among k es)
+empty_type : (k : ℕ) → type_after k 0 [] ≡ None
+unfolding type_after
+empty_type k = refl
 
-pub types_are : (k : ℕ) (es : List Attribute) → type_after k 0 (list_text es) ≡ type_among k es
-unfolding list_text type_after
-types_are k [] = refl
-types_are k (e ∷ es) =
-    first_type k (list_text (e ∷ es)) e (list_text es) (first_attribute_text e (list_text es))
-    ∙ ap (λ z. cond (is_type k e) (Some (u16_at 0 e.payload)) z) (types_are k es)
+-- The type among attributes.
+abbrev pub type_among : ℕ → List Item → Option ℕ
+type_among k [] = None
+type_among k (x ∷ items) = cond (is_type k x.0) (Some (u16_at 0 x.0.payload)) (type_among k items)
+
+pub types_are : (k : ℕ) (p : List ℕ) (items : List Item) → AreItems p items → type_after k 0 p ≡ type_among k items
+types_are k p [] h = ap (type_after k 0) h ∙ empty_type k
+types_are k p (x ∷ items) h =
+    first_type k p x.0 h.0 h.1 ∙ ap (λ z. cond (is_type k x.0) (Some (u16_at 0 x.0.payload)) z) (types_are k h.0 items h.3)
 
 -- Two lists with one type of encapsulation have one table of what is encapsulated.
-pub same_table : (k : ℕ) (es fs : List Attribute) → type_among k es ≡ type_among k fs → encapsulation k (list_text es) ≡ encapsulation k (list_text fs)
+pub same_table : (k : ℕ) (p q : List ℕ) (xs ys : List Item) → AreItems p xs → AreItems q ys → type_among k xs ≡ type_among k ys → encapsulation k p ≡ encapsulation k q
 unfolding encapsulation
-same_table k es fs h = ap type_table (types_are k es ∙ h ∙ sym (types_are k fs))
+same_table k p q xs ys a b h = ap type_table (types_are k p xs a ∙ h ∙ sym (types_are k q ys b))
 
 -- Whether a kind is that of a type.
 abbrev pub is_kind : ℕ → ℕ → Bool

@@ -13,7 +13,7 @@ use Rattle.link_lines_raw.specs.declared.raw_tables.RawTable.{RawTable}
 use Rattle.link_lines_raw.specs.declared.rows.RawBy.TheVariants as R
 use Rattle.link_lines_raw.specs.Attributes.{encapsulation, is_first_record, is_next_hop, is_shown, levels_below, raw_row}
 use Rattle.link_lines_parts.specs.Levels.{deepest_level}
-use Rattle.link_lines_raw.specs.Lists.{Listed, attributes_if_known, first_bytes, first_part, inside_lines, is_part, lines_inside, lines_within, listed_in, listed_lines, levels_of, named_list, next_lines, part_lines, part_list, shown_list}
+use Rattle.link_lines_raw.specs.Lists.{Listed, attributes_if_known, first_bytes, first_part, inside_lines, is_part, lines_inside, lines_within, listed_in, listed_lines, levels_of, named_list, next_lines, part_lines, part_list, part_padding, shown_list}
 use Rattle.link_lines_raw.specs.Names.{Named}
 use Rattle.link_lines_raw.specs.Rows.{Raw, RecordLine}
 
@@ -122,17 +122,18 @@ same_inside : (m n level size : ℕ) (o : Option (Listed × List ℕ)) → Agree
 same_inside m n level size None i w h k = refl
 same_inside m n level size (Some x) i w h k = i level x.0 x.1 (omega (arith, w, h)) (omega (arith, w, k))
 
-same_next : (m n level : ℕ) (listed : Listed) (bytes : List ℕ) → Agree m n → length bytes ≤ suc m → length bytes ≤ suc n → (o : Option (Attribute × List ℕ)) → first_part listed bytes ≡ o → next_lines (λ l d b. lines_within m l d b) level listed o ≡ next_lines (λ l d b. lines_within n l d b) level listed o
+same_next : (m n level : ℕ) (listed : Listed) (bytes : List ℕ) → Agree m n → length bytes ≤ suc m → length bytes ≤ suc n → (o : Option (Attribute × List ℕ)) → first_part listed bytes ≡ o → next_lines (λ l d b. lines_within m l d b) level listed bytes o ≡ next_lines (λ l d b. lines_within n l d b) level listed bytes o
 same_next m n level listed bytes i p q None h = refl
 same_next m n level listed bytes i p q (Some x) h =
     let s = part_smaller level listed bytes x.0 x.1 h in
-    ap (λ z. part_lines level listed x.0 ++ (z ++ lines_within m level listed x.1)) (same_inside m n (level + 1) (length bytes) (part_list level listed x.0) i s.within p q)
-    ∙ ap (λ z. part_lines level listed x.0 ++ (lines_inside (λ l d b. lines_within n l d b) (level + 1) (part_list level listed x.0) ++ z)) (i level listed x.1 (omega (arith, s.rest_shorter, p)) (omega (arith, s.rest_shorter, q)))
+    let own = part_lines level listed x.0 (part_padding listed x.0 bytes) in
+    ap (λ z. own ++ (z ++ lines_within m level listed x.1)) (same_inside m n (level + 1) (length bytes) (part_list level listed x.0) i s.within p q)
+    ∙ ap (λ z. own ++ (lines_inside (λ l d b. lines_within n l d b) (level + 1) (part_list level listed x.0) ++ z)) (i level listed x.1 (omega (arith, s.rest_shorter, p)) (omega (arith, s.rest_shorter, q)))
 
 no_part : (listed : Listed) (x : Attribute × List ℕ) → first_part listed [] ≡ Some x → ⊥
 no_part listed x h = let s = (part_smaller 0 listed [] x.0 x.1 h).rest_shorter in omega (arith, s)
 
-none_next : (n level : ℕ) (listed : Listed) (o : Option (Attribute × List ℕ)) → first_part listed [] ≡ o → next_lines (λ l d b. lines_within n l d b) level listed o ≡ []
+none_next : (n level : ℕ) (listed : Listed) (o : Option (Attribute × List ℕ)) → first_part listed [] ≡ o → next_lines (λ l d b. lines_within n l d b) level listed [] o ≡ []
 none_next n level listed None h = refl
 none_next n level listed (Some x) h = absurd (no_part listed x h)
 
@@ -152,19 +153,20 @@ inside_is n level size (Some x) w h = enough n (length x.1) level x.0 x.1 (omega
 
 -- The lines of the first part, of what it lists, and of the parts after it.
 pub next : (level : ℕ) (listed : Listed) (bytes : List ℕ) (e : Attribute) (after : List ℕ) → first_part listed bytes ≡ Some (e, after) →
-    listed_lines level listed bytes ≡ part_lines level listed e ++ (inside_lines (level + 1) (part_list level listed e) ++ listed_lines level listed after)
+    listed_lines level listed bytes ≡ part_lines level listed e (part_padding listed e bytes) ++ (inside_lines (level + 1) (part_list level listed e) ++ listed_lines level listed after)
 unfolding listed_lines lines_within
 next level listed [] e after h = absurd (no_part listed (e, after) h)
 next level listed (b ∷ bytes) e after h =
     let s = part_smaller level listed (b ∷ bytes) e after h in
-    ap (λ o. next_lines (λ l d z. lines_within (length bytes) l d z) level listed o) h
-    ∙ ap (λ z. part_lines level listed e ++ (z ++ lines_within (length bytes) level listed after)) (inside_is (length bytes) (level + 1) (suc (length bytes)) (part_list level listed e) s.within (omega arith))
-    ∙ ap (λ z. part_lines level listed e ++ (inside_lines (level + 1) (part_list level listed e) ++ z)) (enough (length bytes) (length after) level listed after (omega (arith, s.rest_shorter)) (omega arith))
+    let own = part_lines level listed e (part_padding listed e (b ∷ bytes)) in
+    ap (λ o. next_lines (λ l d z. lines_within (length bytes) l d z) level listed (b ∷ bytes) o) h
+    ∙ ap (λ z. own ++ (z ++ lines_within (length bytes) level listed after)) (inside_is (length bytes) (level + 1) (suc (length bytes)) (part_list level listed e) s.within (omega arith))
+    ∙ ap (λ z. own ++ (inside_lines (level + 1) (part_list level listed e) ++ z)) (enough (length bytes) (length after) level listed after (omega (arith, s.rest_shorter)) (omega arith))
 
 pub none : (level : ℕ) (listed : Listed) (bytes : List ℕ) → first_part listed bytes ≡ None → listed_lines level listed bytes ≡ []
 unfolding listed_lines lines_within
 none level listed [] h = refl
-none level listed (b ∷ bytes) h = ap (λ o. next_lines (λ l d z. lines_within (length bytes) l d z) level listed o) h
+none level listed (b ∷ bytes) h = ap (λ o. next_lines (λ l d z. lines_within (length bytes) l d z) level listed (b ∷ bytes) o) h
 
 pub nothing_listed : (level : ℕ) (listed : Listed) → listed_lines level listed [] ≡ []
 unfolding listed_lines lines_within

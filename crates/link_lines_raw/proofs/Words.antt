@@ -35,10 +35,10 @@ pub starts_joined : (a b : List ℕ) → Starts a → Starts (a ++ b)
 starts_joined [] b h = absurd h
 starts_joined (c ∷ a) b h = h
 
--- No name of a table is the word before a number.
-pub not_unnamed : (name inside rest : List ℕ) → Starts name → get_or name 0 0 < 97 → name ++ inside ≡ 107 ∷ rest → ⊥
-not_unnamed [] inside rest h l e = h
-not_unnamed (c ∷ name) inside rest h l e = let first : c ≡ 107 = cc in omega arith
+-- No name of a table begins with a lower-case letter, as the words `kind` and `padding` do.
+pub not_lower : (letter : ℕ) (name inside rest : List ℕ) → 97 ≤ letter → Starts name → get_or name 0 0 < 97 → name ++ inside ≡ letter ∷ rest → ⊥
+not_lower letter [] inside rest low h l e = h
+not_lower letter (c ∷ name) inside rest low h l e = let first : c ≡ letter = cc in omega arith
 
 -- Bytes that were appended in three steps.
 pub three_parts : (o a b d x y z : List ℕ) → x ≡ o ++ a → y ≡ x ++ b → z ≡ y ++ d → z ≡ o ++ (a ++ (b ++ d))

@@ -12,7 +12,7 @@ use Rattle.link_lines_values.specs.Records.{Field, fields_text, is_record, total
 use Rattle.link_lines_values.specs.declared.values.ShownBy.TheVariants as V
 pub use Rattle.link_lines_parts.specs.KindNames.{has_byte_order_bit, has_nested_bit, index_name, nested_word}
 use Rattle.link_lines_parts.specs.Levels.{deepest_level}
-pub use Rattle.link_lines_parts.specs.Whole.{is_padded, is_whole, is_whole_after, is_whole_attribute, padded_length}
+pub use Rattle.link_lines_parts.specs.Whole.{is_whole, is_whole_after, padded_length, shown_padding}
 use Rattle.link_lines_raw.specs.declared.raw_tables.RawTable.{RawTable}
 use Rattle.link_lines_raw.specs.declared.raw_tables.TheConstants.{ACTION, ENCAP_BPF, ENCAP_ILA, ENCAP_IOAM6, ENCAP_IP}
 use Rattle.link_lines_raw.specs.declared.raw_tables.TheConstants.{ENCAP_IP6, ENCAP_MPLS, ENCAP_RPL, ENCAP_SEG6}

@@ -1,5 +1,5 @@
 -- Tests of the tables of raw attributes, by computation: the lines of each row determine what the row holds.
-use Rattle.std.specs.Prelude.{ℕ, ◌&&◌, nat_le, Bool, true, false, List, [], ◌∷◌, Option, Some, None}
+use Rattle.std.specs.Prelude.{ℕ, ◌&&◌, not, nat_le, Bool, true, false, List, [], ◌∷◌, Option, Some, None, bytes_eq, codes}
 use Rattle.std.specs.List.{list_all}
 use Rattle.link_lines_values.specs.DenseRows.{find}
 use Rattle.link_lines_values.specs.Exact.{determines_exact}
@@ -16,10 +16,11 @@ abbrev pub is_line_word : List ℕ → Bool
 is_line_word [] = false
 is_line_word (c ∷ s) = nat_le 65 c && is_word s
 
--- Whether the line of a record determines the record, and is one line.
+-- Whether the line of a record determines the record, is one line, and isn't a line of padding.
 abbrev pub is_line_determined : RecordLine → Bool
 is_line_determined line =
-    is_line_word line.0 && (sizes_known line.1 && (has_no_booleans line.1 && are_fields_on_a_line line.1))
+    is_line_word line.0 && (sizes_known line.1 && (has_no_booleans line.1 && (are_fields_on_a_line line.1 &&
+    not (bytes_eq line.0 (codes "padding")))))
 
 -- Whether the lines of what a row holds determine it.
 abbrev pub determines_raw : Raw → Bool

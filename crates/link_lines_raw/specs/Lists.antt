@@ -1,8 +1,9 @@
 -- The lines of raw lists: one for each attribute, followed by those of what it holds, one level deeper.
 use Rattle.std.specs.Prelude.{ℕ, zero, suc, ◌+◌, ◌==◌, nat_le, Bool, true, false, cond, List, [], ◌∷◌, ◌++◌, length}
-use Rattle.std.specs.Prelude.{take, drop, Option, Some, None}
-use Rattle.netlink_packet_core_grammar.specs.Attributes.{Attribute, first_attribute}
+use Rattle.std.specs.Prelude.{take, drop, Option, Some, None, codes, option_map}
+use Rattle.netlink_packet_core_grammar.specs.Attributes.{Attribute, attribute_length, first_attribute}
 use Rattle.netlink_packet_core_grammar.specs.Numbers.{u16_at}
+use Rattle.link_lines_values.specs.Bytes.{bytes_text}
 use Rattle.link_lines_values.specs.Indents.{indent}
 use Rattle.link_lines_values.specs.Records.{total_size}
 use Rattle.link_lines_raw.specs.declared.lists.ListedBy.{ListedBy}
@@ -10,7 +11,7 @@ use Rattle.link_lines_raw.specs.declared.lists.ListedBy.TheVariants as L
 use Rattle.link_lines_raw.specs.declared.raw_tables.RawTable.{RawTable}
 use Rattle.link_lines_raw.specs.declared.rows.RawBy.TheVariants as R
 use Rattle.link_lines_raw.specs.Attributes.{encapsulation, is_first_record, is_next_hop, is_shown, next_hop_line}
-use Rattle.link_lines_raw.specs.Attributes.{raw_row, raw_text, record_words}
+use Rattle.link_lines_raw.specs.Attributes.{raw_row, raw_text, record_words, shown_padding}
 use Rattle.link_lines_raw.specs.Lines.{Line, line_text}
 use Rattle.link_lines_raw.specs.Names.{Named}
 use Rattle.link_lines_raw.specs.Rows.{Raw, RecordLine}
@@ -37,6 +38,19 @@ unfoldable pub part_text : ℕ → Listed → Attribute → List ℕ
 part_text level (L.Attributes table list) e = raw_text (level + 1) table list e
 part_text level (L.NextHops table) e = record_words next_hop_line (take 6 (drop 2 e.payload))
 part_text level (L.Records line) e = record_words line e.payload
+
+-- The padding after the first part of bytes that lines show: that of an attribute.
+unfoldable pub part_padding : Listed → Attribute → List ℕ → Option (List ℕ)
+part_padding (L.Attributes table list) e bytes = shown_padding (attribute_length e) bytes
+part_padding listed e bytes = None
+
+-- The word `padding` and the bytes in hex.
+abbrev pub padding_text : List ℕ → List ℕ
+padding_text padding = codes "padding" ++ bytes_text padding
+
+-- The text of the line of padding that lines show, if there is any.
+abbrev pub padding_words : Option (List ℕ) → Option (List ℕ)
+padding_words padding = option_map padding_text padding
 
 -- The text of the line that is below an attribute's line and before its list: that of the record at the start.
 abbrev pub head_of : Raw → List ℕ → Option (List ℕ)
@@ -100,9 +114,11 @@ abbrev pub head_line : ℕ → Option (List ℕ) → List Line
 head_line level None = []
 head_line level (Some text) = (level, text) ∷ []
 
--- The line of a part, and the line of its head one level deeper.
-abbrev pub part_lines : ℕ → Listed → Attribute → List Line
-part_lines level listed e = (level, part_text level listed e) ∷ head_line (level + 1) (part_head level listed e)
+-- The line of a part, and one level deeper the lines of its padding and of its head.
+abbrev pub part_lines : ℕ → Listed → Attribute → Option (List ℕ) → List Line
+part_lines level listed e padding =
+    (level, part_text level listed e) ∷
+    (head_line (level + 1) (padding_words padding) ++ head_line (level + 1) (part_head level listed e))
 
 -- The lines of what a part lists, if anything, given the lines of lists.
 abbrev pub lines_inside : (ℕ → Listed → List ℕ → List Line) → ℕ → Option (Listed × List ℕ) → List Line
@@ -110,17 +126,18 @@ lines_inside list level None = []
 lines_inside list level (Some x) = list level x.0 x.1
 
 -- The lines of the first part, of what it lists, and of the parts after it, given the lines of lists.
-abbrev pub next_lines : (ℕ → Listed → List ℕ → List Line) → ℕ → Listed → Option (Attribute × List ℕ) → List Line
-next_lines list level listed None = []
-next_lines list level listed (Some x) =
-    part_lines level listed x.0 ++
+abbrev pub next_lines : (ℕ → Listed → List ℕ → List Line) → ℕ → Listed → List ℕ → Option (Attribute × List ℕ) →
+    List Line
+next_lines list level listed bytes None = []
+next_lines list level listed bytes (Some x) =
+    part_lines level listed x.0 (part_padding listed x.0 bytes) ++
     (lines_inside list (level + 1) (part_list level listed x.0) ++ list level listed x.1)
 
 -- The lines of what is listed, computed in at most n steps.
 unfoldable pub lines_within : ℕ → ℕ → Listed → List ℕ → List Line
 lines_within zero level listed bytes = []
 lines_within (suc n) level listed bytes =
-    next_lines (λ l m b. lines_within n l m b) level listed (first_part listed bytes)
+    next_lines (λ l m b. lines_within n l m b) level listed bytes (first_part listed bytes)
 
 -- The lines of what is listed.
 unfoldable pub listed_lines : ℕ → Listed → List ℕ → List Line
@@ -147,10 +164,11 @@ abbrev pub head_text : ℕ → Option (List ℕ) → List ℕ
 head_text level None = []
 head_text level (Some text) = line_text (level, text)
 
--- The text of the line of a part, and of the line of its head one level deeper.
-abbrev pub part_with_head : ℕ → Listed → Attribute → List ℕ
-part_with_head level listed e =
-    indent level ++ (part_text level listed e ++ 10 ∷ head_text (level + 1) (part_head level listed e))
+-- The text of the line of a part, and one level deeper those of the lines of its padding and of its head.
+abbrev pub part_with_head : ℕ → Listed → Attribute → Option (List ℕ) → List ℕ
+part_with_head level listed e padding =
+    indent level ++ (part_text level listed e ++ 10 ∷
+    (head_text (level + 1) (padding_words padding) ++ head_text (level + 1) (part_head level listed e)))
 
 -- Whether a part is one of what is listed.
 abbrev pub is_part : Listed → List ℕ → Bool

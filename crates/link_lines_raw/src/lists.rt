@@ -1,12 +1,14 @@
 //! Whole lists of attributes, next hops and records, which lines can determine.
 
-ghost use Rattle.std.specs.Prelude.{◌≡◌, ◌≤◌, length, take, drop, option_map};
+ghost use Rattle.std.specs.Prelude.{◌≡◌, ◌≤◌, length, take, drop, option_map, IfSome, None};
+ghost use Rattle.netlink_packet_core_grammar.specs.Attributes.{attribute_length};
 ghost use Rattle.netlink_packet_core_grammar.specs.Attributes.{first_attribute};
 ghost use Rattle.link_interpreter.specs.Sameness.{attribute_of};
 ghost use Rattle.link_lines_values.specs.Records.{fields_of};
 ghost use Rattle.link_lines_raw.specs.Attributes.{are_next_hops_after, are_records_after, encapsulation};
 ghost use Rattle.link_lines_raw.specs.Attributes.{encapsulation_table, is_first_record, is_hop_of, is_next_hop, is_type, type_after};
-ghost use Rattle.link_lines_raw.specs.Lists.{first_part};
+ghost use Rattle.link_lines_parts.specs.Whole.{shown_padding};
+ghost use Rattle.link_lines_raw.specs.Lists.{first_part, part_padding};
 ghost use Rattle.link_lines_raw.specs.Views.{listed_of};
 
 use crate::raw_tables::{
@@ -15,9 +17,10 @@ use crate::raw_tables::{
 };
 use crate::rows::RecordLine;
 use link_interpreter::{Attribute, KIND_BOUND, first_attribute};
-use link_lines_parts::{has_byte_order_bit, is_whole};
+use link_lines_parts::{has_byte_order_bit, is_whole, shown_padding};
 use link_lines_values::line_layouts::RTNEXTHOP;
 use link_lines_values::{Field, is_record, record_size};
+use netlink_packet_core_attributes::nla::NLA_HEADER_SIZE;
 use netlink_packet_core_attributes::view::read_u16;
 
 /// The size in bytes of the struct at the start of a next hop (rtnetlink.h: struct rtnexthop).
@@ -153,29 +156,44 @@ pub(crate) fn are_records(fields: &[Field], bytes: &[u8]) -> bool
     true
 }
 
-/// Returns the first `size` bytes as a part of kind 0, and the bytes after them.
-fn first_bytes(size: usize, bytes: &[u8]) -> (Attribute<'_>, &[u8])
+/// A part of what is listed, the padding after it that lines show, and the bytes after both.
+pub(crate) type FirstPart<'a> = (Attribute<'a>, Option<&'a [u8]>, &'a [u8]);
+
+/// Returns the first attribute of bytes.
+#[tactic(auto, unfolding(crate::specs::Lists::first_part, crate::specs::Lists::part_padding))]
+fn first_listed(bytes: &[u8]) -> Option<FirstPart<'_>>
+    ensures first { first_attribute bytes.now ≡ option_map (λ r. (attribute_of r.0, r.2.now)) result }
+    ensures padding { IfSome result (λ r. option_map (λ p. p.now) r.1
+        ≡ shown_padding (attribute_length (attribute_of r.0)) bytes.now) }
+{
+    let (attribute, after) = first_attribute(bytes)?;
+    let length = NLA_HEADER_SIZE + attribute.payload.len();
+    Some((attribute, shown_padding(length, bytes), after))
+}
+
+/// Returns the first `size` bytes as a part of kind 0, without padding, and the bytes after them.
+fn first_bytes(size: usize, bytes: &[u8]) -> FirstPart<'_>
     requires { size ≤ length bytes.now }
     ensures payload { result.0.payload.now ≡ take size bytes.now }
     ensures kind { result.0.kind ≡ 0 }
-    ensures following { result.1.now ≡ drop size bytes.now }
+    ensures padding { result.1 ≡ None }
+    ensures following { result.2.now ≡ drop size bytes.now }
 {
     let (payload, after) = bytes.split_at(size);
-    (Attribute { kind: 0, payload }, after)
+    (Attribute { kind: 0, payload }, None, after)
 }
 
 /// Returns the first part of what is listed, and the bytes after it: an attribute, a next hop, or a
 /// record. Next hops and records have the kind 0.
-#[tactic(auto, unfolding(crate::specs::Lists::first_part))]
-pub(crate) fn first_part<'a>(
-    listed: Listed<'_>,
-    bytes: &'a [u8],
-) -> Option<(Attribute<'a>, &'a [u8])>
+#[tactic(auto, unfolding(crate::specs::Lists::first_part, crate::specs::Lists::part_padding))]
+pub(crate) fn first_part<'a>(listed: Listed<'_>, bytes: &'a [u8]) -> Option<FirstPart<'a>>
     ensures first { first_part (listed_of (λ b. b.now) listed.entry) bytes.now
-        ≡ option_map (λ r. (attribute_of r.0, r.1.now)) result }
+        ≡ option_map (λ r. (attribute_of r.0, r.2.now)) result }
+    ensures padding { IfSome result (λ r. option_map (λ p. p.now) r.1
+        ≡ part_padding (listed_of (λ b. b.now) listed.entry) (attribute_of r.0) bytes.now) }
 {
     match listed {
-        ListedBy::Attributes(_, _) => first_attribute(bytes),
+        ListedBy::Attributes(_, _) => first_listed(bytes),
         ListedBy::NextHops(_) if is_next_hop(bytes) => {
             Some(first_bytes(read_u16(bytes, 0) as usize, bytes))
         }

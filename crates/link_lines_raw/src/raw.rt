@@ -1,10 +1,11 @@
 //! The rows of raw attributes by table and kind, and their lines.
 
-ghost use Rattle.std.specs.Prelude.{◌≡◌, ◌≤◌, ◌<◌, ◌+◌, ◌%◌, ◌^◌, ◌++◌, ◌∷◌, [], true, length, nat_le, option_map, IfOk, OnOk};
+ghost use Rattle.std.specs.Prelude.{◌≡◌, ◌≤◌, ◌<◌, ◌+◌, ◌%◌, ◌^◌, ◌++◌, ◌∷◌, [], true, codes, length, nat_le, option_map, IfOk, OnOk};
 ghost use Rattle.link_lines_values.specs.Appends.{Appends};
 ghost use Rattle.link_lines_parts.specs.Levels.{deepest_level};
 ghost use Rattle.link_interpreter.specs.Sameness.{attribute_of};
 ghost use Rattle.link_lines_values.specs.DenseRows.{are_dense, find};
+ghost use Rattle.link_lines_values.specs.Digits.{four_digits};
 ghost use Rattle.link_lines_values.specs.Indents.{indent};
 ghost use Rattle.link_lines_values.specs.Layouts.{layout_fields};
 ghost use Rattle.link_lines_values.specs.Records.{total_size};
@@ -13,7 +14,7 @@ ghost use Rattle.link_lines_raw.specs.Attributes.{proper_row, raw_row, raw_text,
 ghost use Rattle.link_lines_raw.specs.Lines.{line_text, lines_text};
 ghost use Rattle.link_lines_raw.specs.Lists.{head_of, head_text, held_lines, is_part, levels_of, listed_in, listed_lines};
 ghost use Rattle.link_lines_raw.specs.Lists.{named_head, named_list};
-ghost use Rattle.link_lines_raw.specs.Lists.{part_list, part_with_head, raw_below, shown_head, shown_list};
+ghost use Rattle.link_lines_raw.specs.Lists.{padding_words, part_list, part_with_head, raw_below, shown_head, shown_list};
 ghost use Rattle.link_lines_raw.specs.Names.{named_of};
 ghost use Rattle.link_lines_raw.specs.Rows.{raw_of, raw_rows_in_code, record_line_of};
 ghost use Rattle.link_lines_raw.specs.Tables.{raw_rows_of};
@@ -230,111 +231,153 @@ fn open_lines<'a>(
     }
 }
 
-/// Appends the word `bytes` and the bytes in hex, and ends the line.
+/// Appends the word `bytes` and the bytes in hex.
 fn push_plain_bytes(bytes: &[u8], out: &mut Vec<u8>) -> Result<(), AllocError>
-    ensures { Appends out.old out.new result (plain_bytes bytes.now ++ 10 ∷ []) }
+    ensures { Appends out.old out.new result (plain_bytes bytes.now) }
 {
     out.extend_from_slice(b" bytes")?;
-    push_bytes(bytes, out)?;
+    push_bytes(bytes, out)
+}
+
+/// Appends the line of padding, if there is any to be shown.
+fn push_padding(level: usize, padding: Option<&[u8]>, out: &mut Vec<u8>) -> Result<(), AllocError>
+    ensures { Appends out.old out.new result
+        (head_text level (padding_words (option_map (λ p. p.now) padding.entry))) }
+{
+    let Some(padding) = padding else {
+        return Ok(());
+    };
+    push_indent(level, out)?;
+    out.extend_from_slice(b"padding")?;
+    push_bytes(padding, out)?;
     out.extend_from_slice(b"\n")
 }
 
-/// Appends what follows a name on the same line, and the line of the record at the start of the
-/// payload, if it has one. Returns what the payload lists below.
+/// Ends an attribute's line, and appends the line of padding after the attribute, if it is to be
+/// shown.
+fn push_line_end(level: usize, padding: Option<&[u8]>, out: &mut Vec<u8>) -> Result<(), AllocError>
+    ensures { Appends out.old out.new result
+        (10 ∷ head_text level (padding_words (option_map (λ p. p.now) padding.entry))) }
+{
+    out.extend_from_slice(b"\n")?;
+    push_padding(level, padding, out)
+}
+
+/// Appends what follows a name on the same line, the line of padding after the attribute, if it is
+/// to be shown, and the line of the record at the start of the payload, if it has one. Returns what
+/// the payload lists below.
 #[tactic(auto, unfolding(crate::specs::Attributes::after_name))]
 pub(crate) fn push_after_name<'a>(
     level: usize,
     raw: &Raw,
     list: &[u8],
     payload: &'a [u8],
+    padding: Option<&[u8]>,
     out: &mut Vec<u8>,
 ) -> Result<Option<(Listed<'a>, &'a [u8])>, AllocError>
     ensures appends { Appends out.old out.new result
         (after_name level (raw_of (λ b. b.now) raw.now) list.now payload.now
-        ++ 10 ∷ head_text level (shown_head level (raw_of (λ b. b.now) raw.now) list.now payload.now)) }
+        ++ 10 ∷ (head_text level (padding_words (option_map (λ p. p.now) padding.entry))
+        ++ head_text level (shown_head level (raw_of (λ b. b.now) raw.now) list.now payload.now))) }
     ensures list { IfOk result (λ found. option_map (listing (λ b. b.now)) found
         ≡ shown_list level (raw_of (λ b. b.now) raw.now) list.now payload.now) }
 {
     if let RawBy::Value(shown) = raw {
         push_raw_value(*shown, payload, out)?;
-        out.push(b'\n')?;
+        push_line_end(level, padding, out)?;
         return Ok(None);
     }
     if !is_shown(level, raw, list, payload) {
         push_plain_bytes(payload, out)?;
+        push_line_end(level, padding, out)?;
         return Ok(None);
     }
-    out.push(b'\n')?;
+    push_line_end(level, padding, out)?;
     open_lines(level, raw, list, payload, out)
 }
 
-/// Appends a raw attribute without a name, and ends the line: its kind as a number, and its bytes.
-fn push_unnamed(kind: u16, payload: &[u8], out: &mut Vec<u8>) -> Result<(), AllocError>
-    ensures { Appends out.old out.new result (unnamed_text kind payload.now ++ 10 ∷ []) }
+/// Appends the word `kind` and a kind in four digits.
+fn push_kind_number(kind: u16, out: &mut Vec<u8>) -> Result<(), AllocError>
+    ensures { Appends out.old out.new result (codes "kind " ++ four_digits kind) }
 {
     out.extend_from_slice(b"kind ")?;
-    push_four_digits(kind, out)?;
-    push_bytes(payload, out)?;
-    out.extend_from_slice(b"\n")
+    push_four_digits(kind, out)
 }
 
-/// Appends the text of a raw attribute's line and the line's end, and the line of the record at the
-/// start of its payload, if it has one. Returns what the payload lists below.
+/// Appends a raw attribute without a name: its kind as a number, and its bytes.
+fn push_unnamed(kind: u16, payload: &[u8], out: &mut Vec<u8>) -> Result<(), AllocError>
+    ensures { Appends out.old out.new result (unnamed_text kind payload.now) }
+{
+    push_kind_number(kind, out)?;
+    push_bytes(payload, out)
+}
+
+/// Appends the text of a raw attribute's line and the line's end, the line of padding after the
+/// attribute, if it is to be shown, and the line of the record at the start of its payload, if it has
+/// one. Returns what the payload lists below.
 #[tactic(auto, unfolding(crate::specs::Attributes::raw_text))]
 pub(crate) fn push_attribute<'a>(
     level: usize,
     table: RawTable,
     list: &[u8],
     attribute: Attribute<'a>,
+    padding: Option<&[u8]>,
     out: &mut Vec<u8>,
 ) -> Result<Option<(Listed<'a>, &'a [u8])>, AllocError>
     ensures appends { Appends out.old out.new result
         (raw_text level table list.now (attribute_of attribute.entry)
-        ++ 10 ∷ head_text level (named_head level (raw_row table attribute.entry.kind) list.now
-        (attribute_of attribute.entry))) }
+        ++ 10 ∷ (head_text level (padding_words (option_map (λ p. p.now) padding.entry))
+        ++ head_text level (named_head level (raw_row table attribute.entry.kind) list.now
+        (attribute_of attribute.entry)))) }
     ensures list { IfOk result (λ found. option_map (listing (λ b. b.now)) found
         ≡ named_list level (raw_row table attribute.entry.kind) list.now (attribute_of attribute.entry)) }
 {
     match raw_row(table, attribute.kind) {
         Some((name, raw)) => {
             push_kind_name(name, attribute.kind, out)?;
-            push_after_name(level, raw, list, attribute.payload, out)
+            push_after_name(level, raw, list, attribute.payload, padding, out)
         }
         None => {
             push_unnamed(attribute.kind, attribute.payload, out)?;
+            push_line_end(level, padding, out)?;
             Ok(None)
         }
     }
 }
 
-/// Appends the line of a part of what is listed, and the line of the record at the start of its
-/// payload one level deeper, if it has one. Returns what the part lists below.
+/// Appends the line of a part of what is listed, and one level deeper the line of padding after it,
+/// if it is to be shown, and the line of the record at the start of its payload, if it has one.
+/// Returns what the part lists below.
 #[tactic(auto, unfolding(crate::specs::Lists::part_text, crate::specs::Lists::part_head, crate::specs::Lists::part_list, crate::specs::Attributes::next_hop_line, link_lines_values::specs::Layouts::layout_fields))]
 fn push_part<'a>(
     level: usize,
     listed: Listed<'_>,
     part: Attribute<'a>,
+    padding: Option<&[u8]>,
     out: &mut Vec<u8>,
 ) -> Result<Option<(Listed<'a>, &'a [u8])>, AllocError>
     requires part { is_part (listed_of (λ b. b.now) listed) part.payload.now ≡ true }
     requires level { level < 2 ^ 63 }
     ensures appends { Appends out.old out.new result
-        (part_with_head level (listed_of (λ b. b.now) listed.entry) (attribute_of part.entry)) }
+        (part_with_head level (listed_of (λ b. b.now) listed.entry) (attribute_of part.entry)
+        (option_map (λ p. p.now) padding.entry)) }
     ensures list { IfOk result (λ found. option_map (listing (λ b. b.now)) found
         ≡ part_list level (listed_of (λ b. b.now) listed.entry) (attribute_of part.entry)) }
 {
     match listed {
         ListedBy::Attributes(table, list) => {
             push_indent(level, out)?;
-            push_attribute(level + 1, table, list, part, out)
+            push_attribute(level + 1, table, list, part, padding, out)
         }
         ListedBy::NextHops(table) => {
             push_record_line(level, RTNEXTHOP_LINE, &part.payload[2..NEXT_HOP_LEN], out)?;
+            push_padding(level + 1, padding, out)?;
             let (_, list) = part.payload.split_at(NEXT_HOP_LEN);
             Ok(Some((ListedBy::Attributes(table, list), list)))
         }
         ListedBy::Records(line) => {
             push_record_line(level, line, part.payload, out)?;
+            push_padding(level + 1, padding, out)?;
             Ok(None)
         }
     }
@@ -353,8 +396,8 @@ pub(crate) fn push_listed(
         (lines_text (listed_lines level (listed_of (λ b. b.now) listed.entry) bytes.now)) }
 {
     let mut rest = bytes;
-    while let Some((part, after)) = first_part(listed, rest) {
-        let found = push_part(level, listed, part, out)?;
+    while let Some((part, padding, after)) = first_part(listed, rest) {
+        let found = push_part(level, listed, part, padding, out)?;
         rest = after;
         if let Some((inside, list)) = found {
             push_listed(level + 1, inside, list, out)?;
@@ -381,7 +424,7 @@ pub fn push_raw(
         (raw_text level table [] (attribute_of attribute.entry)
         ++ 10 ∷ lines_text (raw_below level table (attribute_of attribute.entry))) }
 {
-    match push_attribute(level, table, &[], attribute, out)? {
+    match push_attribute(level, table, &[], attribute, None, out)? {
         Some((listed, list)) => push_listed(level, listed, list, out),
         None => Ok(()),
     }
@@ -404,7 +447,7 @@ pub fn push_held(
         (after_name level (raw_of (λ b. b.now) raw.now) [] payload.now
         ++ 10 ∷ lines_text (held_lines level (raw_of (λ b. b.now) raw.now) payload.now)) }
 {
-    match push_after_name(level, raw, &[], payload, out)? {
+    match push_after_name(level, raw, &[], payload, None, out)? {
         Some((listed, list)) => push_listed(level, listed, list, out),
         None => Ok(()),
     }

@@ -3,7 +3,7 @@ use Rattle.std.proofs.Common.{◌≡◌, ℕ, ◌+◌, List, [], ◌∷◌, ◌+
 use Rattle.std.proofs.lemmas.List.{append_cancel_left}
 use Rattle.link_lines_values.specs.Indents.{indent}
 use Rattle.link_lines_values.proofs.Deeper.{one_deeper}
-pub use Rattle.link_lines_raw.proofs.Words.{IsWord, Starts, following, cut_line, cut_word, lines_joined, not_unnamed, space_ends, starts_joined, three_parts, word_line, message_label}
+pub use Rattle.link_lines_raw.proofs.Words.{IsWord, Starts, following, cut_line, cut_word, lines_joined, not_lower, space_ends, starts_joined, three_parts, word_line, message_label}
 use Rattle.link_lines_raw.specs.Lines.{IsShallow}
 
 no_space : (a r : List ℕ) → Starts a → a ≡ 32 ∷ r → ⊥

@@ -42,7 +42,7 @@ use Rattle.link_lines_texts.specs.AttributeNames.{Name, attribute_name_of}
 use Rattle.link_lines_texts.specs.RawTables.{raw_table}
 use Rattle.link_lines_texts.proofs.CanonicalLists.{AllCanonical, CanonicalAttribute, canonical_list}
 use Rattle.link_lines_texts.proofs.ListUnfolding.{rest_shorter, steps}
-use Rattle.link_lines_texts.proofs.LineCuts.{IsWord, not_unnamed, space_ends, Starts, cut_line, cut_word, line_shallow, lines_joined, shallower, starts_joined, word_line}
+use Rattle.link_lines_texts.proofs.LineCuts.{IsWord, not_lower, space_ends, Starts, cut_line, cut_word, line_shallow, lines_joined, shallower, starts_joined, word_line}
 
 -- The lines below an attribute's line.
 abbrev pub below : ℕ → Scope → Inside → List ℕ → List ℕ
@@ -254,7 +254,7 @@ not_raw : (level : ℕ) (m : Table) (k : ℕ) (f : Attribute) (names : NamesDete
     t.0 ++ s ≡ named_text level o [] f → ⊥
 not_raw level m k f names t s None h none i ends e =
     let upper = names.upper (proper_kind k) t (small_kind k) h in
-    not_unnamed t.0 s _ upper.0 upper.1 e
+    not_lower 107 t.0 s _ (omega arith) upper.0 upper.1 e
 not_raw level m k f names t s (Some n) h none i ends e =
     let cut = cut_word t.0 n.0 s (after_row level n f) (names.word (proper_kind k) t (small_kind k) h) (row_facts (raw_table m) f.kind n i).word ends (after_ends level n f (has_nested_bit f.kind)) e in
     let kinds : proper_kind k ≡ f.kind % 0x4000 = names.raw (proper_kind k) f.kind t n h i cut.0 in

@@ -12,6 +12,7 @@ use Rattle.netlink_packet_core_grammar.specs.Numbers.{u16_at}
 use Rattle.netlink_packet_core_grammar.proofs.Attributes.{sized}
 use Rattle.netlink_packet_core_grammar.proofs.Bytes.{AreBytes-drop, AreBytes-first_attribute, AreBytes-take}
 use Rattle.link_lines_parts.specs.Levels.{deepest_level}
+use Rattle.link_lines_parts.specs.Whole.{is_padded, padding_after, shown_padding}
 use Rattle.link_lines_values.specs.Bytes.{bytes_text}
 use Rattle.link_lines_values.specs.DenseRows.{find}
 use Rattle.link_lines_values.specs.Digits.{four_digits}
@@ -26,7 +27,7 @@ use Rattle.link_lines_raw.specs.declared.rows.RawBy.TheVariants as R
 use Rattle.link_lines_raw.specs.Attributes.{after_name, encapsulation, has_nested_bit, index_name, indexed_row, is_first_record, is_headed, is_next_hop, is_shown, named_text, nested_word, next_hop_line, plain_bytes, proper_row, raw_row, raw_text, record_words, row_or_index}
 use Rattle.link_lines_raw.specs.Coverage.{in_each}
 use Rattle.link_lines_raw.specs.Lines.{line_text, lines_text}
-use Rattle.link_lines_raw.specs.Lists.{Listed, attributes_if_known, first_part, head_of, head_text, held_lines, inside_lines, levels_of, lines_inside, lines_within, listed_in, listed_lines, named_head, named_list, next_lines, part_head, part_lines, part_list, part_text, part_with_head, raw_below, shown_head, shown_list}
+use Rattle.link_lines_raw.specs.Lists.{Listed, attributes_if_known, first_part, head_of, head_text, held_lines, inside_lines, levels_of, lines_inside, lines_within, listed_in, listed_lines, named_head, named_list, next_lines, padding_text, padding_words, part_head, part_lines, part_list, part_padding, part_text, part_with_head, raw_below, shown_head, shown_list}
 use Rattle.link_lines_raw.specs.Names.{Named, all_named_rows}
 use Rattle.link_lines_raw.specs.Rows.{Raw, RecordLine}
 use Rattle.link_lines_raw.specs.Tables.{bridge_rows, cfm_rows, kind_rows, link_rows, multicast_rows, neighbour_rows, raw_rows_of, route_rows, traffic_rows}
@@ -34,7 +35,7 @@ use Rattle.link_lines_raw.proofs.Named.{found_in}
 use Rattle.link_lines_raw.proofs.RawRows.{in_table, is_row}
 use Rattle.link_lines_raw.proofs.Spans.{below_is_text, lines_joined_text, no_text, part_is}
 use Rattle.link_lines_raw.proofs.Unfolding.{InReach, first_bytes_are, hop_sizes, named_in_reach, part_in_reach, shown_in_reach}
-use Rattle.link_lines_texts.specs.Growth.{allowance, factor, fields_most, is_short_line, is_short_raw, is_short_row, leaves_space, margin, name_size}
+use Rattle.link_lines_texts.specs.Growth.{allowance, factor, fields_most, is_short_line, is_short_raw, is_short_row, leaves_space, margin, padding_margin, raw_name_size}
 use Rattle.link_lines_texts.proofs.ShortBytes.{bytes_text_short}
 use Rattle.link_lines_texts.proofs.ShortExact.{raw_value_short}
 use Rattle.link_lines_texts.proofs.ShortValues.{IsShort, fields_short, space}
@@ -51,19 +52,19 @@ hop_line_short = refl
 
 -- What is known of a row: its name leaves space for values, and what it holds is short.
 pub record IsShortRow (title : List ℕ) (raw : Raw) : Type 0 where
-  pub name : leaves_space (name_size title) ≡ true
-  pub held : is_short_raw (name_size title) raw ≡ true
+  pub name : leaves_space (raw_name_size title) ≡ true
+  pub held : is_short_raw (raw_name_size title) raw ≡ true
 
 row_by : (k : ℕ) (row : Named Raw) → is_short_row k row ≡ true → IsShortRow row.0 row.1
 row_by k row h =
-    let a = and_parts (leaves_space (name_size row.0)) _ h in
+    let a = and_parts (leaves_space (raw_name_size row.0)) _ h in
     record { name = a.0; held = a.1 }
 
 -- The names of indexes.
-index_space : (k : ℕ) → k < 65536 → leaves_space (name_size (index_name k)) ≡ true
+index_space : (k : ℕ) → k < 65536 → leaves_space (raw_name_size (index_name k)) ≡ true
 index_space k h =
     let s = length-decimal-le 5 k (omega arith) (omega (arith, h)) (omega (arith, h)) in
-    le-leb (name_size (index_name k) + 46) allowance (omega (arith, s, length-append (decimal k) (codes "]")))
+    le-leb (raw_name_size (index_name k) + 46) allowance (omega (arith, s, length-append (decimal k) (codes "]")))
 
 index_by : (a b c : Bool) (n : ℕ) (x y z raw : Raw) → is_short_raw n x ≡ true → is_short_raw n y ≡ true → is_short_raw n z ≡ true → cond a (Some x) (cond b (Some y) (cond c (Some z) None)) ≡ Some raw → is_short_raw n raw ≡ true
 index_by true b c n x y z raw h i j e = ap (is_short_raw n) (sym (same_Some x raw e)) ∙ h
@@ -78,7 +79,7 @@ index_held n t raw h =
 index_row : (t : RawTable) (k : ℕ) (row : Named Raw) (o : Option Raw) → k < 65536 → indexed_row t ≡ o → option_map (λ raw. (index_name k, raw)) o ≡ Some row → IsShortRow row.0 row.1
 index_row t k row None l h e = absurd cc
 index_row t k row (Some raw) l h e =
-    subst (λ r. IsShortRow r.0 r.1) (same_Some (index_name k, raw) row e) (record { name = index_space k l; held = index_held (name_size (index_name k)) t raw h })
+    subst (λ r. IsShortRow r.0 r.1) (same_Some (index_name k, raw) row e) (record { name = index_space k l; held = index_held (raw_name_size (index_name k)) t raw h })
 
 proper_by : (t : RawTable) (k : ℕ) (row : Named Raw) (o : Option (Named Raw)) → k < 65536 → find k (raw_rows_of t.0) ≡ o → row_or_index k o (indexed_row t) ≡ Some row → IsShortRow row.0 row.1
 proper_by t k row (Some r) l h e =
@@ -179,15 +180,15 @@ shown_listed extra level raw list p k a = cond_both (is_shown level raw list p) 
 -- An attribute's line, without its indentation and its newline, the line of a record below it, and the bytes of a list.
 abbrev IsShortAttribute : ℕ → RawTable → List ℕ → Attribute → Type 0
 IsShortAttribute level t w e =
-    length (raw_text level t w e) + length (head_text level (named_head level (raw_row t e.kind) w e)) + factor * listed_size (named_list level (raw_row t e.kind) w e) ≤ allowance + factor * length e.payload
+    padding_margin + length (raw_text level t w e) + length (head_text level (named_head level (raw_row t e.kind) w e)) + factor * listed_size (named_list level (raw_row t e.kind) w e) ≤ allowance + factor * length e.payload
 
 named_by : (level : ℕ) (t : RawTable) (w : List ℕ) (e : Attribute) (o : Option (Named Raw)) → raw_row t e.kind ≡ o → AreBytes e.payload →
-    length (named_text level o w e) + length (head_text level (named_head level o w e)) + factor * listed_size (named_list level o w e) ≤ allowance + factor * length e.payload
+    padding_margin + length (named_text level o w e) + length (head_text level (named_head level o w e)) + factor * listed_size (named_list level o w e) ≤ allowance + factor * length e.payload
 named_by level t w e None h a = omega (arith, bytes_text_short e.payload, length-append (four_digits e.kind) (bytes_text e.payload))
 named_by level t w e (Some row) h a =
     let r = row_short t e.kind row h in
     let after = after_name level row.1 w e.payload in
-    omega (arith, payload_short (name_size row.0) level row.1 w e.payload r.name r.held a, nested_size e.kind, length-append row.0 (nested_word e.kind ++ after), length-append (nested_word e.kind) after)
+    omega (arith, payload_short (raw_name_size row.0) level row.1 w e.payload r.name r.held a, nested_size e.kind, length-append row.0 (nested_word e.kind ++ after), length-append (nested_word e.kind) after)
 
 pub attribute_short : (level : ℕ) (t : RawTable) (w : List ℕ) (e : Attribute) → AreBytes e.payload → IsShortAttribute level t w e
 unfolding raw_text
@@ -195,7 +196,7 @@ attribute_short level t w e a = named_by level t w e (raw_row t e.kind) refl a
 
 named_listed : (level : ℕ) (t : RawTable) (w : List ℕ) (e : Attribute) (o : Option (Named Raw)) → raw_row t e.kind ≡ o → AreBytes e.payload → AreShortListed (named_list level o w e)
 named_listed level t w e None h a = record {}
-named_listed level t w e (Some row) h a = shown_listed (name_size row.0) level row.1 w e.payload (row_short t e.kind row h).held a
+named_listed level t w e (Some row) h a = shown_listed (raw_name_size row.0) level row.1 w e.payload (row_short t e.kind row h).held a
 
 -- ---- parts
 
@@ -210,31 +211,49 @@ unfolding first_part
 attribute_first t w bytes e rest h = h
 
 record IsShortPart (level : ℕ) (listed : Listed) (bytes : List ℕ) (e : Attribute) (rest : List ℕ) : Type 0 where
-  lines : length (part_with_head level listed e) + factor * listed_size (part_list level listed e) + factor * length rest ≤ factor * length bytes
+  lines : length (part_with_head level listed e (part_padding listed e bytes)) + factor * listed_size (part_list level listed e) + factor * length rest ≤ factor * length bytes
   list : AreShortListed (part_list level listed e)
   rest_bytes : AreBytes rest
-
-part_size : (level : ℕ) (listed : Listed) (e : Attribute) → level ≤ deepest_level → length (part_with_head level listed e) ≤ margin + length (part_text level listed e) + length (head_text (level + 1) (part_head level listed e))
-part_size level listed e h =
-    let head = head_text (level + 1) (part_head level listed e) in
-    omega (arith, indent_size level, h, length-append (indent level) (part_text level listed e ++ 10 ∷ head), length-append (part_text level listed e) (10 ∷ head))
 
 aligned : (n : ℕ) → n ≤ nla_align n
 aligned n = omega arith
 
+part_size : (level : ℕ) (listed : Listed) (e : Attribute) (padding : Option (List ℕ)) → level ≤ deepest_level →
+    length (part_with_head level listed e padding) ≤ margin + length (part_text level listed e) + length (head_text (level + 1) (padding_words padding)) + length (head_text (level + 1) (part_head level listed e))
+part_size level listed e padding h =
+    let own = head_text (level + 1) (padding_words padding) in
+    let head = head_text (level + 1) (part_head level listed e) in
+    omega (arith, indent_size level, h, length-append (indent level) (part_text level listed e ++ 10 ∷ (own ++ head)), length-append (part_text level listed e) (10 ∷ (own ++ head)), length-append own head)
+
+hex_size : (p : List ℕ) → length (bytes_text p) ≤ 3 * length p
+hex_size [] = omega arith
+hex_size (b ∷ p) = omega (arith, bytes_text_short (b ∷ p))
+
+padding_size : (level : ℕ) (p : List ℕ) → level ≤ deepest_level → length (line_text (level + 1, padding_text p)) ≤ padding_margin + 3 * length p
+padding_size level p h =
+    omega (arith, h, indent_size (level + 1), hex_size p, length-append (indent (level + 1)) (padding_text p ++ 10 ∷ []), length-append (padding_text p) (10 ∷ []), length-append (codes "padding") (bytes_text p))
+
+shown_size : (level n : ℕ) (p : List ℕ) → level ≤ deepest_level → length (head_text (level + 1) (padding_words (shown_padding n p))) ≤ padding_margin + 3 * length (padding_after n p)
+shown_size level n p h = cond_both (is_padded n p) None (Some (padding_after n p)) (λ o. length (head_text (level + 1) (padding_words o)) ≤ padding_margin + 3 * length (padding_after n p)) (λ e. omega arith) (λ e. padding_size level (padding_after n p) h)
+
+-- The bytes of an attribute, of its padding, and after it.
+spaced : (n : ℕ) (p : List ℕ) → n ≤ length p → n + length (padding_after n p) + (length p - nla_align n) ≤ length p
+spaced n p h = omega (arith, h, aligned n, length-drop n (take (nla_align n) p), length-take (nla_align n) p)
+
 attribute_part : (level : ℕ) (t : RawTable) (w bytes : List ℕ) (e : Attribute) (rest : List ℕ) → level ≤ deepest_level → AreBytes bytes → first_attribute bytes ≡ Some (e, rest) → IsShortPart level (L.Attributes t w) bytes e rest
-unfolding part_text part_head part_list
+unfolding part_text part_head part_list part_padding
 attribute_part level t w bytes e rest l a h =
+    let n = attribute_length e in
     let s = sized bytes e rest h in
     let b = AreBytes-first_attribute bytes e rest h a in
     record {
-      lines = omega (arith, part_size level (L.Attributes t w) e l, attribute_short (level + 1) t w e b.1, s.within, s.rest_length, aligned (attribute_length e));
+      lines = omega (arith, part_size level (L.Attributes t w) e (shown_padding n bytes) l, shown_size level n bytes l, spaced n bytes s.within, attribute_short (level + 1) t w e b.1, s.rest_length);
       list = named_listed (level + 1) t w e (raw_row t e.kind) refl b.1;
       rest_bytes = b.2;
     }
 
 hop_part : (level : ℕ) (t : RawTable) (bytes : List ℕ) (e : Attribute) (rest : List ℕ) → level + 1 ≤ deepest_level → AreBytes bytes → first_part (L.NextHops t) bytes ≡ Some (e, rest) → IsShortPart level (L.NextHops t) bytes e rest
-unfolding first_part part_text part_head part_list
+unfolding first_part part_text part_head part_list part_padding
 hop_part level t bytes e rest l a h =
     let n = u16_at 0 bytes in
     let f = first_bytes_are n bytes e rest (is_next_hop bytes) h in
@@ -243,13 +262,13 @@ hop_part level t bytes e rest l a h =
     let size : length e.payload ≡ n = ap length (sym f.payload_is) ∙ omega (arith, length-take n bytes, s.high) in
     let after : length rest ≡ length bytes - n = ap length (sym f.rest_is) ∙ length-drop n bytes in
     record {
-      lines = omega (arith, part_size level (L.NextHops t) e (omega (arith, l)), words_short next_hop_line (take 6 (drop 2 e.payload)) hop_line_short (AreBytes-take 6 (drop 2 e.payload) (AreBytes-drop 2 e.payload b)), hop_total, size, after, s.low, s.high, length-drop 8 e.payload);
+      lines = omega (arith, part_size level (L.NextHops t) e None (omega (arith, l)), words_short next_hop_line (take 6 (drop 2 e.payload)) hop_line_short (AreBytes-take 6 (drop 2 e.payload) (AreBytes-drop 2 e.payload b)), hop_total, size, after, s.low, s.high, length-drop 8 e.payload);
       list = (record {}, AreBytes-drop 8 e.payload b);
       rest_bytes = subst AreBytes f.rest_is (AreBytes-drop n bytes a);
     }
 
 record_part : (level : ℕ) (line : RecordLine) (bytes : List ℕ) (e : Attribute) (rest : List ℕ) → level ≤ deepest_level → is_short_line line ≡ true → AreBytes bytes → first_part (L.Records line) bytes ≡ Some (e, rest) → IsShortPart level (L.Records line) bytes e rest
-unfolding first_part part_text part_head part_list
+unfolding first_part part_text part_head part_list part_padding
 record_part level line bytes e rest l k a h =
     let n = total_size line.1 in
     let f = first_bytes_are n bytes e rest (is_first_record line.1 bytes) h in
@@ -258,7 +277,7 @@ record_part level line bytes e rest l k a h =
     let high = leb-true n (length bytes) (and_parts (nat_le n (length bytes)) _ c.1).0 in
     let after : length rest ≡ length bytes - n = ap length (sym f.rest_is) ∙ length-drop n bytes in
     record {
-      lines = omega (arith, part_size level (L.Records line) e l, words_short line e.payload k b, after, high);
+      lines = omega (arith, part_size level (L.Records line) e None l, words_short line e.payload k b, after, high);
       list = record {};
       rest_bytes = subst AreBytes f.rest_is (AreBytes-drop n bytes a);
     }
@@ -279,11 +298,12 @@ inside_by n level None h r s = omega (arith, ap length no_text)
 inside_by n level (Some x) h r s = h level x.0 x.1 r s.0 s.1
 
 next_by : (n level : ℕ) (listed : Listed) (bytes : List ℕ) (o : Option (Attribute × List ℕ)) → first_part listed bytes ≡ o → AllShort n → level + levels_of listed ≤ deepest_level → IsShortListed listed → AreBytes bytes →
-    length (lines_text (next_lines (λ l m b. lines_within n l m b) level listed o)) ≤ factor * length bytes
+    length (lines_text (next_lines (λ l m b. lines_within n l m b) level listed bytes o)) ≤ factor * length bytes
 next_by n level listed bytes None e h l k a = omega (arith, ap length no_text)
 next_by n level listed bytes (Some x) e h l k a =
     let p = part_short level listed bytes x.0 x.1 l k a e in
-    let own = part_lines level listed x.0 in
+    let padding = part_padding listed x.0 bytes in
+    let own = part_lines level listed x.0 padding in
     let inside = lines_inside (λ l m b. lines_within n l m b) (level + 1) (part_list level listed x.0) in
     let more = lines_within n level listed x.1 in
     omega (
@@ -293,7 +313,7 @@ next_by n level listed bytes (Some x) e h l k a =
       h level listed x.1 l k p.rest_bytes,
       ap length (lines_joined_text own (inside ++ more)),
       ap length (lines_joined_text inside more),
-      ap length (part_is level listed x.0),
+      ap length (part_is level listed x.0 padding),
       length-append (lines_text own) (lines_text (inside ++ more)),
       length-append (lines_text inside) (lines_text more),
     )

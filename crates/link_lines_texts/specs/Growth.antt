@@ -16,11 +16,16 @@ use Rattle.link_lines_texts.specs.Format.{Inside, Inside.Value, Inside.Settings,
 
 -- The bytes of lines for each byte of the text that they show, at most.
 abbrev pub factor : ℕ
-factor = 44
+factor = 46
 
 -- The bytes of a line beside its text, at most: the indentation of the deepest level, and the newline.
 abbrev pub margin : ℕ
 margin = 2 * deepest_level + 1
+
+-- The bytes of a line of padding beside the padding's own, at most: the indentation, one level deeper than that of the
+-- deepest attribute, the word `padding` and the newline.
+abbrev pub padding_margin : ℕ
+padding_margin = 2 * (deepest_level + 1) + 8
 
 -- The bytes of an attribute's line that the 4 bytes of the attribute's header allow, without those beside the line's text.
 abbrev pub allowance : ℕ
@@ -109,9 +114,13 @@ is_short_raw extra raw = true
 abbrev pub name_size : List ℕ → ℕ
 name_size name = length name + 7
 
+-- The length of the name of a raw attribute, the word ` nested` and a line of padding that isn't there.
+abbrev pub raw_name_size : List ℕ → ℕ
+raw_name_size name = name_size name + padding_margin
+
 -- Whether the lines of the row of a raw attribute are short enough.
 abbrev pub is_short_row : ℕ → Named Raw → Bool
-is_short_row kind row = leaves_space (name_size row.0) && is_short_raw (name_size row.0) row.1
+is_short_row kind row = leaves_space (raw_name_size row.0) && is_short_raw (raw_name_size row.0) row.1
 
 -- Whether what an attribute with a name holds is short enough.
 abbrev pub is_short_inside : ℕ → Inside → Bool

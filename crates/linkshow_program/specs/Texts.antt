@@ -101,7 +101,8 @@ help_text =
     codes "  --link WORD        show only messages about this link, by name or index" ∷
     codes "  --without NAME,..  leave out these attributes, by name, and these groups:" ∷
     codes "                     numbers, as --without-numbers; counters, as statistics" ∷
-    codes "                     and timers; indexes, of links and of namespaces" ∷
+    codes "                     and timers; indexes, of links and of namespaces;" ∷
+    codes "                     padding, which is shown where it isn't zero" ∷
     codes "  --without-numbers  leave out sequence and port numbers, which change from" ∷
     codes "                     run to run" ∷
     codes "  --offsets          show each message's offset in bytes" ∷

@@ -31,7 +31,8 @@ of its normal text: captures that mean the same have the same lines.
   --link WORD        show only messages about this link, by name or index
   --without NAME,..  leave out these attributes, by name, and these groups:
                      numbers, as --without-numbers; counters, as statistics
-                     and timers; indexes, of links and of namespaces
+                     and timers; indexes, of links and of namespaces;
+                     padding, which is shown where it isn't zero
   --without-numbers  leave out sequence and port numbers, which change from
                      run to run
   --offsets          show each message's offset in bytes

@@ -51,6 +51,16 @@ const CASES: [(u16, bool, &str); 16] = [
   FRA_PRIORITY 100
 ",
     ),
+    // Padding that isn't zero.
+    (
+        20,
+        false,
+        "0218800002000000070003006c6f0001
+  ifaddrmsg family 2 (AF_INET) prefixlen 24 flags 0x80 (PERMANENT) scope 0 (universe) index 2
+  IFA_LABEL \"lo\"
+    padding 01
+",
+    ),
     // Requests, by their fields.
     (26, true, "02000000\n  rtgenmsg family 2 (AF_INET)\n"),
     (
@@ -69,7 +79,6 @@ const CASES: [(u16, bool, &str); 16] = [
     (28, false, "020001000300000002000001\n"),
     (26, true, "02000001\n"),
     (24, false, "02000000\n"),
-    (20, false, "0218800002000000070003006c6f0001\n"),
     (20, false, "0218800002000000040003\n"),
     (20, false, "02188000020000\n"),
     (77, false, "0000000000000000\n"),

@@ -29,7 +29,7 @@ const CASES: [(RawTable, u16, &str); 27] = [
     (
         ROUTE,
         8,
-        "0600100078000101\nRTA_METRICS bytes 0600100078000101\n",
+        "0600100078000101\nRTA_METRICS\n  RTAX_CC_ALGO \"x\"\n    padding 0101\n",
     ),
     // Indexes as names.
     (

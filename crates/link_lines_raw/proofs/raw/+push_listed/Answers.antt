@@ -42,7 +42,7 @@ loop-part-preserved-in-Continue-branch-2 t c =
     let x = listing (λ b. b.now) (c.in-Some-found.inside, c.in-Some-found.list) in
     let tells : part_list c.args.level m e ≡ Some x = sym c.in_ok-found.ensures.list ∙ ap (option_map (listing (λ b. b.now))) c.in-Some-found.is in
     let more = lines_text (listed_lines c.args.level m c.in-Some.after.now) in
-    let own = step _ c.loop-part.invariant.appends c.in_ok-found.ensures.appends (sym (rest_text c.args.level m c.loop-part.rest.now e c.in-Some.after.now c.in-Some.ensures.first)) in
+    let own = step _ c.loop-part.invariant.appends c.in_ok-found.ensures.appends (sym (rest_text c.args.level m c.loop-part.rest.now e (option_map (λ b. b.now) c.in-Some.padding) c.in-Some.after.now c.in-Some.ensures.first c.in-Some.ensures.padding)) in
     record {
       within = omega (arith, s.rest_shorter, c.loop-part.invariant.within);
       appends = step _ own c.in_ok-push_listed.ensures (ap (λ o. lines_text (inside_lines (c.args.level + 1) o) ++ more) (sym tells));
@@ -57,7 +57,7 @@ loop-part-preserved t c =
     let tells : part_list c.args.level m e ≡ None = sym c.in_ok-found.ensures.list ∙ ap (option_map (listing (λ b. b.now))) nothing in
     record {
       within = omega (arith, s.rest_shorter, c.loop-part.invariant.within);
-      appends = step _ c.loop-part.invariant.appends c.in_ok-found.ensures.appends (sym (bare_text c.args.level m c.loop-part.rest.now e c.in-Some.after.now c.in-Some.ensures.first tells));
+      appends = step _ c.loop-part.invariant.appends c.in_ok-found.ensures.appends (sym (bare_text c.args.level m c.loop-part.rest.now e (option_map (λ b. b.now) c.in-Some.padding) c.in-Some.after.now c.in-Some.ensures.first c.in-Some.ensures.padding tells));
     }
 
 pub returns : goal.returns
@@ -70,7 +70,7 @@ pub returns-in_err-found : goal.returns-in_err-found
 returns-in_err-found t c =
     let m = listed_of (λ b. b.now) c.args.listed in
     let e : Attribute = record { kind = c.in-Some.part.kind; payload = c.in-Some.part.payload.now } in
-    failed _ _ _ c.from_residual.ensures.0 c.loop-part.invariant.appends c.in_err-found.ensures.appends (sym (rest_text c.args.level m c.loop-part.rest.now e c.in-Some.after.now c.in-Some.ensures.first))
+    failed _ _ _ c.from_residual.ensures.0 c.loop-part.invariant.appends c.in_err-found.ensures.appends (sym (rest_text c.args.level m c.loop-part.rest.now e (option_map (λ b. b.now) c.in-Some.padding) c.in-Some.after.now c.in-Some.ensures.first c.in-Some.ensures.padding))
 
 pub returns-in_err-push_listed : goal.returns-in_err-push_listed
 returns-in_err-push_listed t c =
@@ -79,5 +79,5 @@ returns-in_err-push_listed t c =
     let x = listing (λ b. b.now) (c.in-Some-found.inside, c.in-Some-found.list) in
     let tells : part_list c.args.level m e ≡ Some x = sym c.in_ok-found.ensures.list ∙ ap (option_map (listing (λ b. b.now))) c.in-Some-found.is in
     let more = lines_text (listed_lines c.args.level m c.in-Some.after.now) in
-    let own = step _ c.loop-part.invariant.appends c.in_ok-found.ensures.appends (sym (rest_text c.args.level m c.loop-part.rest.now e c.in-Some.after.now c.in-Some.ensures.first)) in
+    let own = step _ c.loop-part.invariant.appends c.in_ok-found.ensures.appends (sym (rest_text c.args.level m c.loop-part.rest.now e (option_map (λ b. b.now) c.in-Some.padding) c.in-Some.after.now c.in-Some.ensures.first c.in-Some.ensures.padding)) in
     failed _ _ _ c.from_residual-in_err-push_listed.ensures.0 own c.in_err-push_listed.ensures (ap (λ o. lines_text (inside_lines (c.args.level + 1) o) ++ more) (sym tells))

@@ -28,7 +28,7 @@ END
 daemon=$!
 trap 'kill $daemon 2> /dev/null; rm -rf "$work"' EXIT
 sleep 1
-timeout --preserve-status -s INT 2 "$1" run --attach "$daemon" -o "$work/made"
+timeout --preserve-status -s INT 3 "$1" run --attach "$daemon" -o "$work/made"
 status=$?
 kill -0 "$daemon" || { echo "attach: the daemon has ended"; exit 1; }
 types=$("$LINKSHOW" "$work/made" | grep -v '^ ' | cut -d ' ' -f 1 | sort -u | paste -sd ' ')

@@ -1,6 +1,6 @@
 #!/usr/bin/env bash
 # Runs the programs on captures whose lists are as deep as 65 kB allow (tools/oracle/deep.py), each with a stack of 256 KiB:
-# the lines have to be those of the independent implementation, and at most 44 times as long as the capture.
+# the lines have to be those of the independent implementation, and at most 46 times as long as the capture.
 #
 #     bench/deep.sh
 #
@@ -29,7 +29,7 @@ for capture in "$work"/captures/*.bin; do
     python3 tools/oracle/linkshow.py < "$capture" > "$work/expected" || wrong "$name: no lines of the independent implementation"
     shallow linkshow "$capture" > "$work/lines" || wrong "$name: linkshow ends with $?"
     cmp -s "$work/expected" "$work/lines" || wrong "$name: other lines"
-    [ "$(wc -c < "$work/lines")" -le $((44 * $(wc -c < "$capture"))) ] || wrong "$name: more than 44 times as long"
+    [ "$(wc -c < "$work/lines")" -le $((46 * $(wc -c < "$capture"))) ] || wrong "$name: more than 46 times as long"
     shallow linkshow --json "$capture" > "$work/json" || wrong "$name: linkshow --json ends with $?"
     linkjson "$work/lines" > "$work/linkjson" || wrong "$name: linkjson ends with $?"
     shallow linkcap norm < "$capture" > "$work/text" || wrong "$name: linkcap norm ends with $?"

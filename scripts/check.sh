@@ -74,7 +74,7 @@ expect "captures that differ" 1 "" "$linkdiff" a b << 'END'
 +++ b
 @@ -1,4 +1,4 @@ RTM_GETLINK lo
  RTM_GETLINK flags 0x301 (REQUEST | ROOT | MATCH) seq 1526271540 port 0
-   ifinfomsg family 0 (AF_UNSPEC) type 0 (netrom) index 0 flags 0x0 change 0x0
+   ifinfomsg family 0 (AF_UNSPEC) type 0 index 0 flags 0x0 change 0x0
    IFLA_EXT_MASK 0x9 (Vf | SkipStats)
 -  IFLA_IFNAME "lo"
 +  IFLA_IFNAME "l1"
@@ -87,7 +87,7 @@ expect "another sequence number" 1 "" "$linkdiff" a later << 'END'
 @@ -1,4 +1,4 @@ RTM_GETLINK lo
 -RTM_GETLINK flags 0x301 (REQUEST | ROOT | MATCH) seq 1526271540 port 0
 +RTM_GETLINK flags 0x301 (REQUEST | ROOT | MATCH) seq 67305985 port 0
-   ifinfomsg family 0 (AF_UNSPEC) type 0 (netrom) index 0 flags 0x0 change 0x0
+   ifinfomsg family 0 (AF_UNSPEC) type 0 index 0 flags 0x0 change 0x0
    IFLA_EXT_MASK 0x9 (Vf | SkipStats)
    IFLA_IFNAME "lo"
 END
@@ -104,7 +104,7 @@ expect "no messages, which is allowed" 1 "" "$linkdiff" --empty none a << 'END'
 +++ a
 @@ -0,0 +1,4 @@ RTM_GETLINK lo
 +RTM_GETLINK flags 0x301 (REQUEST | ROOT | MATCH) seq 1526271540 port 0
-+  ifinfomsg family 0 (AF_UNSPEC) type 0 (netrom) index 0 flags 0x0 change 0x0
++  ifinfomsg family 0 (AF_UNSPEC) type 0 index 0 flags 0x0 change 0x0
 +  IFLA_EXT_MASK 0x9 (Vf | SkipStats)
 +  IFLA_IFNAME "lo"
 END
@@ -128,7 +128,7 @@ expect "names of the sides" 1 "" "$linkdiff" --label golden --label made a b << 
 +++ made
 @@ -1,4 +1,4 @@ RTM_GETLINK lo
  RTM_GETLINK flags 0x301 (REQUEST | ROOT | MATCH) seq 1526271540 port 0
-   ifinfomsg family 0 (AF_UNSPEC) type 0 (netrom) index 0 flags 0x0 change 0x0
+   ifinfomsg family 0 (AF_UNSPEC) type 0 index 0 flags 0x0 change 0x0
    IFLA_EXT_MASK 0x9 (Vf | SkipStats)
 -  IFLA_IFNAME "lo"
 +  IFLA_IFNAME "l1"
@@ -140,7 +140,7 @@ expect "a golden file's line numbers" 1 "" "$linkdiff" --without numbers headed.
 +++ b
 @@ -2,4 +1,4 @@ RTM_GETLINK lo
  RTM_GETLINK flags 0x301 (REQUEST | ROOT | MATCH)
-   ifinfomsg family 0 (AF_UNSPEC) type 0 (netrom) index 0 flags 0x0 change 0x0
+   ifinfomsg family 0 (AF_UNSPEC) type 0 index 0 flags 0x0 change 0x0
    IFLA_EXT_MASK 0x9 (Vf | SkipStats)
 -  IFLA_IFNAME "lo"
 +  IFLA_IFNAME "l1"
@@ -204,14 +204,14 @@ expect "invalid messages that differ" 1 "linkdiff: mixed: $refused" "$linkdiff" 
 --- mixed
 +++ valid
 @@ -2,9 +2,6 @@ RTM_GETLINK at 48 of mixed
-   ifinfomsg family 0 (AF_UNSPEC) type 0 (netrom) index 0 flags 0x0 change 0x0
+   ifinfomsg family 0 (AF_UNSPEC) type 0 index 0 flags 0x0 change 0x0
    IFLA_EXT_MASK 0x9 (Vf | SkipStats)
    IFLA_IFNAME "lo"
 -RTM_GETLINK flags 0x301 (REQUEST | ROOT | MATCH) seq 1 port 0
 -  refused: a header of 4 bytes
 -  body 00000000
  RTM_GETLINK flags 0x301 (REQUEST | ROOT | MATCH) seq 1526271540 port 0
-   ifinfomsg family 0 (AF_UNSPEC) type 0 (netrom) index 0 flags 0x0 change 0x0
+   ifinfomsg family 0 (AF_UNSPEC) type 0 index 0 flags 0x0 change 0x0
    IFLA_EXT_MASK 0x9 (Vf | SkipStats)
 END
 expect "a cut frame after invalid messages" 2 "linkdiff: mixed-cut: $refused"$'\n'"linkdiff: mixed-cut: no whole message at 116" \
@@ -230,7 +230,7 @@ done
 
 cat "$work/a" "$work/b" "$work/a" > "$work/three"
 json='{"type": "RTM_GETLINK", "flags": {"value": 769, "flags": ["REQUEST", "ROOT", "MATCH"]}, "seq": 1526271540, "port": 0, '
-json+='"header": {"struct": "ifinfomsg", "family": {"value": 0, "text": "AF_UNSPEC"}, "type": {"value": 0, "text": "netrom"}, "index": 0, '
+json+='"header": {"struct": "ifinfomsg", "family": {"value": 0, "text": "AF_UNSPEC"}, "type": {"value": 0}, "index": 0, '
 json+='"flags": {"value": 0, "flags": []}, "change": {"value": 0, "flags": []}}, '
 json+='"attributes": [{"name": "IFLA_EXT_MASK", "value": 9, "flags": ["Vf", "SkipStats"]}, {"name": "IFLA_IFNAME", "value": "lo", "quoted": true}]}'
 succeeds "stored lines as JSON" "$top/scripts/tests/lines.py"
@@ -256,6 +256,8 @@ expect "JSON of a link" 0 "no messages" "$linkjson" --link lo b < /dev/null
 expect "JSON of a route" 0 "" "$linkjson" --without-numbers --only newroute routes << 'END'
 {"type": "RTM_NEWROUTE", "flags": {"value": 1541, "flags": ["REQUEST", "ACK", "EXCL", "CREATE"]}, "header": {"struct": "rtmsg", "family": {"value": 2, "text": "AF_INET"}, "dst_len": 24, "src_len": 0, "tos": 0, "table": {"value": 254, "text": "main"}, "protocol": {"value": 3, "text": "boot"}, "scope": {"value": 0, "text": "universe"}, "type": {"value": 1, "text": "unicast"}, "flags": {"value": 0, "flags": []}}, "attributes": [{"name": "RTA_DST", "value": "198.51.100.0"}, {"name": "RTA_MULTIPATH", "nested": [{"struct": "rtnexthop", "fields": {"flags": {"value": 0, "flags": []}, "hops": 0, "ifindex": 0}, "nested": [{"name": "RTA_GATEWAY", "value": "192.0.2.2"}]}, {"struct": "rtnexthop", "fields": {"flags": {"value": 0, "flags": []}, "hops": 9, "ifindex": 0}, "nested": [{"name": "RTA_GATEWAY", "value": "192.0.2.3"}]}]}]}
 END
+succeeds "JSON of headers without names, of linkshow" bash -c '"$0" --json "$2.bin" > json && "$1" "$2.lines" | cmp - json && "$0" "$2.bin" | cmp - "$2.lines"' \
+    "$LINKSHOW" "$linkjson" "$top/scripts/tests/header_fields"
 expect "JSON of a cut capture" 2 "cut frame at 48" "$linkjson" cut <<< "$json"
 expect "JSON under a limit" 2 "frame over the limit at 0" "$linkjson" --limit 47 a < /dev/null
 expect "JSON of an odd limit" 2 "$("$LINKSHOW" --limit 15 2>&1)" "$linkjson" --limit 15 a < /dev/null
@@ -424,7 +426,7 @@ expect "a golden file and another number, which counts" 1 "" "$linkgold" --numbe
 @@ -1,4 +1,4 @@ RTM_GETLINK lo
 -RTM_GETLINK flags 0x301 (REQUEST | ROOT | MATCH) seq 1526271540 port 0
 +RTM_GETLINK flags 0x301 (REQUEST | ROOT | MATCH) seq 67305985 port 0
-   ifinfomsg family 0 (AF_UNSPEC) type 0 (netrom) index 0 flags 0x0 change 0x0
+   ifinfomsg family 0 (AF_UNSPEC) type 0 index 0 flags 0x0 change 0x0
    IFLA_EXT_MASK 0x9 (Vf | SkipStats)
    IFLA_IFNAME "lo"
 END
@@ -433,7 +435,7 @@ expect "a golden file and another name" 1 "" "$linkgold" a.lines b << 'END'
 +++ b
 @@ -1,4 +1,4 @@ RTM_GETLINK lo
  RTM_GETLINK flags 0x301 (REQUEST | ROOT | MATCH)
-   ifinfomsg family 0 (AF_UNSPEC) type 0 (netrom) index 0 flags 0x0 change 0x0
+   ifinfomsg family 0 (AF_UNSPEC) type 0 index 0 flags 0x0 change 0x0
    IFLA_EXT_MASK 0x9 (Vf | SkipStats)
 -  IFLA_IFNAME "lo"
 +  IFLA_IFNAME "l1"

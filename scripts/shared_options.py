@@ -15,4 +15,5 @@ def replacement(word):
 
 def add_replace(parser):
     parser.add_argument("--replace", action="append", type=replacement, default=[], metavar="REGEX=NAME",
-                        help="puts NAME in place of names of links and hardware addresses that match; may be repeated")
+                        help="replaces names of links and hardware addresses: puts NAME in place of each that the regular "
+                        "expression REGEX matches as a whole; may be repeated")

@@ -14,7 +14,7 @@ from definitions import CRATES, IMPORT, imports_of
 
 # Rows as data, by the types of their constants: names and formats of attributes, numbers, flags and fields. The number of a
 # row is beside its name there. That payloads are those of the grammar's tables, and that names differ, is computed.
-ROWS = ("NumberText", "RawRow", "BodyRow", "AttributeRow", "NamedRow", "NameRow", "Fields", "RecordLine", "Raw")
+ROWS = ("NumberText", "RawRow", "BodyRow", "ChoiceRow", "AttributeRow", "NamedRow", "NameRow", "Fields", "RecordLine", "Raw")
 
 # The index of a list of rows, by the types of these constants: the rows at it are computed to be those of its table, or they
 # are rows as data.

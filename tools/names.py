@@ -1,9 +1,9 @@
 #!/usr/bin/env python3
 """Writes the sets of attributes' names that are needed to read lines.
 
-    tools/names.py            writes NAMES, COUNTERS and INDEXES of lines_filter.py, LINK_INDEXES of lines_record.py, and BYTES
-                              and NUMBER_LISTS of lines_json.py; and these, but for NAMES and LINK_INDEXES, in the crates
-                              link_lines_parts and link_lines_json, as code and in specs; and LINK_NAMES,
+    tools/names.py            writes NAMES, COUNTERS and INDEXES of lines_filter.py, LINK_INDEXES of lines_record.py, and BYTES,
+                              NUMBER_LISTS and OBJECT_FIELDS of lines_json.py; and these, but for NAMES and LINK_INDEXES, in the
+                              crates link_lines_parts and link_lines_json, as code and in specs; and LINK_NAMES,
                               HARDWARE_ADDRESSES and BRIDGE_IDS of lines_replace.py, also in Go
     tools/names.py --check    ends with status 1 if one of these differs from the tables
 
@@ -18,6 +18,7 @@ from pathlib import Path
 TOP = Path(__file__).resolve().parents[1]
 sys.dont_write_bytecode = True
 sys.path.append(str(TOP / "tools/oracle"))
+import json_of_lines  # noqa: E402
 import linkshow  # noqa: E402
 
 PACKAGE = TOP / "bindings/python/linkcap"
@@ -39,7 +40,8 @@ NUMBER_LISTS = names_with("numbers")
 LINK_INDEXES = {name for name in linkshow.GROUPS["indexes"] if not name.endswith("NETNSID")}
 LINK_NAMES = LINK_INDEXES | {"FRA_IIFNAME", "FRA_OIFNAME", "IFA_LABEL", "IFLA_ALT_IFNAME", "IFLA_IFNAME"}
 BRIDGE_IDS = names_with("bridge_id")
-HARDWARE_ADDRESSES = names_with("hardware_address") - {"IFLA_PHYS_PORT_ID", "IFLA_PHYS_SWITCH_ID"}
+HARDWARE_ADDRESSES = {name for name in names_with("hardware_address") - {"IFLA_PHYS_PORT_ID", "IFLA_PHYS_SWITCH_ID"}
+                      if not name.endswith("_MASK")}
 
 # (file, set, names)
 SETS = (
@@ -49,6 +51,7 @@ SETS = (
     (PACKAGE / "lines_record.py", "LINK_INDEXES", LINK_INDEXES),
     (PACKAGE / "lines_json.py", "BYTES", BYTES),
     (PACKAGE / "lines_json.py", "NUMBER_LISTS", NUMBER_LISTS),
+    (PACKAGE / "lines_json.py", "OBJECT_FIELDS", json_of_lines.OBJECT_FIELDS),
     (PACKAGE / "lines_replace.py", "LINK_NAMES", LINK_NAMES),
     (PACKAGE / "lines_replace.py", "HARDWARE_ADDRESSES", HARDWARE_ADDRESSES),
     (PACKAGE / "lines_replace.py", "BRIDGE_IDS", BRIDGE_IDS),
@@ -61,8 +64,14 @@ SETS = (
     (PARTS / "specs/Names.antt", "index_names", linkshow.GROUPS["indexes"]),
     (JSON / "src/names.rt", "BYTES", BYTES),
     (JSON / "src/names.rt", "NUMBER_LISTS", NUMBER_LISTS),
+    (JSON / "src/names.rt", "OBJECT_FIELDS", json_of_lines.OBJECT_FIELDS),
     (JSON / "specs/Names.antt", "bytes_names", BYTES),
     (JSON / "specs/Names.antt", "number_list_names", NUMBER_LISTS),
+    (JSON / "specs/Names.antt", "object_fields", json_of_lines.OBJECT_FIELDS),
+    (JSON / "src/names.rt", "ends_as_bytes", BYTES),
+    (JSON / "specs/Names.antt", "ends_as_bytes", BYTES),
+    (JSON / "src/names.rt", "is_letter_of_object", json_of_lines.OBJECT_FIELDS),
+    (JSON / "specs/Names.antt", "is_letter_of_object", json_of_lines.OBJECT_FIELDS),
 )
 
 
@@ -91,12 +100,64 @@ def definition_in_specs(name, members):
     return "%s =\n%s    []\n" % (name, lines), r"^%s =\n.*?    \[\]\n" % name
 
 
+def either(tests):
+    """The disjunction of some tests in specs, each in brackets."""
+    first, *others = tests
+    return "(%s || %s)" % (first, either(others)) if others else first
+
+
+def letters_before_last(members):
+    return sorted({member[-2] for member in members})
+
+
+def last_letters(members, before):
+    """The last letters of the members that have a letter before."""
+    return sorted({member[-1] for member in members if member[-2] == before})
+
+
+def rattle_ends(name, members):
+    """The body of the test of a name's last two letters in Rattle, and a pattern of any such body."""
+    arms = ""
+    for before in letters_before_last(members):
+        last = " | ".join("b'%s'" % letter for letter in last_letters(members, before))
+        arms += "        b'%s' => %s,\n" % (before, "matches!(last, %s)" % last if "|" in last else "last == " + last)
+    head = r"(^fn %s\(.*?\n\{\n)" % name
+    return "\\1    match before {\n%s        _ => false,\n    }\n}\n" % arms, head + r".*?^\}\n"
+
+
+def ends_in_specs(name, members):
+    """The definition of that test in specs, and a pattern of any such definition."""
+    lines, befores = "", letters_before_last(members)
+    for before in befores:
+        tests = either(["(last == %d)" % ord(letter) for letter in last_letters(members, before)])
+        lines += "    %scond (before == %d) %s\n" % ("(" if lines else "", ord(before), tests)
+    return "%s before last =\n%s false%s\n" % (name, lines[:-1], ")" * (len(befores) - 1)), r"^%s before last =\n.*?\n(?=\n)" % name
+
+
+def rattle_letters(name, members):
+    """The body of the test of the letter before a name's last one in Rattle, and a pattern of any such body."""
+    letters = " | ".join("b'%s'" % letter for letter in letters_before_last(members))
+    head = r"(^fn %s\(.*?\n\{\n)" % name
+    return "\\1    matches!(\n        letter,\n        %s\n    )\n}\n" % letters, head + r".*?^\}\n"
+
+
+def letters_in_specs(name, members):
+    """The definition of that test in specs, and a pattern of any such definition."""
+    tests = either(["(c == %d)" % ord(letter) for letter in letters_before_last(members)])
+    return "%s c =\n    %s\n" % (name, tests[1:-1] if "||" in tests else tests), r"^%s c =\n.*?\n(?=\n)" % name
+
+
 WRITTEN = {".rt": rattle_constant, ".antt": definition_in_specs, ".py": python_set, ".go": go_set}
+# Tests of names by their last letters, which are looked at before a name is searched for
+TESTS = {
+    "ends_as_bytes": {".rt": rattle_ends, ".antt": ends_in_specs},
+    "is_letter_of_object": {".rt": rattle_letters, ".antt": letters_in_specs},
+}
 
 
 def with_set(path, name, members):
-    """A file's text in which a set has these members."""
-    definition, pattern = WRITTEN[path.suffix](name, members)
+    """A file's text in which a set, or a test of its members, has these members."""
+    definition, pattern = TESTS.get(name, WRITTEN)[path.suffix](name, members)
     new, count = re.subn(pattern, definition, path.read_text(encoding="utf-8"), flags=re.M | re.S)
     if count != 1:
         raise SystemExit("names: no set %s" % name)

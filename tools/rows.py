@@ -290,8 +290,8 @@ RAW_HEAD = """What `linkshow` shows of attributes that normalising keeps as they
 
 
 def raw_tables():
-    """The rows of tools/oracle/raw.tsv by their first column: bodies, places of lists, and raw attributes."""
-    rows = {"body": [], "list": [], "raw": []}
+    """The rows of tools/oracle/raw.tsv by their first column: bodies, places of lists, choices, and raw attributes."""
+    rows = {"body": [], "list": [], "choice": [], "raw": []}
     for line in open(os.path.join(TOP, "tools", "oracle", "raw.tsv"), encoding="utf-8"):
         first, *columns = line.rstrip("\n").split("\t")
         if first in rows:
@@ -324,6 +324,16 @@ def body_lines(rows):
         yield f"- {types}{limits}: `{header}`" + ("" if table == "-" else f", `{table}`")
 
 
+def choice_lines(rows):
+    """A line for each set of choices, then one for all payloads that choose one format."""
+    sets = {}
+    for choice, payload, style in rows:
+        sets.setdefault(choice, {}).setdefault(style, []).append(payload)
+    for choice, styles in sets.items():
+        yield f"- `{choice}`"
+        yield from (f"  - {', '.join(payloads)}: `{style}`" for style, payloads in styles.items())
+
+
 def raw_section():
     rows = raw_tables()
     tables = {}
@@ -336,6 +346,9 @@ def raw_section():
     yield "\n### Lists of raw attributes in links\n"
     yield "`data` is IFLA_INFO_DATA under a kind in force, `port` IFLA_INFO_SLAVE_DATA under a port kind, `family` an attribute of links of an address family.\n"
     yield from (f"- {place}: `{table}`" for place, table in rows["list"])
+    yield "\n### What another attribute chooses\n"
+    yield "`chosen options 1` is the format that the set `options` has for the payload of the list's first attribute of the kind 1: a name, or a number of 2 bytes.\n"
+    yield from choice_lines(rows["choice"])
     yield "\n### Bodies of other messages\n"
     yield "Types of messages (rtnetlink.h), the record at the start of the body (`peer`: as a link's), and the table of the list after it.\n"
     yield from body_lines(rows["body"])

@@ -144,7 +144,7 @@ func TestAttributesOfPeers(t *testing.T) {
 		{88, "IFLA_MTU", "1400"},
 		{88, peerPath + " > IFLA_MTU", "1500"},
 		// peer name vc1 index 5000
-		{332, peerPath + " > ifinfomsg", "family 0 (AF_UNSPEC) type 0 (netrom) index 5000 flags 0x0 change 0x0"},
+		{332, peerPath + " > ifinfomsg", "family 0 (AF_UNSPEC) type 0 index 5000 flags 0x0 change 0x0"},
 	} {
 		if got := values(attributes, c.offset, c.path); got != c.value {
 			t.Errorf("%+v: %s", c, got)

@@ -112,15 +112,15 @@ func TestLineOptions(t *testing.T) {
   refused: IFLA_MTU: a payload of 3 bytes
   body 000000000000000000000000000000000700040001020300
 RTM_GETLINK flags 0x1 (REQUEST) offset 40
-  ifinfomsg family 0 (AF_UNSPEC) type 0 (netrom) index 0 flags 0x0 change 0x0
+  ifinfomsg family 0 (AF_UNSPEC) type 0 index 0 flags 0x0 change 0x0
   IFLA_IFNAME "lo"
 `: {Numbers: linkcap.WithoutNumbers, Offsets: true, KeepGoing: true},
 		`RTM_GETLINK flags 0x1 (REQUEST) seq 1 port 0
-  ifinfomsg family 0 (AF_UNSPEC) type 0 (netrom) flags 0x0 change 0x0
+  ifinfomsg family 0 (AF_UNSPEC) type 0 flags 0x0 change 0x0
   IFLA_IFNAME "lo"
 `: {Only: "getlink,77", Link: "lo", Without: "indexes", KeepGoing: true},
 		`{"type": "RTM_NEWLINK", "flags": {"value": 0, "flags": []}, "offset": 0, "refused": "IFLA_MTU: a payload of 3 bytes", "body": "000000000000000000000000000000000700040001020300", "attributes": []}
-{"type": "RTM_GETLINK", "flags": {"value": 1, "flags": ["REQUEST"]}, "offset": 40, "header": {"struct": "ifinfomsg", "family": {"value": 0, "text": "AF_UNSPEC"}, "type": {"value": 0, "text": "netrom"}, "index": 0, "flags": {"value": 0, "flags": []}, "change": {"value": 0, "flags": []}}, "attributes": [{"name": "IFLA_IFNAME", "value": "lo", "quoted": true}]}
+{"type": "RTM_GETLINK", "flags": {"value": 1, "flags": ["REQUEST"]}, "offset": 40, "header": {"struct": "ifinfomsg", "family": {"value": 0, "text": "AF_UNSPEC"}, "type": {"value": 0}, "index": 0, "flags": {"value": 0, "flags": []}, "change": {"value": 0, "flags": []}}, "attributes": [{"name": "IFLA_IFNAME", "value": "lo", "quoted": true}]}
 `: {Numbers: linkcap.WithoutNumbers, Offsets: true, KeepGoing: true, JSON: true},
 		"": {Offsets: true},
 	} {

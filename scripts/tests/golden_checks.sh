@@ -4,7 +4,7 @@
 
 cat > "$work/names.lines" << 'END_OF_LINES'
 RTM_NEWLINK flags 0x605 (REQUEST | ACK | EXCL | CREATE)
-  ifinfomsg family 0 (AF_UNSPEC) type 0 (netrom) index "veth1a2b3c4d" flags 0x0 change 0x0
+  ifinfomsg family 0 (AF_UNSPEC) type 0 index "veth1a2b3c4d" flags 0x0 change 0x0
   IFLA_IFNAME "veth1a2b3c4d"
   IFLA_IFALIAS "veth1a2b3c4d"
   IFLA_ADDRESS 06:f7:f0:f3:df:39
@@ -80,7 +80,7 @@ expect "a golden file and another capture" 1 "" "$linkdiff" headed.made b << 'EN
 +++ b
 @@ -3,3 +1,3 @@ RTM_GETLINK lo
  RTM_GETLINK flags 0x301 (REQUEST | ROOT | MATCH)
-   ifinfomsg family 0 (AF_UNSPEC) type 0 (netrom) index 0 flags 0x0 change 0x0
+   ifinfomsg family 0 (AF_UNSPEC) type 0 index 0 flags 0x0 change 0x0
 -  IFLA_IFNAME "lo"
 +  IFLA_IFNAME "l1"
 END_OF_DIFF

@@ -5,7 +5,8 @@
 
 The JSON of lines has to be that of tools/oracle, which has to make the lines of it again: of all samples, of all stored
 results of `show`, and of the captures of the stored cases `refusal`, with refused bodies and offsets. filters.tsv has
-digests of lines that lines_filter filtered. all_formats.lines has lines of every format, and all_formats.json their JSON.
+digests of lines that lines_filter filtered. all_formats.lines has lines of every format, and all_formats.json their JSON;
+header_fields.lines has headers whose fields lack a name, and routes.
 The status is 0 if all agree.
 """
 import hashlib
@@ -58,10 +59,11 @@ def json_faults():
             yield "the lines of the JSON of: " + lines[:200]
 
 
-def all_formats_faults():
-    expected = [json.loads(line) for line in (HERE / "all_formats.json").read_text().splitlines()]
-    if as_json((HERE / "all_formats.lines").read_text()) != expected:
-        yield "the JSON of all_formats.lines"
+def stored_json_faults():
+    for name in ("all_formats", "header_fields"):
+        expected = [json.loads(line) for line in (HERE / f"{name}.json").read_text().splitlines()]
+        if as_json((HERE / f"{name}.lines").read_text()) != expected:
+            yield f"the JSON of {name}.lines"
 
 
 def filter_faults():
@@ -75,7 +77,7 @@ def filter_faults():
 
 
 def main():
-    faults = [*json_faults(), *all_formats_faults(), *filter_faults()]
+    faults = [*json_faults(), *stored_json_faults(), *filter_faults()]
     for fault in faults:
         print(f"lines: differs: {fault}")
     return 1 if faults else 0

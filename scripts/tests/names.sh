@@ -79,11 +79,11 @@ expect "the lines of namespaces" 0 "" grep -e '^# ' -e '^RTM_NEWADDR' -e ifaddrm
 # leaves out: numbers, counters, padding, probes
   IFLA_NET_NS_PID netns 2
 # namespace 2
-  ifinfomsg family 0 (AF_UNSPEC) type 0 (netrom) index "v1" flags 0x1 (Up) change 0x1 (Up)
+  ifinfomsg family 0 (AF_UNSPEC) type 0 index "v1" flags 0x1 (Up) change 0x1 (Up)
 RTM_NEWADDR flags 0x605 (REQUEST | ACK | EXCL | CREATE)
   ifaddrmsg family 2 (AF_INET) prefixlen 24 flags 0x0 scope 0 (universe) index "v1"
 # namespace 1
-  ifinfomsg family 0 (AF_UNSPEC) type 0 (netrom) index "v0" flags 0x1 (Up) change 0x1 (Up)
+  ifinfomsg family 0 (AF_UNSPEC) type 0 index "v0" flags 0x1 (Up) change 0x1 (Up)
 END
 succeeds "an address in another namespace" bash -c 'sed "s/^nsenter.* ip addr add 10.0.0.2.24 dev v1/ip addr add 10.0.0.2\/24 dev v0/" namespaces.sh > changed.sh
     "$0" namespaces.lines -- sh changed.sh > difference; [ $? -eq 1 ] && grep -q "^+# namespace 1" difference' "$linkgold"
@@ -98,24 +98,24 @@ succeeds "sockets of two namespaces in one process" bash -c '"$0" run -q --netns
 expect "a namespace is that in which the socket was made" 0 "" bash -c '"$0" --empty --without numbers --only newlink nothing.lines sockets |
     sed -n "s/^+//; s/ flags 0x0 change 0x0$//; /^# /p; / index [^0]/p; /MASTER/p; /NET_NS/p; /\"w0\"$/p"' "$linkdiff" << 'END'
 # namespace 2
-  ifinfomsg family 0 (AF_UNSPEC) type 0 (netrom) index 2
+  ifinfomsg family 0 (AF_UNSPEC) type 0 index 2
 # namespace 1
-  ifinfomsg family 0 (AF_UNSPEC) type 0 (netrom) index "v1"
+  ifinfomsg family 0 (AF_UNSPEC) type 0 index "v1"
   IFLA_NET_NS_FD netns 2
-  ifinfomsg family 0 (AF_UNSPEC) type 0 (netrom) index "v0"
+  ifinfomsg family 0 (AF_UNSPEC) type 0 index "v0"
   IFLA_MASTER "br0"
 # namespace 2
-  ifinfomsg family 0 (AF_UNSPEC) type 0 (netrom) index "v1"
+  ifinfomsg family 0 (AF_UNSPEC) type 0 index "v1"
   IFLA_MASTER "br1"
 # namespace 1
-  ifinfomsg family 0 (AF_UNSPEC) type 0 (netrom) index "v0"
+  ifinfomsg family 0 (AF_UNSPEC) type 0 index "v0"
   IFLA_IFNAME "w0"
-  ifinfomsg family 0 (AF_UNSPEC) type 0 (netrom) index "w0" flags 0x1 (Up) change 0x1 (Up)
+  ifinfomsg family 0 (AF_UNSPEC) type 0 index "w0" flags 0x1 (Up) change 0x1 (Up)
 # namespace 2
-  ifinfomsg family 0 (AF_UNSPEC) type 0 (netrom) index "v1"
+  ifinfomsg family 0 (AF_UNSPEC) type 0 index "v1"
   IFLA_NET_NS_FD netns 1
 # namespace 1
-  ifinfomsg family 0 (AF_UNSPEC) type 0 (netrom) index "br0" flags 0x1 (Up) change 0x1 (Up)
+  ifinfomsg family 0 (AF_UNSPEC) type 0 index "br0" flags 0x1 (Up) change 0x1 (Up)
 END
 succeeds "without order, with namespaces" bash -c '"$0" --ignore-order namespaces.lines -- sh namespaces.sh 2> /dev/null && "$1" -q --ignore-order namespaces.lines namespaces.lines 2> /dev/null' "$linkgold" "$linkdiff"
 

@@ -126,7 +126,7 @@ class Record(unittest.TestCase):
         self.assertFalse(lines_record.is_refusal("  refused: a header of 4 bytes"))
 
     def test_probes(self):
-        header = "  ifinfomsg family 0 (AF_UNSPEC) type 0 (netrom) index 0 flags 0x0 change 0x0"
+        header = "  ifinfomsg family 0 (AF_UNSPEC) type 0 index 0 flags 0x0 change 0x0"
         self.assertTrue(lines_record.is_probe([SET, header, "  refused: ENODEV"]))
         self.assertTrue(lines_record.is_probe([SET + " seq 0 port 0", header]))
         for other in ([SET, header, "  refused: EPERM"], [SET, header, "  IFLA_MTU 5"], [SET + " seq 1 port 0", header],

@@ -11,8 +11,8 @@ import sys
 
 HERE = os.path.dirname(os.path.abspath(__file__))
 sys.path.insert(0, HERE)
-from linkshow import HEADERS, RAW_ROWS, ROWS, level_of, line      # noqa: E402
-from values import quote      # noqa: E402
+from linkshow import HEADERS, RAW_ROWS, ROWS, level_of, line, word_of      # noqa: E402
+from values import RECORDS, quote      # noqa: E402
 
 WORDS = re.compile(r'[^\s"(]*"(?:[^"\\]|\\.)*"|\([^)]*\)|\S+')
 ESCAPES = re.compile(r"\\(?:x([0-9a-f]{2})|(.))")
@@ -20,6 +20,11 @@ ESCAPES = re.compile(r"\\(?:x([0-9a-f]{2})|(.))")
 FORMATS = {"padding": {"bytes"}}
 for _name, _style in [*ROWS.values(), *RAW_ROWS.values()]:
     FORMATS.setdefault(_name, set()).add(_style.partition(" ")[0])
+# The fields that are objects in every header, since one of that name in some header is a set of flags or may have a text:
+# those of records, of an ifinfomsg, and of a group_address; and the code
+OBJECT_FIELDS = {"family", "type", "flags", "change", "proto", "code"} | {
+    field for name, fields in RECORDS.items() if word_of(name) in HEADERS
+    for field, _, style, type_name in fields if type_name or style.endswith("flags")}
 SEVERAL_NUMBERS = {"numbers", "port_range"}
 DIGITS = {"bytes", "hardware_address", "bridge_id"}
 
@@ -63,7 +68,8 @@ def take_fields(words):
     out = {}
     while words:
         name = words.pop(0)
-        out[name] = plain(take_value(words, name == "addr"))
+        value = take_value(words, name == "addr")
+        out[name] = value if name in OBJECT_FIELDS else plain(value)
     return out
 
 
@@ -129,6 +135,14 @@ def add_to_message(message, words, text):
     return True
 
 
+def add_table(message):
+    """Adds a route's table as the first RTA_TABLE has it, since the header has 8 bits for it."""
+    table = next((entry for entry in message["attributes"] if entry.get("name") == "RTA_TABLE"), {})
+    if message.get("header", {}).get("struct") == "rtmsg" and list(table)[1:2] == ["value"]:
+        message["table"] = {key: table[key] for key in ("value", "text") if key in table}
+    return message
+
+
 def json_of_lines(text):
     out, lists = [], []
     for text_line in text.splitlines():
@@ -141,7 +155,7 @@ def json_of_lines(text):
             if len(lists) < level:
                 lists.append(lists[-1][-1].setdefault("nested", []))
             lists[-1].append(entry_of_words(words))
-    return out
+    return [add_table(message) for message in out]
 
 
 # --------------------------------------------------------------------------

@@ -40,7 +40,9 @@ def matching(column):
 ROWS = {(table, int(kind)): (name, style) for table, kind, name, _, style in DATA["row"]}
 # (table of raw attributes, kind or ANY) -> (name, format of the value)
 RAW_ROWS = {(table, kind if kind == ANY else int(kind)): (name, style) for table, kind, name, style in RAW_DATA["raw"]}
-RAW_TABLES = {table for table, _ in RAW_ROWS}
+# (set of choices, payload of the attribute that chooses) -> format of the value
+CHOICES = {(choice, int(word).to_bytes(2, "little") if word.isdigit() else word.encode() + b"\0"): style
+           for choice, word, style in RAW_DATA["choice"]}
 # Where a list of raw attributes is in a link message -> its table
 LISTS = dict(RAW_DATA["list"])
 # (types, lowest bits of the flags, first bytes, record or PEER, table), each set None if any number fits
@@ -63,7 +65,8 @@ GROUPS = {"numbers": [], **{name: names.split() for name, names in DATA["group"]
 NAMES = {row[0] for rows in (ROWS, RAW_ROWS) for row in rows.values()} - {"[]"}
 # The words at the start of lines of headers
 HEADERS = {"ifinfomsg", "rtgenmsg", "rtnexthop"} | {word_of(body[3]) for body in BODIES if body[3] != PEER} | {
-    style.split()[1] for _, style in RAW_ROWS.values() if style.startswith(("records ", "record_and_list "))}
+    style.split()[1] for style in (*(row[1] for row in RAW_ROWS.values()), *CHOICES.values())
+    if style.startswith(("records ", "record_and_list "))}
 INDEX_FIELDS = "index", "ifindex"
 NAME_LINES = "  IFLA_IFNAME %s\n", "  IFLA_ALT_IFNAME %s\n", "    IFLA_ALT_IFNAME %s\n"
 REFUSED = 4                             # the number of the fault `refused body`
@@ -105,7 +108,7 @@ def raw_list(depth, table, b):
 
 
 def raw_lines(depth, table, kind, p, attributes=()):
-    """The lines of a raw attribute.  `attributes` are those of its list, one of which may have the type of an encapsulation."""
+    """The lines of a raw attribute.  `attributes` are those of its list, one of which may choose the format."""
     row = None if kind & BIG_ENDIAN else RAW_ROWS.get((table, kind & ~NESTED)) or RAW_ROWS.get((table, ANY))
     if row is None:
         return [line(depth, "kind 0x%04x" % kind, p.hex())]
@@ -120,12 +123,23 @@ def bytes_text(p):
     return ("bytes " + p.hex()).rstrip()
 
 
+def chosen(style, attributes):
+    """The format that another attribute of the list chooses: the first of its kind.  None if that isn't there, or chooses none."""
+    _, choice, kind = style.split(" ")
+    payload = next((p for k, p, _ in attributes if k & ~NESTED == int(kind)), None)
+    return CHOICES.get((choice, payload))
+
+
 def payload_lines(depth, name, style, p, attributes=()):
     """The lines of a payload by its format, or else `bytes` and the bytes."""
+    if style.startswith("chosen "):
+        style = chosen(style, attributes)
+    if style is None:
+        return [line(depth, name, bytes_text(p))]
     style_name, *parameters = style.split(" ")
     if style_name in BLOCKS:
         is_too_deep = depth + (2 if style_name == "next_hops" else 1) > DEEPEST
-        below = None if is_too_deep else BLOCKS[style_name](depth + 1, p, attributes, *parameters)
+        below = None if is_too_deep else BLOCKS[style_name](depth + 1, p, *parameters)
         if below is not None:
             return [line(depth, name), *below]
         text = None
@@ -134,28 +148,21 @@ def payload_lines(depth, name, style, p, attributes=()):
     return [line(depth, name, bytes_text(p) if text is None else text)]
 
 
-def list_block(depth, p, _, table):
+def list_block(depth, p, table):
     return raw_list(depth, table, p)
 
 
-def encapsulation_block(depth, p, attributes, type_kind):
-    """The list of an encapsulation, whose type is that of the first attribute of its list with 2 bytes and a kind."""
-    types = [o.u16(q, 0) for kind, q, _ in attributes if kind & ~NESTED == int(type_kind) and len(q) == 2]
-    table = "encap %d" % types[0] if types else None
-    return raw_list(depth, table, p) if table in RAW_TABLES else None
-
-
-def record_and_list_block(depth, p, _, record_name, table):
+def record_and_list_block(depth, p, record_name, table):
     return record_and_list(depth, record_name, table, p)
 
 
-def records_block(depth, p, _, record_name):
+def records_block(depth, p, record_name):
     size = record_size(record_name)
     texts = [record(record_name, p[at:at + size], " ") for at in range(0, len(p), size)]
     return None if None in texts else [line(depth, record_name, text) for text in texts]
 
 
-def next_hops_block(depth, p, _, table):
+def next_hops_block(depth, p, table):
     """The next hops of a route: each a length in 2 bytes, a record, and a list up to the length."""
     out = []
     while p:
@@ -171,7 +178,6 @@ def next_hops_block(depth, p, _, table):
 # Formats of several lines, as functions that return None if they don't take a payload
 BLOCKS = {
     "list": list_block,
-    "encapsulation": encapsulation_block,
     "record_and_list": record_and_list_block,
     "records": records_block,
     "next_hops": next_hops_block,
@@ -298,7 +304,7 @@ def body_lines(depth, body, is_request):
     layer = o.written_layer(body.layer)
     header = "family %s type %s index %d flags %s change %s" % (
         number("number", "AddressFamily", bytes([body.family])),
-        number("number", "LinkLayerType", o.p16(layer)), body.index,
+        number("number", "LinkLayerType" if layer else "", o.p16(layer)), body.index,
         number("named_flags", "LinkFlags", o.p32(body.flags)),
         number("named_flags", "LinkFlags", o.p32(body.mask)))
     return [line(depth, "ifinfomsg", header)] + list_lines(depth, "link", body.entries, Context(body.family, is_request))
@@ -309,7 +315,7 @@ def body_lines(depth, body, is_request):
 
 def flag_set(kind):
     """The set of flags that a message's type determines, by its name in rows.tsv."""
-    if kind == 2:
+    if kind in (o.ERROR, o.DONE):
         return "NlmFlagsAck"
     return "NlmFlags" + (("Create", "Delete", "Get", "Create")[kind % 4] if kind >= 16 and kind in TYPES else "")
 

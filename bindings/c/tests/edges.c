@@ -424,18 +424,18 @@ static const char all_lines[] = "RTM_NEWLINK flags 0x0 offset 0\n"
                                 "  refused: IFLA_MTU: a payload of 3 bytes\n"
                                 "  body 000000000000000000000000000000000700040001020300\n"
                                 "RTM_GETLINK flags 0x1 (REQUEST) offset 40\n"
-                                "  ifinfomsg family 0 (AF_UNSPEC) type 0 (netrom) index 0 flags 0x0 change 0x0\n"
+                                "  ifinfomsg family 0 (AF_UNSPEC) type 0 index 0 flags 0x0 change 0x0\n"
                                 "  IFLA_IFNAME \"lo\"\n";
 static const char all_objects[] = "{\"type\": \"RTM_NEWLINK\", \"flags\": {\"value\": 0, \"flags\": []}, \"offset\": 0, "
                                   "\"refused\": \"IFLA_MTU: a payload of 3 bytes\", "
                                   "\"body\": \"000000000000000000000000000000000700040001020300\", \"attributes\": []}\n"
                                   "{\"type\": \"RTM_GETLINK\", \"flags\": {\"value\": 1, \"flags\": [\"REQUEST\"]}, "
                                   "\"offset\": 40, \"header\": {\"struct\": \"ifinfomsg\", \"family\": {\"value\": 0, "
-                                  "\"text\": \"AF_UNSPEC\"}, \"type\": {\"value\": 0, \"text\": \"netrom\"}, \"index\": 0, "
+                                  "\"text\": \"AF_UNSPEC\"}, \"type\": {\"value\": 0}, \"index\": 0, "
                                   "\"flags\": {\"value\": 0, \"flags\": []}, \"change\": {\"value\": 0, \"flags\": []}}, "
                                   "\"attributes\": [{\"name\": \"IFLA_IFNAME\", \"value\": \"lo\", \"quoted\": true}]}\n";
 static const char link_lines[] = "RTM_GETLINK flags 0x1 (REQUEST) seq 1 port 0\n"
-                                 "  ifinfomsg family 0 (AF_UNSPEC) type 0 (netrom) flags 0x0 change 0x0\n"
+                                 "  ifinfomsg family 0 (AF_UNSPEC) type 0 flags 0x0 change 0x0\n"
                                  "  IFLA_IFNAME \"lo\"\n";
 
 static const struct linkcap_options show_all = {

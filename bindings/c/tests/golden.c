@@ -15,7 +15,7 @@
 #include "linkcap_golden.h"
 
 #define HEAD "# linkcap lines, format 4\n"
-#define HEADER_OF_A_LINK "  ifinfomsg family 0 (AF_UNSPEC) type 0 (netrom) index 0 flags 0x0 change 0x0\n"
+#define HEADER_OF_A_LINK "  ifinfomsg family 0 (AF_UNSPEC) type 0 index 0 flags 0x0 change 0x0\n"
 #define FIRST "RTM_NEWLINK flags 0x5 (REQUEST | ACK)\n" HEADER_OF_A_LINK
 #define MTU_1281 "  IFLA_MTU 1281\n"
 #define PROMISCUITY "  IFLA_PROMISCUITY 0\n"

@@ -121,11 +121,11 @@ func TestGoldenCommandOfIP(t *testing.T) {
 	path := filepath.Join(t.TempDir(), "made.lines")
 	const lines = "# linkcap lines, format 4\n" +
 		"RTM_GETLINK flags 0x1 (REQUEST)\n" +
-		"  ifinfomsg family 0 (AF_UNSPEC) type 0 (netrom) index 0 flags 0x0 change 0x0\n" +
+		"  ifinfomsg family 0 (AF_UNSPEC) type 0 index 0 flags 0x0 change 0x0\n" +
 		"  IFLA_EXT_MASK 0x9 (Vf | SkipStats)\n" +
 		"  IFLA_IFNAME \"lo\"\n" +
 		"RTM_NEWLINK flags 0x5 (REQUEST | ACK)\n" +
-		"  ifinfomsg family 0 (AF_UNSPEC) type 0 (netrom) index \"lo\" flags 0x1 (Up) change 0x1 (Up)\n"
+		"  ifinfomsg family 0 (AF_UNSPEC) type 0 index \"lo\" flags 0x1 (Up) change 0x1 (Up)\n"
 	if err := os.WriteFile(path, []byte(lines), 0o666); err != nil {
 		t.Fatal(err)
 	}

@@ -25,13 +25,23 @@ BYTES = frozenset("""
     IFLA_PORT_INSTANCE_UUID IFLA_PRIORITY IFLA_PROTINFO IFLA_WIRELESS IOAM6_IPTUNNEL_TRACE LWTUNNEL_IP6_PAD
     LWTUNNEL_IP_OPT_GENEVE_DATA LWTUNNEL_IP_PAD NDA_LLADDR NDTA_PAD NDTPA_PAD NHA_RES_BUCKET_PAD NHA_RES_GROUP_PAD
     NLMSGERR_ATTR_COOKIE NL_POLICY_TYPE_ATTR_PAD RPL_IPTUNNEL_SRH RTA_MP_ALGO RTA_PAD RTA_PROTOINFO RTA_SESSION
-    SEG6_IPTUNNEL_SRH SEG6_LOCAL_CNT_PAD SEG6_LOCAL_SRH TCA_ACT_COOKIE TCA_ACT_OPTIONS TCA_ACT_PAD TCA_OPTIONS TCA_PAD
-    TCA_STATS_APP TCA_STATS_PAD TCA_XSTATS VETH_INFO_PEER VNIFILTER_ENTRY_STATS_PAD VXCAN_INFO_PEER padding""".split())
+    SEG6_IPTUNNEL_SRH SEG6_LOCAL_CNT_PAD SEG6_LOCAL_SRH TCA_ACT_COOKIE TCA_ACT_PAD TCA_BPF_OPS TCA_BPF_POLICE TCA_BPF_TAG
+    TCA_FLOWER_KEY_ARP_SHA TCA_FLOWER_KEY_ARP_SHA_MASK TCA_FLOWER_KEY_ARP_THA TCA_FLOWER_KEY_ARP_THA_MASK
+    TCA_FLOWER_KEY_CT_LABELS TCA_FLOWER_KEY_CT_LABELS_MASK TCA_FLOWER_KEY_ENC_OPTS TCA_FLOWER_KEY_ENC_OPTS_MASK
+    TCA_FLOWER_KEY_ETH_DST TCA_FLOWER_KEY_ETH_DST_MASK TCA_FLOWER_KEY_ETH_SRC TCA_FLOWER_KEY_ETH_SRC_MASK
+    TCA_FLOWER_KEY_MPLS_OPTS TCA_GACT_PAD TCA_HTB_PAD TCA_MATCHALL_PAD TCA_MIRRED_PAD TCA_PAD TCA_STATS_APP TCA_STATS_PAD
+    TCA_TBF_PAD TCA_U32_PAD TCA_U32_PCNT TCA_U32_POLICE TCA_U32_SEL TCA_XSTATS VETH_INFO_PEER VNIFILTER_ENTRY_STATS_PAD
+    VXCAN_INFO_PEER padding""".split())
 
 # The attributes whose values are any number of numbers.
 NUMBER_LISTS = frozenset("""
     IFLA_CAN_BITRATE_CONST IFLA_CAN_DATA_BITRATE_CONST IFLA_CAN_TERMINATION_CONST IFLA_CAN_XL_DATA_BITRATE_CONST
-    TCA_STAB_DATA""".split())
+    TCA_HTB_CTAB TCA_HTB_RTAB TCA_STAB_DATA TCA_TBF_PTAB TCA_TBF_RTAB""".split())
+
+# The fields that are objects in each header: sets of flags, and numbers that may have a name; and the code of an NLMSG_ERROR or
+# NLMSG_DONE.
+OBJECT_FIELDS = frozenset("""
+    action change code eaction family filter_mask flags handle parent proto protocol scope state table type""".split())
 
 _TOKEN = re.compile(r'[^\s"(]*"(?:[^"\\]|\\.)*"|\([^)]*\)|[^\s"]+')
 _NUMBER = re.compile(r"-?[0-9]+")
@@ -106,7 +116,8 @@ def _fields(tokens: _Tokens) -> Json:
     fields = {}
     while tokens.peek():
         name = tokens.take()
-        fields[name] = _short(_value(tokens, name == "addr"))
+        value = _value(tokens, name == "addr")
+        fields[name] = value if name in OBJECT_FIELDS else _short(value)
     return fields
 
 
@@ -171,6 +182,13 @@ def _refusal(text: str) -> Json:
     return {"reply": {"error": error[1], "reason": error[2]} if error[2] else {"error": error[1]}}
 
 
+def _table(attributes: List[Json]) -> Json:
+    """A route's table as the first RTA_TABLE has it, if that is a number: the header has 8 bits for it."""
+    table = next((attribute for attribute in attributes if attribute.get("name") == "RTA_TABLE"), {})
+    value = {key: table[key] for key in table if key != "name"}
+    return {"table": value} if isinstance(value.get("value"), int) and "nested_bit" not in value else {}
+
+
 def _is_struct(word: str) -> bool:
     """Whether a word is the name of a struct: it is in lower case, and neither `kind` nor `padding`."""
     return word[0].islower() and word not in ("kind", "padding")
@@ -188,8 +206,11 @@ class _Message:
 
     @property
     def json(self) -> Json:
-        """The dictionary of the message, with its attributes last."""
-        return {**self._members, "attributes": self._attributes}
+        """The dictionary of the message, with a route's table before its header, and its attributes last."""
+        members = dict(self._members)
+        if members.get("header", {}).get("struct") == "rtmsg":
+            members.update(_table(self._attributes), header=members.pop("header"))
+        return {**members, "attributes": self._attributes}
 
     def add(self, depth: int, line: str, tokens: _Tokens) -> None:
         word = tokens.peek()

@@ -82,7 +82,7 @@ class Requests(unittest.TestCase):
         self.assertEqual(values(capture, 88, "IFLA_MTU"), ["1400"])
         self.assertEqual(values(capture, 88, f"{PEER} > IFLA_MTU"), ["1500"])
         # peer name vc1 index 5000
-        header = "family 0 (AF_UNSPEC) type 0 (netrom) index 5000 flags 0x0 change 0x0"
+        header = "family 0 (AF_UNSPEC) type 0 index 5000 flags 0x0 change 0x0"
         self.assertEqual(values(capture, 332, f"{PEER} > ifinfomsg"), [header])
 
 

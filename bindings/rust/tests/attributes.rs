@@ -100,7 +100,7 @@ fn peers() {
     assert_eq!(values(&attributes, 88, "IFLA_MTU"), ["1400"]);
     assert_eq!(values(&attributes, 88, &format!("{PEER} > IFLA_MTU")), ["1500"]);
     // peer name vc1 index 5000
-    let header = "family 0 (AF_UNSPEC) type 0 (netrom) index 5000 flags 0x0 change 0x0";
+    let header = "family 0 (AF_UNSPEC) type 0 index 5000 flags 0x0 change 0x0";
     assert_eq!(values(&attributes, 332, &format!("{PEER} > ifinfomsg")), [header]);
 }
 

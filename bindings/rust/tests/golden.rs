@@ -21,7 +21,7 @@ fn new_link(number: u8) -> Vec<u8> {
 /// The lines of `new_link`, without numbers.
 fn lines_of(number: u32) -> String {
     format!(
-        "RTM_NEWLINK flags 0x5 (REQUEST | ACK)\n  ifinfomsg family 0 (AF_UNSPEC) type 0 (netrom) index 0 flags 0x0 change 0x0\n  \
+        "RTM_NEWLINK flags 0x5 (REQUEST | ACK)\n  ifinfomsg family 0 (AF_UNSPEC) type 0 index 0 flags 0x0 change 0x0\n  \
          IFLA_MTU {}\n  IFLA_PROMISCUITY 0\n",
         1280 + number
     )
@@ -75,7 +75,7 @@ fn equal_and_different() {
     let name = path.display();
     let expected = format!(
         "linkcap: the capture isn't that of the golden file\n--- {name}\n+++ this capture\n@@ -1,4 +1,4 @@\n RTM_NEWLINK flags 0x5 \
-         (REQUEST | ACK)\n   ifinfomsg family 0 (AF_UNSPEC) type 0 (netrom) index 0 flags 0x0 change 0x0\n-  IFLA_MTU 1281\n+  IFLA_MTU \
+         (REQUEST | ACK)\n   ifinfomsg family 0 (AF_UNSPEC) type 0 index 0 flags 0x0 change 0x0\n-  IFLA_MTU 1281\n+  IFLA_MTU \
          1282\n   IFLA_PROMISCUITY 0\n"
     );
     assert_eq!(default_failure(&new_link(2), &path), expected);

@@ -203,9 +203,9 @@ fn show_selected() {
     let request = b"\x28\0\0\0\x12\0\x01\0\x01\0\0\0\0\0\0\0\0\0\0\0\0\0\0\0\0\0\0\0\0\0\0\0\x07\0\x03\0lo\0\0";
     let all = "RTM_NEWLINK flags 0x0 offset 0\n  refused: IFLA_MTU: a payload of 3 bytes\n  \
         body 000000000000000000000000000000000700040001020300\nRTM_GETLINK flags 0x1 (REQUEST) offset 40\n  \
-        ifinfomsg family 0 (AF_UNSPEC) type 0 (netrom) index 0 flags 0x0 change 0x0\n  IFLA_IFNAME \"lo\"\n";
+        ifinfomsg family 0 (AF_UNSPEC) type 0 index 0 flags 0x0 change 0x0\n  IFLA_IFNAME \"lo\"\n";
     let about_lo = "RTM_GETLINK flags 0x1 (REQUEST) seq 1 port 0\n  \
-        ifinfomsg family 0 (AF_UNSPEC) type 0 (netrom) flags 0x0 change 0x0\n  IFLA_IFNAME \"lo\"\n";
+        ifinfomsg family 0 (AF_UNSPEC) type 0 flags 0x0 change 0x0\n  IFLA_IFNAME \"lo\"\n";
     let default = Options::new().keep_going(true);
     for (options, expected) in [
         (default.numbers(false).offsets(true), all),

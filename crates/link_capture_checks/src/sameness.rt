@@ -27,7 +27,8 @@ use std::fmt;
 /// The first fault of two captures, and which of them has it.
 #[derive(Clone, Copy, Debug, PartialEq, Eq, Drop)]
 pub struct SideFault {
-    /// Whether it is the fault of the second capture, in which case the first one is legal.
+    /// Whether it is the fault of the second capture. The first one is then legal, unless it could
+    /// not be read to its end.
     pub second: bool,
     pub fault: CaptureFault,
 }

@@ -17,8 +17,9 @@ pub use link_info_grammar::laws::{
 pub use link_info_kinds::laws::{names_determine_kinds, names_determine_port_kinds};
 pub use link_info_types::laws::{constants_are_named, tunnel_constants_are_named};
 
-/// The canonical encoding of accepted link info is accepted, already canonical, and at most 77 times
-/// as long; two accepted lists are equivalent if and only if their canonical encodings are equal.
+/// The canonical encoding of accepted link info is accepted and already canonical; as an attribute,
+/// with its header and padding, it is at most 77 times as long as the header and the list; two
+/// accepted lists are equivalent if and only if their canonical encodings are equal.
 #[tactic(auto, using(link_info_grammar::proofs::Families::info_is_lawful))]
 pub fn link_info_is_lawful()
     ensures { LinkInfoIsLawful }

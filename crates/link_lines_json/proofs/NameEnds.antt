@@ -4,7 +4,7 @@ use Rattle.std.specs.Prelude.{◌||◌, bytes_eq}
 use Rattle.std.specs.List.{list_all}
 use Rattle.std.proofs.lemmas.Slice.Eq.{bytes_eq-Decides}
 use Rattle.link_lines_parts.specs.Names.{is_among}
-use Rattle.link_lines_json.specs.Names.{bytes_names, has_end_of_bytes}
+use Rattle.link_lines_json.specs.Names.{bytes_names, has_end_of_bytes, has_letter_of_object, object_fields}
 
 -- A name isn't one of those that all pass a test which it fails.
 not_among : (p : List ℕ → Bool) (names : List (List ℕ)) (name : List ℕ) → list_all p names ≡ true → p name ≡ false → is_among names name ≡ false
@@ -19,3 +19,8 @@ not_among p (other ∷ names) name all fails =
 pub ends_differ : (name : List ℕ) → has_end_of_bytes name ≡ false → is_among bytes_names name ≡ false
 unfolding bytes_names
 ends_differ name fails = not_among has_end_of_bytes bytes_names name refl fails
+
+-- What has another letter before its last one than the names of that list isn't one of them.
+pub letters_differ : (name : List ℕ) → has_letter_of_object name ≡ false → is_among object_fields name ≡ false
+unfolding object_fields
+letters_differ name fails = not_among has_letter_of_object object_fields name refl fails

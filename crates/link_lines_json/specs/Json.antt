@@ -5,7 +5,7 @@ use Rattle.link_lines_json.specs.Attributes.{entry_json, first_of, is_lower, ter
 use Rattle.link_lines_parts.specs.Lines.{after_first_word, first_word, level, lines_of, without_newline}
 use Rattle.link_lines_json.specs.Strings.{string}
 use Rattle.link_lines_json.specs.Tokens.{TermText, terms}
-use Rattle.link_lines_json.specs.Values.{field_json, fields_json, key, next_key, word_json}
+use Rattle.link_lines_json.specs.Values.{field_json, fields_json, is_number, key, next_key, word_json}
 
 -- ---- lines
 
@@ -104,10 +104,30 @@ abbrev pub lines_json : ℕ → List (List ℕ) → List ℕ
 lines_json lists [] = ending lists
 lines_json lists (line ∷ lines) = line_json lists line ++ lines_json (open_after lists line) lines
 
+-- Whether a line is that of an attribute RTA_TABLE of the message, not of one nested in another.
+abbrev pub is_table : List ℕ → Bool
+is_table line = (level line == 1) && bytes_eq (first_word line) (codes "RTA_TABLE")
+
+-- The terms of the first such line, if there is one.
+abbrev pub table_terms : List (List ℕ) → List TermText
+table_terms [] = []
+table_terms (line ∷ lines) = cond (is_table line) (line_terms line) (table_terms lines)
+
+-- The table of these terms, as a member, if the first one is a number.
+unfoldable pub table_json : List TermText → List ℕ
+table_json [] = []
+table_json (table ∷ terms) = cond (is_number table.0) (codes ", " ++ field_json (codes "table", None) table) []
+
+-- The table of a route, of which the header has 8 bits, as RTA_TABLE has it.
+unfoldable pub route_table_json : List (List ℕ) → List ℕ
+route_table_json [] = []
+route_table_json (line ∷ lines) = cond (bytes_eq (first_word line) (codes "rtmsg")) (table_json (table_terms lines)) []
+
 -- The object of a message with these lines; nothing without a line.
 abbrev pub object : List (List ℕ) → List ℕ
 object [] = []
-object (line ∷ lines) = 123 ∷ (typed_json (first_word line) (line_terms line) ++ lines_json 0 lines)
+object (line ∷ lines) =
+    123 ∷ (typed_json (first_word line) (line_terms line) ++ (route_table_json lines ++ lines_json 0 lines))
 
 -- The lines of a message as an object of JSON (RFC 8259) in a line of its own.
 unfoldable pub json : List ℕ → List ℕ

@@ -66,12 +66,35 @@ bytes_names =
     codes "SEG6_LOCAL_CNT_PAD" ∷
     codes "SEG6_LOCAL_SRH" ∷
     codes "TCA_ACT_COOKIE" ∷
-    codes "TCA_ACT_OPTIONS" ∷
     codes "TCA_ACT_PAD" ∷
-    codes "TCA_OPTIONS" ∷
+    codes "TCA_BPF_OPS" ∷
+    codes "TCA_BPF_POLICE" ∷
+    codes "TCA_BPF_TAG" ∷
+    codes "TCA_FLOWER_KEY_ARP_SHA" ∷
+    codes "TCA_FLOWER_KEY_ARP_SHA_MASK" ∷
+    codes "TCA_FLOWER_KEY_ARP_THA" ∷
+    codes "TCA_FLOWER_KEY_ARP_THA_MASK" ∷
+    codes "TCA_FLOWER_KEY_CT_LABELS" ∷
+    codes "TCA_FLOWER_KEY_CT_LABELS_MASK" ∷
+    codes "TCA_FLOWER_KEY_ENC_OPTS" ∷
+    codes "TCA_FLOWER_KEY_ENC_OPTS_MASK" ∷
+    codes "TCA_FLOWER_KEY_ETH_DST" ∷
+    codes "TCA_FLOWER_KEY_ETH_DST_MASK" ∷
+    codes "TCA_FLOWER_KEY_ETH_SRC" ∷
+    codes "TCA_FLOWER_KEY_ETH_SRC_MASK" ∷
+    codes "TCA_FLOWER_KEY_MPLS_OPTS" ∷
+    codes "TCA_GACT_PAD" ∷
+    codes "TCA_HTB_PAD" ∷
+    codes "TCA_MATCHALL_PAD" ∷
+    codes "TCA_MIRRED_PAD" ∷
     codes "TCA_PAD" ∷
     codes "TCA_STATS_APP" ∷
     codes "TCA_STATS_PAD" ∷
+    codes "TCA_TBF_PAD" ∷
+    codes "TCA_U32_PAD" ∷
+    codes "TCA_U32_PCNT" ∷
+    codes "TCA_U32_POLICE" ∷
+    codes "TCA_U32_SEL" ∷
     codes "TCA_XSTATS" ∷
     codes "VETH_INFO_PEER" ∷
     codes "VNIFILTER_ENTRY_STATS_PAD" ∷
@@ -82,19 +105,22 @@ bytes_names =
 -- Whether some of these names end in these two letters.
 abbrev pub ends_as_bytes : ℕ → ℕ → Bool
 ends_as_bytes before last =
-    cond (before == 65) ((last == 67) || (last == 68))
+    cond (before == 65) ((last == 67) || ((last == 68) || (last == 71)))
     (cond (before == 67) (last == 69)
-    (cond (before == 68) ((nat_le 50 last && nat_le last 53) || (last == 82))
-    (cond (before == 69) ((last == 67) || ((last == 77) || (last == 82)))
-    (cond ((before == 70) || (before == 71)) (last == 79)
+    (cond (before == 68) ((last == 50) || ((last == 51) || ((last == 52) || ((last == 53) || (last == 82)))))
+    (cond (before == 69) ((last == 67) || ((last == 76) || ((last == 77) || (last == 82))))
+    (cond (before == 70) (last == 79)
+    (cond (before == 71) (last == 79)
+    (cond (before == 72) (last == 65)
     (cond (before == 73) ((last == 68) || (last == 69))
-    (cond (before == 78) (last == 83)
+    (cond (before == 76) (last == 83)
+    (cond (before == 78) (last == 84)
     (cond (before == 79) (last == 78)
-    (cond (before == 80) (last == 80)
-    (cond (before == 82) (last == 72)
-    (cond (before == 83) ((last == 83) || (last == 84))
+    (cond (before == 80) ((last == 80) || (last == 83))
+    (cond (before == 82) ((last == 67) || (last == 72))
+    (cond (before == 83) ((last == 75) || ((last == 83) || (last == 84)))
     (cond (before == 84) ((last == 65) || ((last == 83) || (last == 89)))
-    (cond (before == 110) (last == 103) false))))))))))))
+    (cond (before == 110) (last == 103) false)))))))))))))))
 
 -- Whether a name ends as some of these do.
 abbrev pub has_end_of_bytes : List ℕ → Bool
@@ -108,5 +134,39 @@ number_list_names =
     codes "IFLA_CAN_DATA_BITRATE_CONST" ∷
     codes "IFLA_CAN_TERMINATION_CONST" ∷
     codes "IFLA_CAN_XL_DATA_BITRATE_CONST" ∷
+    codes "TCA_HTB_CTAB" ∷
+    codes "TCA_HTB_RTAB" ∷
     codes "TCA_STAB_DATA" ∷
+    codes "TCA_TBF_PTAB" ∷
+    codes "TCA_TBF_RTAB" ∷
     []
+
+-- The fields whose values are objects in each header: sets of flags, and numbers that may have a name; and the code of an
+-- NLMSG_ERROR or NLMSG_DONE.
+unfoldable pub object_fields : List (List ℕ)
+object_fields =
+    codes "action" ∷
+    codes "change" ∷
+    codes "code" ∷
+    codes "eaction" ∷
+    codes "family" ∷
+    codes "filter_mask" ∷
+    codes "flags" ∷
+    codes "handle" ∷
+    codes "parent" ∷
+    codes "proto" ∷
+    codes "protocol" ∷
+    codes "scope" ∷
+    codes "state" ∷
+    codes "table" ∷
+    codes "type" ∷
+    []
+
+-- Whether some of these names have this letter before their last one.
+abbrev pub is_letter_of_object : ℕ → Bool
+is_letter_of_object c =
+    (c == 100) || ((c == 103) || ((c == 108) || ((c == 110) || ((c == 111) || ((c == 112) || ((c == 115) || (c == 116)))))))
+
+-- Whether a name has the letter before its last one that some of these have.
+abbrev pub has_letter_of_object : List ℕ → Bool
+has_letter_of_object name = nat_le 2 (length name) && is_letter_of_object (slice_index name (length name - 2))

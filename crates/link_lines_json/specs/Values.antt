@@ -4,6 +4,8 @@ use Rattle.std.specs.Prelude.{List, [], ◌∷◌, ◌++◌, codes, take, drop, 
 use Rattle.std.specs.Fmt.{decimal}
 use Rattle.std.specs.List.{prefix_len, list_all}
 use Rattle.link_lines_parts.specs.Lines.{words_of}
+use Rattle.link_lines_json.specs.Names.{object_fields}
+use Rattle.link_lines_parts.specs.Names.{is_among}
 use Rattle.link_lines_json.specs.Strings.{requoted, string}
 use Rattle.link_lines_json.specs.Tokens.{TermText}
 
@@ -112,10 +114,13 @@ abbrev pub is_bare : TermText → Bool
 is_bare (word, None) = not (is_hex word || is_quoted word)
 is_bare (word, Some names) = false
 
+-- A value as an object.
+unfoldable pub object_json : Bool → TermText → List ℕ
+object_json is_bytes term = 123 ∷ (members_json is_bytes term ++ 125 ∷ [])
+
 -- A value: itself, if it has one member alone, else an object.
 unfoldable pub value_json : Bool → TermText → List ℕ
-value_json is_bytes term =
-    cond (is_bare term) (word_json is_bytes term.0) (123 ∷ (members_json is_bytes term ++ 125 ∷ []))
+value_json is_bytes term = cond (is_bare term) (word_json is_bytes term.0) (object_json is_bytes term)
 
 -- ---- fields
 
@@ -123,9 +128,15 @@ value_json is_bytes term =
 unfoldable pub is_address_field : List ℕ → Bool
 is_address_field name = bytes_eq name (codes "addr")
 
+-- Whether the value of a field of this name isn't an object: it has one member alone, and isn't an object in each header.
+abbrev pub is_bare_field : List ℕ → TermText → Bool
+is_bare_field name value = is_bare value && not (is_among object_fields name)
+
 -- A field with a name and a value.
 unfoldable pub field_json : TermText → TermText → List ℕ
-field_json name value = key name.0 ++ value_json (is_address_field name.0) value
+field_json name value =
+    key name.0 ++ cond (is_bare_field name.0 value) (word_json (is_address_field name.0) value.0)
+    (object_json (is_address_field name.0) value)
 
 -- Fields as headers have them, a name and a value each: `family 0 (AF_UNSPEC) index 2`.
 abbrev pub fields_json : Bool → List TermText → List ℕ

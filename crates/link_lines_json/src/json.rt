@@ -4,15 +4,15 @@ ghost use Rattle.std.specs.Prelude.{◌≡◌, ◌∷◌, ◌++◌, codes, IfOk}
 ghost use Rattle.link_lines_values.specs.Appends.{Appends};
 ghost use Rattle.link_lines_json.specs.Json.{closing, code_json, ending, entry_depth, header_json, is_member, json};
 ghost use Rattle.link_lines_json.specs.Json.{line_json, lines_json, line_terms, member_json, next_entry, numbered_json};
-ghost use Rattle.link_lines_json.specs.Json.{open_after, opening, request_json, sized_json, struct_object};
-ghost use Rattle.link_lines_json.specs.Json.{typed_json};
+ghost use Rattle.link_lines_json.specs.Json.{open_after, opening, request_json, route_table_json, sized_json, struct_object};
+ghost use Rattle.link_lines_json.specs.Json.{table_json, table_terms, typed_json};
 ghost use Rattle.link_lines_parts.specs.Lines.{first_word, lines_of};
 ghost use Rattle.link_lines_json.specs.Tokens.{terms};
 
 use crate::attributes::{first_of, is_lower, push_entry, push_terms_string};
 use crate::strings::push_string;
 use crate::tokens::{Term, split_term};
-use crate::values::{push_field, push_fields, push_key, push_word};
+use crate::values::{is_number, push_field, push_fields, push_key, push_word};
 use crate::words::first_parts;
 use link_lines_parts::{split_line, without_newline};
 use std::alloc::AllocError;
@@ -256,6 +256,56 @@ fn push_start(line: &[u8], out: &mut Vec<u8>) -> Result<(), AllocError>
     push_typed(parts.word, without_newline(parts.rest), out)
 }
 
+/// Returns the text of the first attribute RTA_TABLE of a message, given the lines after its header.
+#[tactic(auto, unfolding(crate::specs::Tokens::terms))]
+fn table_text(lines: &[u8]) -> &[u8]
+    ensures { terms result.now ≡ table_terms (lines_of lines.now) }
+{
+    let mut left = lines;
+    while let Some((line, rest)) = split_line(left) {
+        let parts = first_parts(line);
+        if parts.level == 1 && parts.word == b"RTA_TABLE".as_slice() {
+            return without_newline(parts.rest);
+        }
+        left = rest;
+    }
+    b""
+}
+
+/// Appends the table that the text of an attribute has, as a member, if it is a number.
+#[tactic(auto, unfolding(crate::specs::Json::table_json))]
+fn push_table(text: &[u8], out: &mut Vec<u8>) -> Result<(), AllocError>
+    ensures { Appends out.old out.new result (table_json (terms text.now)) }
+{
+    let Some((table, _)) = split_term(text) else {
+        return Ok(());
+    };
+    if !is_number(table.word) {
+        return Ok(());
+    }
+    out.extend_from_slice(b", ")?;
+    let name = Term {
+        word: b"table",
+        names: None,
+    };
+    push_field(name, table, out)
+}
+
+/// Appends the table of a route, given the lines after the first one of its message.
+#[tactic(auto, unfolding(crate::specs::Json::route_table_json))]
+fn push_route_table(lines: &[u8], out: &mut Vec<u8>) -> Result<(), AllocError>
+    ensures { Appends out.old out.new result (route_table_json (lines_of lines.now)) }
+{
+    let Some((header, rest)) = split_line(lines) else {
+        return Ok(());
+    };
+    if first_parts(header).word == b"rtmsg".as_slice() {
+        push_table(table_text(rest), out)
+    } else {
+        Ok(())
+    }
+}
+
 /// Appends the lines of a message as an object of JSON (RFC 8259) in a line of its own; nothing if
 /// there are no lines. Its members are those that the lines show; in a text in quotes each byte
 /// becomes the character of the same number.
@@ -272,5 +322,6 @@ pub fn push_json(lines: &[u8], out: &mut Vec<u8>) -> Result<(), AllocError>
         return Ok(());
     };
     push_start(first, out)?;
+    push_route_table(rest, out)?;
     push_lines(rest, out)
 }

@@ -1,7 +1,8 @@
-//! Names of attributes whose values have a form of their own.
+//! Names of attributes and fields whose values have a form of their own.
 
 ghost use Rattle.std.specs.Prelude.{◌≡◌};
-ghost use Rattle.link_lines_json.specs.Names.{bytes_names, ends_as_bytes, has_end_of_bytes, number_list_names};
+ghost use Rattle.link_lines_json.specs.Names.{bytes_names, ends_as_bytes, has_end_of_bytes, has_letter_of_object};
+ghost use Rattle.link_lines_json.specs.Names.{is_letter_of_object, number_list_names, object_fields};
 ghost use Rattle.link_lines_parts.specs.Names.{is_among};
 
 use link_lines_parts::is_among;
@@ -70,12 +71,35 @@ pub const BYTES: &[&[u8]] = &[
     b"SEG6_LOCAL_CNT_PAD",
     b"SEG6_LOCAL_SRH",
     b"TCA_ACT_COOKIE",
-    b"TCA_ACT_OPTIONS",
     b"TCA_ACT_PAD",
-    b"TCA_OPTIONS",
+    b"TCA_BPF_OPS",
+    b"TCA_BPF_POLICE",
+    b"TCA_BPF_TAG",
+    b"TCA_FLOWER_KEY_ARP_SHA",
+    b"TCA_FLOWER_KEY_ARP_SHA_MASK",
+    b"TCA_FLOWER_KEY_ARP_THA",
+    b"TCA_FLOWER_KEY_ARP_THA_MASK",
+    b"TCA_FLOWER_KEY_CT_LABELS",
+    b"TCA_FLOWER_KEY_CT_LABELS_MASK",
+    b"TCA_FLOWER_KEY_ENC_OPTS",
+    b"TCA_FLOWER_KEY_ENC_OPTS_MASK",
+    b"TCA_FLOWER_KEY_ETH_DST",
+    b"TCA_FLOWER_KEY_ETH_DST_MASK",
+    b"TCA_FLOWER_KEY_ETH_SRC",
+    b"TCA_FLOWER_KEY_ETH_SRC_MASK",
+    b"TCA_FLOWER_KEY_MPLS_OPTS",
+    b"TCA_GACT_PAD",
+    b"TCA_HTB_PAD",
+    b"TCA_MATCHALL_PAD",
+    b"TCA_MIRRED_PAD",
     b"TCA_PAD",
     b"TCA_STATS_APP",
     b"TCA_STATS_PAD",
+    b"TCA_TBF_PAD",
+    b"TCA_U32_PAD",
+    b"TCA_U32_PCNT",
+    b"TCA_U32_POLICE",
+    b"TCA_U32_SEL",
     b"TCA_XSTATS",
     b"VETH_INFO_PEER",
     b"VNIFILTER_ENTRY_STATS_PAD",
@@ -89,27 +113,53 @@ pub const NUMBER_LISTS: &[&[u8]] = &[
     b"IFLA_CAN_DATA_BITRATE_CONST",
     b"IFLA_CAN_TERMINATION_CONST",
     b"IFLA_CAN_XL_DATA_BITRATE_CONST",
+    b"TCA_HTB_CTAB",
+    b"TCA_HTB_RTAB",
     b"TCA_STAB_DATA",
+    b"TCA_TBF_PTAB",
+    b"TCA_TBF_RTAB",
 ];
 
-/// Returns whether some name of `BYTES` ends in these two letters. If a name with another end is
-/// added to `BYTES`, the proof of `is_bytes` fails until its end is added here.
+/// The fields whose values are objects in each header: sets of flags, and numbers that may have a
+/// name; and the code of an NLMSG_ERROR or NLMSG_DONE.
+pub const OBJECT_FIELDS: &[&[u8]] = &[
+    b"action",
+    b"change",
+    b"code",
+    b"eaction",
+    b"family",
+    b"filter_mask",
+    b"flags",
+    b"handle",
+    b"parent",
+    b"proto",
+    b"protocol",
+    b"scope",
+    b"state",
+    b"table",
+    b"type",
+];
+
+/// Returns whether some name of `BYTES` ends in these two letters (tools/names.py writes them).
 fn ends_as_bytes(before: u8, last: u8) -> bool
     ensures { result ≡ ends_as_bytes before last }
 {
     match before {
-        b'A' => last == b'C' || last == b'D',
+        b'A' => matches!(last, b'C' | b'D' | b'G'),
         b'C' => last == b'E',
-        b'D' => (last >= b'2' && last <= b'5') || last == b'R',
-        b'E' => last == b'C' || last == b'M' || last == b'R',
-        b'F' | b'G' => last == b'O',
-        b'I' => last == b'D' || last == b'E',
-        b'N' => last == b'S',
+        b'D' => matches!(last, b'2' | b'3' | b'4' | b'5' | b'R'),
+        b'E' => matches!(last, b'C' | b'L' | b'M' | b'R'),
+        b'F' => last == b'O',
+        b'G' => last == b'O',
+        b'H' => last == b'A',
+        b'I' => matches!(last, b'D' | b'E'),
+        b'L' => last == b'S',
+        b'N' => last == b'T',
         b'O' => last == b'N',
-        b'P' => last == b'P',
-        b'R' => last == b'H',
-        b'S' => last == b'S' || last == b'T',
-        b'T' => last == b'A' || last == b'S' || last == b'Y',
+        b'P' => matches!(last, b'P' | b'S'),
+        b'R' => matches!(last, b'C' | b'H'),
+        b'S' => matches!(last, b'K' | b'S' | b'T'),
+        b'T' => matches!(last, b'A' | b'S' | b'Y'),
         b'n' => last == b'g',
         _ => false,
     }
@@ -138,4 +188,32 @@ pub(crate) fn is_number_list(name: &[u8]) -> bool
     ensures { result ≡ is_among number_list_names name.now }
 {
     is_among(NUMBER_LISTS, name)
+}
+
+/// Returns whether some name of `OBJECT_FIELDS` has this letter before its last one (tools/names.py
+/// writes them).
+fn is_letter_of_object(letter: u8) -> bool
+    ensures { result ≡ is_letter_of_object letter }
+{
+    matches!(
+        letter,
+        b'd' | b'g' | b'l' | b'n' | b'o' | b'p' | b's' | b't'
+    )
+}
+
+/// Returns whether a name has the letter before its last one that some name of `OBJECT_FIELDS` has.
+fn has_letter_of_object(name: &[u8]) -> bool
+    ensures { result ≡ has_letter_of_object name.now }
+{
+    let len = name.len();
+    len >= 2 && is_letter_of_object(name[len - 2])
+}
+
+/// Returns whether the values of fields of this name are objects. The names of most others have
+/// another letter before the last one, and aren't searched for.
+#[tactic(auto, using(crate::proofs::NameEnds::letters_differ), unfolding(crate::specs::Names::object_fields))]
+pub(crate) fn is_object_field(name: &[u8]) -> bool
+    ensures { result ≡ is_among object_fields name.now }
+{
+    has_letter_of_object(name) && is_among(OBJECT_FIELDS, name)
 }

@@ -7,12 +7,13 @@ ghost use Rattle.link_lines_json.specs.Tokens.{term_text, terms};
 ghost use Rattle.link_lines_json.specs.Values.{are_numbers, assignment_json, assignments_json, begins_with_equals_sign};
 ghost use Rattle.link_lines_json.specs.Values.{elements_json, field_json, fields_json, first_assignment_json};
 ghost use Rattle.link_lines_json.specs.Values.{flag_json, flags_json, hex_after, hex_digit, hex_value, is_address_field};
-ghost use Rattle.link_lines_json.specs.Values.{is_assignment, is_bare, is_digit, is_hex, is_in_key, is_natural, is_number};
-ghost use Rattle.link_lines_json.specs.Values.{number_field, number_field_json};
+ghost use Rattle.link_lines_json.specs.Values.{is_assignment, is_bare, is_bare_field, is_digit, is_hex, is_in_key, is_natural, is_number};
+ghost use Rattle.link_lines_json.specs.Values.{number_field, number_field_json, object_json};
 ghost use Rattle.link_lines_json.specs.Values.{is_plain_number, is_quoted, key, key_size, members_json, next_key, separator, set_json};
 ghost use Rattle.link_lines_json.specs.Values.{text_json, text_or_word, value_json, with_digit, without_sign, word_json};
 ghost use Rattle.std.specs.List.{list_all, prefix_len};
 
+use crate::names::is_object_field;
 use crate::runs::simple_len;
 use crate::strings::{push_escaped_text, push_requoted, push_string};
 use crate::tokens::{Term, ends_term, split_term};
@@ -279,6 +280,16 @@ fn is_bare(term: Term<'_>) -> bool
     }
 }
 
+/// Appends a value as an object.
+#[tactic(auto, unfolding(crate::specs::Values::object_json))]
+fn push_object(is_bytes: bool, term: Term<'_>, out: &mut Vec<u8>) -> Result<(), AllocError>
+    ensures { Appends out.old out.new result (object_json is_bytes (term_text term.entry)) }
+{
+    out.extend_from_slice(b"{")?;
+    push_members(is_bytes, term, out)?;
+    out.extend_from_slice(b"}")
+}
+
 /// Appends a value: itself, if it has one member alone, else an object.
 #[tactic(auto, unfolding(crate::specs::Values::value_json))]
 pub(crate) fn push_value(
@@ -289,11 +300,10 @@ pub(crate) fn push_value(
     ensures { Appends out.old out.new result (value_json is_bytes (term_text term.entry)) }
 {
     if is_bare(term) {
-        return push_word(is_bytes, term.word, out);
+        push_word(is_bytes, term.word, out)
+    } else {
+        push_object(is_bytes, term, out)
     }
-    out.extend_from_slice(b"{")?;
-    push_members(is_bytes, term, out)?;
-    out.extend_from_slice(b"}")
 }
 
 /// Returns whether the value of a field of this name is bytes.
@@ -302,6 +312,13 @@ fn is_address_field(name: &[u8]) -> bool
     ensures { result ≡ is_address_field name.now }
 {
     name == b"addr".as_slice()
+}
+
+/// Returns whether the value of a field of this name isn't an object.
+fn is_bare_field(name: &[u8], value: Term<'_>) -> bool
+    ensures { result ≡ is_bare_field name.now (term_text value.entry) }
+{
+    is_bare(value) && !is_object_field(name)
 }
 
 /// Appends a field with a name and a value.
@@ -314,7 +331,12 @@ pub(crate) fn push_field(
     ensures { Appends out.old out.new result (field_json (term_text name.entry) (term_text value.entry)) }
 {
     push_key(name.word, out)?;
-    push_value(is_address_field(name.word), value, out)
+    let is_bytes = is_address_field(name.word);
+    if is_bare_field(name.word, value) {
+        push_word(is_bytes, value.word, out)
+    } else {
+        push_object(is_bytes, value, out)
+    }
 }
 
 /// Appends fields as headers have them, a name and a value each.

@@ -137,6 +137,8 @@ header_names =
     codes "rtgenmsg" ∷
     codes "rtmsg" ∷
     codes "rtnexthop" ∷
+    codes "tc_mirred" ∷
+    codes "tc_prio_qopt" ∷
     codes "tcamsg" ∷
     codes "tcmsg" ∷
     codes "timestamp" ∷

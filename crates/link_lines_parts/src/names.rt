@@ -131,6 +131,8 @@ const HEADERS: &[&[u8]] = &[
     b"rtgenmsg",
     b"rtmsg",
     b"rtnexthop",
+    b"tc_mirred",
+    b"tc_prio_qopt",
     b"tcamsg",
     b"tcmsg",
     b"timestamp",

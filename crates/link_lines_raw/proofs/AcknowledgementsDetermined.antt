@@ -28,9 +28,9 @@ abbrev row : Raw
 row = R.List ACKNOWLEDGEMENT
 
 held_is : (p : List ℕ) → is_whole p ≡ true → held_lines 1 row p ≡ acknowledgement_lines p
-held_is p h = ap (λ b. head_line 1 (cond b (head_of row p) None) ++ inside_lines 1 (cond b (listed_in row [] p) None)) h
+held_is p h = ap (λ b. head_line 1 (cond b (head_of row p) None) ++ inside_lines 1 (cond b (listed_in row p) None)) h
 
-name_is : (p : List ℕ) → is_whole p ≡ true → after_name 1 row [] p ≡ []
+name_is : (p : List ℕ) → is_whole p ≡ true → after_name 1 row p ≡ []
 unfolding after_name
 name_is p h = ap (λ b. cond b [] (plain_bytes p)) h
 

@@ -6,7 +6,7 @@ pub mod Whole
 pub mod Unfolding
 pub mod Spans
 pub mod Loop
-pub mod Types
+pub mod Chosen
 pub mod Unnamed
 pub mod RawRows
 pub mod Payloads

@@ -13,14 +13,15 @@ use Rattle.link_lines_values.proofs.OneLine.{fields_are_lines, is_line_checked, 
 use Rattle.link_lines_raw.specs.declared.lists.ListedBy.TheVariants as L
 use Rattle.link_lines_raw.specs.declared.raw_tables.RawTable.{RawTable}
 use Rattle.link_lines_raw.specs.declared.rows.RawBy.TheVariants as R
-use Rattle.link_lines_raw.specs.Attributes.{after_name, encapsulation, has_nested_bit, is_shown, named_text, nested_word, next_hop_line, raw_row, raw_text, record_words}
+use Rattle.link_lines_raw.specs.Attributes.{after_name, has_nested_bit, is_shown, named_text, nested_word, next_hop_line, raw_row, raw_text, record_words}
+use Rattle.link_lines_raw.specs.Choices.{resolved}
 use Rattle.link_lines_raw.specs.Coverage.{determines_raw, is_line_determined, is_line_word}
 use Rattle.link_lines_raw.specs.Lines.{Line}
-use Rattle.link_lines_raw.specs.Lists.{Listed, attributes_if_known, first_part, head_line, head_of, inside_lines, lines_inside, lines_within, listed_in, listed_lines, named_head, named_list, next_lines, padding_text, padding_words, part_head, part_list, part_padding, part_text, shown_head, shown_list}
+use Rattle.link_lines_raw.specs.Lists.{Listed, first_part, head_line, head_of, inside_lines, lines_inside, lines_within, listed_in, listed_lines, named_head, named_list, next_lines, padding_text, padding_words, part_head, part_list, part_padding, part_text, shown_head, shown_list}
 use Rattle.link_lines_raw.specs.Names.{Named}
 use Rattle.link_lines_raw.specs.Rows.{Raw, RecordLine}
 use Rattle.link_lines_raw.proofs.Payloads.{line_facts, name_line}
-use Rattle.link_lines_raw.proofs.RawRows.{row_facts}
+use Rattle.link_lines_raw.proofs.RawRows.{held_determined, row_facts}
 use Rattle.link_lines_raw.proofs.Spans.{AreLines}
 use Rattle.link_lines_raw.proofs.Unnamed.{kind_line}
 use Rattle.link_lines_raw.proofs.Words.{IsWord, Starts, lines_joined, message_label, space_ends, starts_joined, word_line}
@@ -57,8 +58,9 @@ named_by : (level : ℕ) (t : RawTable) (w : List ℕ) (e : Attribute) (o : Opti
 named_by level t w e None h = (kind_line e.kind e.payload, omega arith)
 named_by level t w e (Some row) h =
     let f = row_facts t e.kind row h in
-    let rest = lines_joined (nested_word e.kind) (after_name level row.1 w e.payload) (nested_by (has_nested_bit e.kind)) (name_line level row.1 w e.payload f.determined) in
-    (lines_joined row.0 (nested_word e.kind ++ after_name level row.1 w e.payload) (word_line row.0 f.word) rest, starts_joined row.0 (nested_word e.kind ++ after_name level row.1 w e.payload) f.starts)
+    let after = after_name level (resolved row.1 w) e.payload in
+    let rest = lines_joined (nested_word e.kind) after (nested_by (has_nested_bit e.kind)) (name_line level (resolved row.1 w) e.payload (held_determined t e.kind row w h)) in
+    (lines_joined row.0 (nested_word e.kind ++ after) (word_line row.0 f.word) rest, starts_joined row.0 (nested_word e.kind ++ after) f.starts)
 
 -- The text of an attribute's line is one line, and doesn't begin with a space.
 pub text_is_line : (level : ℕ) (t : RawTable) (w : List ℕ) (e : Attribute) → IsLine (raw_text level t w e) × Starts (raw_text level t w e)
@@ -76,24 +78,20 @@ abbrev pub AreDetermined : Option (Listed × List ℕ) → Type 0
 AreDetermined None = ⊤
 AreDetermined (Some x) = IsDetermined x.0
 
-known_determined : (o : Option RawTable) (p : List ℕ) → AreDetermined (attributes_if_known o p)
-known_determined None p = record {}
-known_determined (Some t) p = record {}
-
-listed_determined : (raw : Raw) (w p : List ℕ) → determines_raw raw ≡ true → AreDetermined (listed_in raw w p)
-listed_determined (R.Value shown) w p h = record {}
-listed_determined (R.List table) w p h = record {}
-listed_determined (R.Encapsulation kind) w p h = known_determined (encapsulation kind w) p
-listed_determined (R.Head line table) w p h = record {}
-listed_determined (R.Hops table) w p h = record {}
-listed_determined (R.Records line) w p h = (and_parts (is_line_determined line) _ h).0
+listed_determined : (raw : Raw) (p : List ℕ) → determines_raw raw ≡ true → AreDetermined (listed_in raw p)
+listed_determined (R.Value shown) p h = record {}
+listed_determined (R.List table) p h = record {}
+listed_determined (R.Chosen choice kind) p h = record {}
+listed_determined (R.Head line table) p h = record {}
+listed_determined (R.Hops table) p h = record {}
+listed_determined (R.Records line) p h = (and_parts (is_line_determined line) _ h).0
 
 either_determined : (b : Bool) (o : Option (Listed × List ℕ)) → AreDetermined o → AreDetermined (cond b o None)
 either_determined true o h = h
 either_determined false o h = record {}
 
-pub shown_determined : (level : ℕ) (raw : Raw) (w p : List ℕ) → determines_raw raw ≡ true → AreDetermined (shown_list level raw w p)
-shown_determined level raw w p h = either_determined (is_shown level raw w p) (listed_in raw w p) (listed_determined raw w p h)
+pub shown_determined : (level : ℕ) (raw : Raw) (p : List ℕ) → determines_raw raw ≡ true → AreDetermined (shown_list level raw p)
+shown_determined level raw p h = either_determined (is_shown level raw p) (listed_in raw p) (listed_determined raw p h)
 
 -- A head, if there is one, is one line, and doesn't begin with a space.
 abbrev pub IsHeadLine : Option (List ℕ) → Type 0
@@ -107,21 +105,21 @@ either_head false o h = record {}
 head_line_of : (raw : Raw) (p : List ℕ) → determines_raw raw ≡ true → IsHeadLine (head_of raw p)
 head_line_of (R.Value shown) p h = record {}
 head_line_of (R.List table) p h = record {}
-head_line_of (R.Encapsulation kind) p h = record {}
+head_line_of (R.Chosen choice kind) p h = record {}
 head_line_of (R.Head line table) p h = (words_are_line line (take (total_size line.1) p) h, (words_start line (take (total_size line.1) p) h).1)
 head_line_of (R.Hops table) p h = record {}
 head_line_of (R.Records line) p h = record {}
 
-pub shown_head_line : (level : ℕ) (raw : Raw) (w p : List ℕ) → determines_raw raw ≡ true → IsHeadLine (shown_head level raw w p)
-shown_head_line level raw w p h = either_head (is_shown level raw w p) (head_of raw p) (head_line_of raw p h)
+pub shown_head_line : (level : ℕ) (raw : Raw) (p : List ℕ) → determines_raw raw ≡ true → IsHeadLine (shown_head level raw p)
+shown_head_line level raw p h = either_head (is_shown level raw p) (head_of raw p) (head_line_of raw p h)
 
 named_head_line : (level : ℕ) (t : RawTable) (w : List ℕ) (e : Attribute) (o : Option (Named Raw)) → raw_row t e.kind ≡ o → IsHeadLine (named_head level o w e)
 named_head_line level t w e None h = record {}
-named_head_line level t w e (Some row) h = shown_head_line level row.1 w e.payload (row_facts t e.kind row h).determined
+named_head_line level t w e (Some row) h = shown_head_line level (resolved row.1 w) e.payload (held_determined t e.kind row w h)
 
 pub named_determined : (level : ℕ) (t : RawTable) (w : List ℕ) (e : Attribute) (o : Option (Named Raw)) → raw_row t e.kind ≡ o → AreDetermined (named_list level o w e)
 named_determined level t w e None h = record {}
-named_determined level t w e (Some row) h = shown_determined level row.1 w e.payload (row_facts t e.kind row h).determined
+named_determined level t w e (Some row) h = shown_determined level (resolved row.1 w) e.payload (held_determined t e.kind row w h)
 
 pub heads_are_lines : (level : ℕ) (o : Option (List ℕ)) → IsHeadLine o → AreLines (head_line level o)
 heads_are_lines level None h = record {}

@@ -13,13 +13,14 @@ use Rattle.link_lines_raw.specs.declared.raw_tables.RawTable.{RawTable}
 use Rattle.link_lines_raw.specs.declared.rows.RawBy.TheVariants as R
 use Rattle.link_lines_raw.specs.Attributes.{after_name, is_shown, named_text, nested_word, next_hop_line, raw_row, raw_text, record_words}
 use Rattle.link_lines_raw.specs.Coverage.{determines_raw, is_line_determined}
+use Rattle.link_lines_raw.specs.Choices.{resolved}
 use Rattle.link_lines_raw.specs.Lines.{Line}
 use Rattle.link_lines_raw.specs.Lists.{Listed, first_part, head_line, head_of, inside_lines, listed_lines, named_head, named_list, padding_text, padding_words, part_text, shown_head}
 use Rattle.link_lines_raw.specs.Names.{Named}
 use Rattle.link_lines_raw.specs.Rows.{Raw, RecordLine}
 use Rattle.link_lines_raw.proofs.ListLines.{AreDetermined, IsDetermined, named_determined, next_hop_determined, words_end, words_start}
 use Rattle.link_lines_raw.proofs.Payloads.{line_facts}
-use Rattle.link_lines_raw.proofs.RawRows.{row_facts}
+use Rattle.link_lines_raw.proofs.RawRows.{held_determined, row_facts}
 use Rattle.link_lines_raw.proofs.Unfolding.{next, none}
 use Rattle.link_lines_raw.proofs.Whole.{IsPaddingOfBytes}
 use Rattle.link_lines_raw.proofs.Words.{cut_word, message_label, not_lower, space_ends}
@@ -51,7 +52,7 @@ named_apart : (level : ℕ) (t : RawTable) (w : List ℕ) (e : Attribute) (o : O
 named_apart level t w e None h r space same = let first : ◌≡◌ {A = ℕ} 107 112 = ap (λ l. get_or l 0 0) same in omega arith
 named_apart level t w e (Some row) h r space same =
     let f = row_facts t e.kind row h in
-    not_lower 112 row.0 (nested_word e.kind ++ after_name level row.1 w e.payload) _ (omega arith) f.starts f.upper same
+    not_lower 112 row.0 (nested_word e.kind ++ after_name level (resolved row.1 w) e.payload) _ (omega arith) f.starts f.upper same
 
 text_apart : (level : ℕ) (t : RawTable) (w : List ℕ) (e : Attribute) → IsApart (raw_text level t w e)
 unfolding raw_text
@@ -84,7 +85,7 @@ either_apart false o h = record {}
 
 named_head_apart : (level : ℕ) (t : RawTable) (w : List ℕ) (e : Attribute) (o : Option (Named Raw)) → raw_row t e.kind ≡ o → IsHeadApart (named_head level o w e)
 named_head_apart level t w e None h = record {}
-named_head_apart level t w e (Some row) h = either_apart (is_shown level row.1 w e.payload) (head_of row.1 e.payload) (head_apart row.1 e.payload (row_facts t e.kind row h).determined)
+named_head_apart level t w e (Some row) h = either_apart (is_shown level (resolved row.1 w) e.payload) (head_of (resolved row.1 w) e.payload) (head_apart (resolved row.1 w) e.payload (held_determined t e.kind row w h))
 
 -- The lines of what an attribute holds don't begin with a line of padding.
 pub held_apart : (level : ℕ) (t : RawTable) (w : List ℕ) (e : Attribute) → BeginsApart (head_line level (named_head level (raw_row t e.kind) w e) ++ inside_lines level (named_list level (raw_row t e.kind) w e))

@@ -1,7 +1,7 @@
 -- What follows a name, and the lines below it, determine a payload, provided that lines determine shorter lists.
 use Rattle.std.proofs.Common.{◌≡◌, ℕ, ◌+◌, ◌<◌, Bool, true, false, cond, List, [], ◌∷◌, ◌++◌, length, take, drop, get_or, Option, Some, None, refl, sym, ap, ◌∙◌, arith}
 use Rattle.std.specs.Prelude.{◌&&◌, not, nat_le, bytes_eq, codes}
-use Rattle.std.proofs.lemmas.Bool.{and_parts, not-true}
+use Rattle.std.proofs.lemmas.Bool.{and_parts, not-true, true≢false}
 use Rattle.std.proofs.lemmas.List.{append_cancel_left, length-drop}
 use Rattle.netlink_packet_core_grammar.specs.Bytes.{AreBytes}
 use Rattle.netlink_packet_core_grammar.proofs.Bytes.{AreBytes-drop, AreBytes-take}
@@ -18,11 +18,11 @@ use Rattle.link_lines_values.specs.Values.{are_fields_on_a_line}
 use Rattle.link_lines_raw.specs.declared.lists.ListedBy.TheVariants as L
 use Rattle.link_lines_raw.specs.declared.raw_tables.RawTable.{RawTable}
 use Rattle.link_lines_raw.specs.declared.rows.RawBy.TheVariants as R
-use Rattle.link_lines_raw.specs.Attributes.{after_name, are_next_hops_after, are_records_after, encapsulation, holds_lines, is_headed, is_known, is_shown, is_whole, levels_below, plain_bytes, record_words}
+use Rattle.link_lines_raw.specs.Attributes.{after_name, are_next_hops_after, are_records_after, holds_lines, is_headed, is_shown, is_whole, levels_below, plain_bytes, record_words}
 use Rattle.link_lines_parts.specs.Levels.{deepest_level}
 use Rattle.link_lines_raw.specs.Coverage.{determines_raw, is_line_determined, is_line_word}
 use Rattle.link_lines_raw.specs.Lines.{Line}
-use Rattle.link_lines_raw.specs.Lists.{attributes_if_known, head_line, head_of, inside_lines, listed_in, listed_lines, shown_head, shown_list}
+use Rattle.link_lines_raw.specs.Lists.{head_line, head_of, inside_lines, listed_in, listed_lines, shown_head, shown_list}
 use Rattle.link_lines_raw.specs.Rows.{Raw, RecordLine}
 use Rattle.link_lines_raw.proofs.Spans.{first_text}
 
@@ -42,37 +42,37 @@ either_line : (b : Bool) (p : List ℕ) → IsLine (cond b [] (plain_bytes p))
 either_line true p = record {}
 either_line false p = plain_line p
 
-pub name_space : (level : ℕ) (raw : Raw) (list p : List ℕ) → BeginsWithSpace (after_name level raw list p)
+pub name_space : (level : ℕ) (raw : Raw) (p : List ℕ) → BeginsWithSpace (after_name level raw p)
 unfolding after_name
-name_space level (R.Value shown) list p = raw_values_determined.space shown p
-name_space level (R.List table) list p = either_space _ p
-name_space level (R.Encapsulation kind) list p = either_space _ p
-name_space level (R.Head line table) list p = either_space _ p
-name_space level (R.Hops table) list p = either_space _ p
-name_space level (R.Records line) list p = either_space _ p
+name_space level (R.Value shown) p = raw_values_determined.space shown p
+name_space level (R.List table) p = either_space _ p
+name_space level (R.Chosen choice kind) p = either_space _ p
+name_space level (R.Head line table) p = either_space _ p
+name_space level (R.Hops table) p = either_space _ p
+name_space level (R.Records line) p = either_space _ p
 
-pub name_line : (level : ℕ) (raw : Raw) (list p : List ℕ) → determines_raw raw ≡ true → IsLine (after_name level raw list p)
+pub name_line : (level : ℕ) (raw : Raw) (p : List ℕ) → determines_raw raw ≡ true → IsLine (after_name level raw p)
 unfolding after_name
-name_line level (R.Value shown) list p h = raw_values_determined.line shown p h
-name_line level (R.List table) list p h = either_line _ p
-name_line level (R.Encapsulation kind) list p h = either_line _ p
-name_line level (R.Head line table) list p h = either_line _ p
-name_line level (R.Hops table) list p h = either_line _ p
-name_line level (R.Records line) list p h = either_line _ p
+name_line level (R.Value shown) p h = raw_values_determined.line shown p h
+name_line level (R.List table) p h = either_line _ p
+name_line level (R.Chosen choice kind) p h = either_line _ p
+name_line level (R.Head line table) p h = either_line _ p
+name_line level (R.Hops table) p h = either_line _ p
+name_line level (R.Records line) p h = either_line _ p
 
 -- No text after a name begins with the word ` nested`.
 not_plain : (b : Bool) (p s : List ℕ) → cond b [] (plain_bytes p) ≡ codes " nested" ++ s → ⊥
 not_plain true p s e = absurd cc
 not_plain false p s e = let second : ◌≡◌ {A = ℕ} 98 110 = ap (λ l. get_or l 1 0) e in omega arith
 
-pub unnested : (level : ℕ) (raw : Raw) (list p s : List ℕ) → determines_raw raw ≡ true → AreBytes p → BeginsWithSpace s → after_name level raw list p ≡ codes " nested" ++ s → ⊥
+pub unnested : (level : ℕ) (raw : Raw) (p s : List ℕ) → determines_raw raw ≡ true → AreBytes p → BeginsWithSpace s → after_name level raw p ≡ codes " nested" ++ s → ⊥
 unfolding after_name
-unnested level (R.Value shown) list p s h a b e = raw_values_determined.unnested shown p s h a b e
-unnested level (R.List table) list p s h a b e = not_plain _ p s e
-unnested level (R.Encapsulation kind) list p s h a b e = not_plain _ p s e
-unnested level (R.Head line table) list p s h a b e = not_plain _ p s e
-unnested level (R.Hops table) list p s h a b e = not_plain _ p s e
-unnested level (R.Records line) list p s h a b e = not_plain _ p s e
+unnested level (R.Value shown) p s h a b e = raw_values_determined.unnested shown p s h a b e
+unnested level (R.List table) p s h a b e = not_plain _ p s e
+unnested level (R.Chosen choice kind) p s h a b e = not_plain _ p s e
+unnested level (R.Head line table) p s h a b e = not_plain _ p s e
+unnested level (R.Hops table) p s h a b e = not_plain _ p s e
+unnested level (R.Records line) p s h a b e = not_plain _ p s e
 
 -- ---- records with a line of their own
 
@@ -116,19 +116,15 @@ RecordsDetermined = (level : ℕ) (line : RecordLine) (p q : List ℕ) → deter
 -- ---- payloads
 
 -- The lines below an attribute's line.
-abbrev pub below : ℕ → Raw → List ℕ → List ℕ → List Line
-below level raw list p = head_line level (shown_head level raw list p) ++ inside_lines level (shown_list level raw list p)
+abbrev pub below : ℕ → Raw → List ℕ → List Line
+below level raw p = head_line level (shown_head level raw p) ++ inside_lines level (shown_list level raw p)
 
 -- The lines of a payload that is shown in lines.
-abbrev inside : ℕ → Raw → List ℕ → List ℕ → List Line
-inside level raw list p = head_line level (head_of raw p) ++ inside_lines level (listed_in raw list p)
+abbrev inside : ℕ → Raw → List ℕ → List Line
+inside level raw p = head_line level (head_of raw p) ++ inside_lines level (listed_in raw p)
 
-below_is : (level : ℕ) (raw : Raw) (list p : List ℕ) → is_shown level raw list p ≡ true → below level raw list p ≡ inside level raw list p
-below_is level raw list p h = ap (λ b. head_line level (cond b (head_of raw p) None) ++ inside_lines level (cond b (listed_in raw list p) None)) h
-
--- Two lists have the same table of what a row encapsulates.
-abbrev pub SameTypes : Raw → List ℕ → List ℕ → Type 0
-SameTypes raw w v = (k : ℕ) → raw ≡ R.Encapsulation k → encapsulation k w ≡ encapsulation k v
+below_is : (level : ℕ) (raw : Raw) (p : List ℕ) → is_shown level raw p ≡ true → below level raw p ≡ inside level raw p
+below_is level raw p h = ap (λ b. head_line level (cond b (head_of raw p) None) ++ inside_lines level (cond b (listed_in raw p) None)) h
 
 either_by : (b c : Bool) (p q : List ℕ) → AreBytes p → AreBytes q → (b ≡ true → c ≡ true → p ≡ q) → cond b [] (plain_bytes p) ≡ cond c [] (plain_bytes q) → p ≡ q
 either_by true true p q a d h e = h refl refl
@@ -137,19 +133,14 @@ either_by false true p q a d h e = absurd cc
 either_by false false p q a d h e = bytes_determined.bytes p q a d (ap (drop 6) e)
 
 -- What follows the name of a payload that may be shown in lines.
-either : (raw : Raw) (level : ℕ) (w v p q : List ℕ) → AreBytes p → AreBytes q → (holds_lines raw w p ≡ true → holds_lines raw v q ≡ true → inside level raw w p ≡ inside level raw v q → p ≡ q) →
-    cond (is_shown level raw w p) [] (plain_bytes p) ≡ cond (is_shown level raw v q) [] (plain_bytes q) → below level raw w p ≡ below level raw v q → p ≡ q
-either raw level w v p q a b h e under =
+either : (raw : Raw) (level : ℕ) (p q : List ℕ) → AreBytes p → AreBytes q → (holds_lines raw p ≡ true → holds_lines raw q ≡ true → inside level raw p ≡ inside level raw q → p ≡ q) →
+    cond (is_shown level raw p) [] (plain_bytes p) ≡ cond (is_shown level raw q) [] (plain_bytes q) → below level raw p ≡ below level raw q → p ≡ q
+either raw level p q a b h e under =
     let in_reach = nat_le (level + levels_below raw) deepest_level in
-    either_by (is_shown level raw w p) (is_shown level raw v q) p q a b
-    (λ i j. h (and_parts in_reach _ i).1 (and_parts in_reach _ j).1 (sym (below_is level raw w p i) ∙ under ∙ below_is level raw v q j)) e
+    either_by (is_shown level raw p) (is_shown level raw q) p q a b
+    (λ i j. h (and_parts in_reach _ i).1 (and_parts in_reach _ j).1 (sym (below_is level raw p i) ∙ under ∙ below_is level raw q j)) e
 
 module _ (n : ℕ) (lists : ShorterDetermined n) (hops : HopsDetermined n) (records : RecordsDetermined) where
-  known : (level : ℕ) (p q : List ℕ) (o : Option RawTable) → length p < n → AreBytes p → AreBytes q → (is_known o && is_whole p) ≡ true → (is_known o && is_whole q) ≡ true →
-      inside_lines level (attributes_if_known o p) ≡ inside_lines level (attributes_if_known o q) → p ≡ q
-  known level p q None l a b h i e = absurd cc
-  known level p q (Some t) l a b h i e = lists level t p q l a b h i e
-
   headed : (level : ℕ) (line : RecordLine) (t : RawTable) (p q : List ℕ) → is_line_determined line ≡ true → length p < n → AreBytes p → AreBytes q → is_headed line p ≡ true → is_headed line q ≡ true →
       (level, record_words line (take (total_size line.1) p)) ∷ listed_lines level (L.Attributes t (drop (total_size line.1) p)) (drop (total_size line.1) p)
       ≡ (level, record_words line (take (total_size line.1) q)) ∷ listed_lines level (L.Attributes t (drop (total_size line.1) q)) (drop (total_size line.1) q) → p ≡ q
@@ -163,13 +154,11 @@ module _ (n : ℕ) (lists : ShorterDetermined n) (hops : HopsDetermined n) (reco
       both_parts m p q (words_determined line (take m p) (take m q) d (AreBytes-take m p a) (AreBytes-take m q b) r.0 s.0 words)
       (lists level t (drop m p) (drop m q) (omega (arith, length-drop m p, l)) (AreBytes-drop m p a) (AreBytes-drop m q b) r.1 s.1 (ap (drop 1) e))
 
-  pub payload_determined : (level : ℕ) (raw : Raw) (w v p q : List ℕ) → determines_raw raw ≡ true → length p < n → AreBytes p → AreBytes q → SameTypes raw w v → after_name level raw w p ≡ after_name level raw v q → below level raw w p ≡ below level raw v q → p ≡ q
+  pub payload_determined : (level : ℕ) (raw : Raw) (p q : List ℕ) → determines_raw raw ≡ true → length p < n → AreBytes p → AreBytes q → after_name level raw p ≡ after_name level raw q → below level raw p ≡ below level raw q → p ≡ q
   unfolding after_name
-  payload_determined level (R.Value shown) w v p q d l a b t e under = raw_values_determined.determined shown p q d a b e
-  payload_determined level (R.List table) w v p q d l a b t e under = either (R.List table) level w v p q a b (λ i j u. lists level table p q l a b i j u) e under
-  payload_determined level (R.Encapsulation kind) w v p q d l a b t e under =
-      either (R.Encapsulation kind) level w v p q a b
-      (λ i j u. known level p q (encapsulation kind w) l a b i (ap (λ o. is_known o && is_whole q) (t kind refl) ∙ j) (u ∙ ap (λ o. inside_lines level (attributes_if_known o q)) (sym (t kind refl)))) e under
-  payload_determined level (R.Head line table) w v p q d l a b t e under = either (R.Head line table) level w v p q a b (λ i j u. headed level line table p q d l a b i j u) e under
-  payload_determined level (R.Hops table) w v p q d l a b t e under = either (R.Hops table) level w v p q a b (λ i j u. hops level table p q l a b i j u) e under
-  payload_determined level (R.Records line) w v p q d l a b t e under = either (R.Records line) level w v p q a b (λ i j u. records level line p q d a b i j u) e under
+  payload_determined level (R.Value shown) p q d l a b e under = raw_values_determined.determined shown p q d a b e
+  payload_determined level (R.List table) p q d l a b e under = either (R.List table) level p q a b (λ i j u. lists level table p q l a b i j u) e under
+  payload_determined level (R.Chosen choice kind) p q d l a b e under = either (R.Chosen choice kind) level p q a b (λ i j u. absurd (true≢false (sym i))) e under
+  payload_determined level (R.Head line table) p q d l a b e under = either (R.Head line table) level p q a b (λ i j u. headed level line table p q d l a b i j u) e under
+  payload_determined level (R.Hops table) p q d l a b e under = either (R.Hops table) level p q a b (λ i j u. hops level table p q l a b i j u) e under
+  payload_determined level (R.Records line) p q d l a b e under = either (R.Records line) level p q a b (λ i j u. records level line p q d a b i j u) e under

@@ -22,20 +22,20 @@ attribute level t e f s u a b h k text lines =
     (below_deep level (named_head level (raw_row t e.kind) [] e) (named_list level (raw_row t e.kind) [] e)) (below_deep level (named_head level (raw_row t f.kind) [] f) (named_list level (raw_row t f.kind) [] f))
     (attribute_lines level t [] e) (attribute_lines level t [] f) h k lines in
     let n = suc (length e.payload) in
-    (attribute_determined n (shorter_determined n) level t [] [] e f (omega arith) a b (λ l i x row same. refl) text c.0, c.1)
+    (attribute_determined n (shorter_determined n) level t [] [] e f (omega arith) a b (λ l x row. refl) text c.0, c.1)
 
 pub raw_attributes_determined : RawAttributesAreDetermined
 raw_attributes_determined = record { line = λ level t e. (text_is_line level t [] e).0; determined = attribute }
 
-payload : (level : ℕ) (raw : Raw) (p q s u : List ℕ) → determines_raw raw ≡ true → AreBytes p → AreBytes q → IsShallow level s → IsShallow level u → after_name level raw [] p ≡ after_name level raw [] q →
+payload : (level : ℕ) (raw : Raw) (p q s u : List ℕ) → determines_raw raw ≡ true → AreBytes p → AreBytes q → IsShallow level s → IsShallow level u → after_name level raw p ≡ after_name level raw q →
     lines_text (held_lines level raw p) ++ s ≡ lines_text (held_lines level raw q) ++ u → (p ≡ q) × (s ≡ u)
 payload level raw p q s u d a b h k text lines =
     let c = texts_span level (held_lines level raw p) (held_lines level raw q) s u
-    (below_deep level (shown_head level raw [] p) (shown_list level raw [] p)) (below_deep level (shown_head level raw [] q) (shown_list level raw [] q))
-    (below_are_lines level (shown_head level raw [] p) (shown_list level raw [] p) (shown_head_line level raw [] p d) (shown_determined level raw [] p d))
-    (below_are_lines level (shown_head level raw [] q) (shown_list level raw [] q) (shown_head_line level raw [] q d) (shown_determined level raw [] q d)) h k lines in
+    (below_deep level (shown_head level raw p) (shown_list level raw p)) (below_deep level (shown_head level raw q) (shown_list level raw q))
+    (below_are_lines level (shown_head level raw p) (shown_list level raw p) (shown_head_line level raw p d) (shown_determined level raw p d))
+    (below_are_lines level (shown_head level raw q) (shown_list level raw q) (shown_head_line level raw q d) (shown_determined level raw q d)) h k lines in
     let n = suc (length p) in
-    (payload_determined n (shorter_determined n) (hops_determined n (shorter_determined n)) records_determined level raw [] [] p q d (omega arith) a b (λ i same. refl) text c.0, c.1)
+    (payload_determined n (shorter_determined n) (hops_determined n (shorter_determined n)) records_determined level raw p q d (omega arith) a b text c.0, c.1)
 
 pub held_payloads_determined : HeldPayloadsAreDetermined
-held_payloads_determined = record { line = λ level raw p d. name_line level raw [] p d; space = λ level raw p. name_space level raw [] p; determined = payload }
+held_payloads_determined = record { line = λ level raw p d. name_line level raw p d; space = λ level raw p. name_space level raw p; determined = payload }

@@ -13,21 +13,24 @@ use Rattle.link_lines_values.specs.NumberTexts.{number_texts}
 use Rattle.link_lines_values.proofs.NumbersDetermined.{high}
 use Rattle.link_lines_raw.specs.declared.raw_tables.RawTable.{RawTable}
 use Rattle.link_lines_raw.specs.declared.raw_tables.TheConstants.{INDEXED_ACTION, INDEXED_IPV4, INDEXED_IPV6}
+use Rattle.link_lines_raw.specs.declared.rows.Choice.{Choice}
 use Rattle.link_lines_raw.specs.declared.rows.RawBy.TheVariants as R
 use Rattle.link_lines_raw.specs.Attributes.{has_byte_order_bit, index_name, indexed_row, proper_row, raw_row, row_or_index}
-use Rattle.link_lines_raw.specs.Coverage.{determines_raw, has_value, in_each, is_row_determined, is_table_determined, is_type_value, is_value}
+use Rattle.link_lines_raw.specs.Coverage.{determines_raw, has_value, in_each, is_row_determined, is_chosen_by_value, is_table_determined, is_value}
+use Rattle.link_lines_raw.specs.Choices.{choices_of, resolved}
 use Rattle.link_lines_raw.specs.Laws.{RawTablesAreDetermined}
 use Rattle.link_lines_raw.specs.Names.{Named, NameRowOf, all_named_rows, has_name, names_apart}
 use Rattle.link_lines_raw.specs.Rows.{Raw}
-use Rattle.link_lines_raw.specs.Tables.{bridge_rows, cfm_rows, kind_rows, link_rows, multicast_rows, neighbour_rows, raw_rows_of, route_rows, traffic_rows}
+use Rattle.link_lines_raw.specs.Tables.{bridge_rows, cfm_rows, kind_rows, link_rows, multicast_rows, neighbour_rows, option_rows, raw_rows_of, route_rows, traffic_rows}
+use Rattle.link_lines_raw.proofs.Chosen.{resolved_holds}
 use Rattle.link_lines_raw.proofs.Named.{apart_in, chosen, first_holds, found_in, name_of, others_hold}
 use Rattle.link_lines_raw.proofs.Words.{IsWord, Starts}
 
 -- ---- each table
 
 pub tables_determined : RawTablesAreDetermined
-unfolding link_rows kind_rows bridge_rows cfm_rows route_rows neighbour_rows traffic_rows multicast_rows layout_fields number_texts
-tables_determined = refl
+unfolding link_rows kind_rows bridge_rows cfm_rows route_rows neighbour_rows traffic_rows multicast_rows option_rows choices_of layout_fields number_texts
+tables_determined = (refl, refl)
 
 all_at : (f : List (NameRowOf Raw) → Bool) (n : ℕ) (ts : List (List (NameRowOf Raw))) → f [] ≡ true → list_all f ts ≡ true → f (get_or ts n []) ≡ true
 all_at f n [] e h = e
@@ -36,19 +39,19 @@ all_at f (suc n) (t ∷ ts) e h = all_at f n ts e (and_parts (f t) (list_all f t
 
 pub in_table : (f : List (NameRowOf Raw) → Bool) (n : ℕ) → f [] ≡ true → in_each f ≡ true → f (raw_rows_of n) ≡ true
 unfolding raw_rows_of
-in_table f n e h = search (chosen f, all_at f, first_holds, others_hold) depth 18
+in_table f n e h = search (chosen f, all_at f, first_holds, others_hold) depth 20
 
 -- The tests of one table.
 record TableFacts (rows : List (NameRowOf Raw)) : Type 0 where
   named : all_named_rows has_name rows ≡ true
   determined : all_named_rows is_row_determined rows ≡ true
   apart : names_apart rows ≡ true
-  types : all_named_rows (is_type_value rows) rows ≡ true
+  types : all_named_rows (is_chosen_by_value rows) rows ≡ true
 
 facts : (n : ℕ) → TableFacts (raw_rows_of n)
 facts n =
     let rows = raw_rows_of n in
-    let h : is_table_determined rows ≡ true = in_table is_table_determined n refl tables_determined in
+    let h : is_table_determined rows ≡ true = in_table is_table_determined n refl tables_determined.0 in
     let a = and_parts (all_named_rows has_name rows) _ h in
     let b = and_parts (all_named_rows is_row_determined rows) _ a.1 in
     let c = and_parts (names_apart rows) _ b.1 in
@@ -138,6 +141,10 @@ is_row t k row h = row_by t k row (has_byte_order_bit k) refl h
 pub row_facts : (t : RawTable) (k : ℕ) (row : Named Raw) → raw_row t k ≡ Some row → RowFacts row
 row_facts t k row h = proper_facts t (k % 0x4000) row (is_row t k row h).proper
 
+-- What an attribute holds, also if another one chooses it, is determined.
+pub held_determined : (t : RawTable) (k : ℕ) (row : Named Raw) (list : List ℕ) → raw_row t k ≡ Some row → determines_raw (resolved row.1 list) ≡ true
+held_determined t k row list h = resolved_holds determines_raw row.1 list tables_determined.1 (row_facts t k row h).determined
+
 -- ---- different names
 
 no_find : (t : RawTable) (k : ℕ) (raw : Raw) (row : Named Raw) → indexed_row t ≡ Some raw → find k (raw_rows_of t.0) ≡ Some row → ⊥
@@ -165,44 +172,44 @@ proper_names_apart t k l x y p q d e same = proper_apart t k l x y (find k (raw_
 pub names_determined : (t : RawTable) (k l : ℕ) (x y : Named Raw) → raw_row t k ≡ Some x → raw_row t l ≡ Some y → x.0 ≡ y.0 → k % 0x4000 ≡ l % 0x4000
 names_determined t k l x y h i e = proper_names_apart t (k % 0x4000) (l % 0x4000) x y (omega arith) (omega arith) (is_row t k x h).proper (is_row t l y i).proper e
 
--- ---- types of encapsulations
+-- ---- attributes that choose
 
-value_by : (rows : List (NameRowOf Raw)) (kind k : ℕ) (row : Named Raw) → row.1 ≡ R.Encapsulation k → is_type_value rows kind row ≡ true → has_value (find k rows) ≡ true
-value_by rows kind k (name, R.Encapsulation j) e h = let same : j ≡ k = cc in ap (λ i. has_value (find i rows)) (sym same) ∙ h
-value_by rows kind k (name, raw) e h = absurd cc
+value_by : (rows : List (NameRowOf Raw)) (kind : ℕ) (c : Choice) (k : ℕ) (row : Named Raw) → row.1 ≡ R.Chosen c k → is_chosen_by_value rows kind row ≡ true → has_value (find k rows) ≡ true
+value_by rows kind c k (name, R.Chosen d j) e h = let same : j ≡ k = cc in ap (λ i. has_value (find i rows)) (sym same) ∙ h
+value_by rows kind c k (name, raw) e h = absurd cc
 
 found_value : (rows : List (NameRowOf Raw)) (k : ℕ) (o : Option (Named Raw)) → find k rows ≡ o → has_value o ≡ true → (row : Named Raw) × (find k rows ≡ Some row) × (is_value row.1 ≡ true)
 found_value rows k None h v = absurd cc
 found_value rows k (Some row) h v = (row, h, v)
 
-no_encapsulation : (a b c : Bool) (x y z raw : Raw) (k : ℕ) → (x ≡ R.Encapsulation k → ⊥) → (y ≡ R.Encapsulation k → ⊥) → (z ≡ R.Encapsulation k → ⊥) → one_of a b c x y z ≡ Some raw → raw ≡ R.Encapsulation k → ⊥
-no_encapsulation true b c x y z raw k h i j e same = h (same_Some x raw e ∙ same)
-no_encapsulation false true c x y z raw k h i j e same = i (same_Some y raw e ∙ same)
-no_encapsulation false false true x y z raw k h i j e same = j (same_Some z raw e ∙ same)
-no_encapsulation false false false x y z raw k h i j e same = absurd cc
+none_chosen : (a b c : Bool) (x y z raw : Raw) (d : Choice) (k : ℕ) → (x ≡ R.Chosen d k → ⊥) → (y ≡ R.Chosen d k → ⊥) → (z ≡ R.Chosen d k → ⊥) → one_of a b c x y z ≡ Some raw → raw ≡ R.Chosen d k → ⊥
+none_chosen true b c x y z raw d k h i j e same = h (same_Some x raw e ∙ same)
+none_chosen false true c x y z raw d k h i j e same = i (same_Some y raw e ∙ same)
+none_chosen false false true x y z raw d k h i j e same = j (same_Some z raw e ∙ same)
+none_chosen false false false x y z raw d k h i j e same = absurd cc
 
-index_differs : (t : RawTable) (raw : Raw) (k : ℕ) → indexed_row t ≡ Some raw → raw ≡ R.Encapsulation k → ⊥
-index_differs t raw k h = no_encapsulation (t.0 == INDEXED_IPV4.0) (t.0 == INDEXED_IPV6.0) (t.0 == INDEXED_ACTION.0) _ _ _ raw k (λ e. absurd cc) (λ e. absurd cc) (λ e. absurd cc) h
+index_differs : (t : RawTable) (raw : Raw) (c : Choice) (k : ℕ) → indexed_row t ≡ Some raw → raw ≡ R.Chosen c k → ⊥
+index_differs t raw c k h = none_chosen (t.0 == INDEXED_IPV4.0) (t.0 == INDEXED_IPV6.0) (t.0 == INDEXED_ACTION.0) _ _ _ raw c k (λ e. absurd cc) (λ e. absurd cc) (λ e. absurd cc) h
 
--- The type of what a row encapsulates is in a row that holds a value.
-pub record TypeRow (t : RawTable) (k : ℕ) : Type 0 where
+-- The attribute that chooses what a row holds has a row that holds a value.
+pub record ChoosingRow (t : RawTable) (k : ℕ) : Type 0 where
   pub row : Named Raw
   pub proper : proper_row t k ≡ Some row
   pub value : is_value row.1 ≡ true
 
-type_of : (t : RawTable) (k : ℕ) → has_value (find k (raw_rows_of t.0)) ≡ true → TypeRow t k
+choosing_of : (t : RawTable) (k : ℕ) → has_value (find k (raw_rows_of t.0)) ≡ true → ChoosingRow t k
 unfolding proper_row
-type_of t k h =
+choosing_of t k h =
     let v = found_value (raw_rows_of t.0) k (find k (raw_rows_of t.0)) refl h in
     record { row = v.0; proper = ap (λ o. row_or_index k o (indexed_row t)) v.1; value = v.2 }
 
-type_by : (t : RawTable) (l k : ℕ) (row : Named Raw) (a : Option (Named Raw)) (b : Option Raw) → find l (raw_rows_of t.0) ≡ a → indexed_row t ≡ b → row_or_index l a b ≡ Some row → row.1 ≡ R.Encapsulation k → TypeRow t k
-type_by t l k row (Some r) b h i e same =
+choosing_by : (t : RawTable) (l : ℕ) (c : Choice) (k : ℕ) (row : Named Raw) (a : Option (Named Raw)) (b : Option Raw) → find l (raw_rows_of t.0) ≡ a → indexed_row t ≡ b → row_or_index l a b ≡ Some row → row.1 ≡ R.Chosen c k → ChoosingRow t k
+choosing_by t l c k row (Some r) b h i e same =
     let one : r ≡ row = same_Some r row e in
-    type_of t k (value_by (raw_rows_of t.0) l k r (ap (λ z. z.1) one ∙ same) (found_in (is_type_value (raw_rows_of t.0)) l (raw_rows_of t.0) r (facts t.0).types h))
-type_by t l k row None None h i e same = absurd cc
-type_by t l k row None (Some raw) h i e same = absurd (index_differs t raw k i (ap (λ z. z.1) (same_Some (index_name l, raw) row e) ∙ same))
+    choosing_of t k (value_by (raw_rows_of t.0) l c k r (ap (λ z. z.1) one ∙ same) (found_in (is_chosen_by_value (raw_rows_of t.0)) l (raw_rows_of t.0) r (facts t.0).types h))
+choosing_by t l c k row None None h i e same = absurd cc
+choosing_by t l c k row None (Some raw) h i e same = absurd (index_differs t raw c k i (ap (λ z. z.1) (same_Some (index_name l, raw) row e) ∙ same))
 
-pub type_row : (t : RawTable) (l k : ℕ) (row : Named Raw) → raw_row t l ≡ Some row → row.1 ≡ R.Encapsulation k → TypeRow t k
+pub choosing_row : (t : RawTable) (l : ℕ) (c : Choice) (k : ℕ) (row : Named Raw) → raw_row t l ≡ Some row → row.1 ≡ R.Chosen c k → ChoosingRow t k
 unfolding proper_row
-type_row t l k row h same = type_by t (l % 0x4000) k row (find (l % 0x4000) (raw_rows_of t.0)) (indexed_row t) refl refl (is_row t l row h).proper same
+choosing_row t l c k row h same = choosing_by t (l % 0x4000) c k row (find (l % 0x4000) (raw_rows_of t.0)) (indexed_row t) refl refl (is_row t l row h).proper same

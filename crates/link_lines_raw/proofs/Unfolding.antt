@@ -11,9 +11,10 @@ use Rattle.link_lines_values.specs.Records.{total_size}
 use Rattle.link_lines_raw.specs.declared.lists.ListedBy.TheVariants as L
 use Rattle.link_lines_raw.specs.declared.raw_tables.RawTable.{RawTable}
 use Rattle.link_lines_raw.specs.declared.rows.RawBy.TheVariants as R
-use Rattle.link_lines_raw.specs.Attributes.{encapsulation, is_first_record, is_next_hop, is_shown, levels_below, raw_row}
+use Rattle.link_lines_raw.specs.Attributes.{is_first_record, is_next_hop, is_shown, levels_below, raw_row}
+use Rattle.link_lines_raw.specs.Choices.{resolved}
 use Rattle.link_lines_parts.specs.Levels.{deepest_level}
-use Rattle.link_lines_raw.specs.Lists.{Listed, attributes_if_known, first_bytes, first_part, inside_lines, is_part, lines_inside, lines_within, listed_in, listed_lines, levels_of, named_list, next_lines, part_lines, part_list, part_padding, shown_list}
+use Rattle.link_lines_raw.specs.Lists.{Listed, first_bytes, first_part, inside_lines, is_part, lines_inside, lines_within, listed_in, listed_lines, levels_of, named_list, next_lines, part_lines, part_list, part_padding, shown_list}
 use Rattle.link_lines_raw.specs.Names.{Named}
 use Rattle.link_lines_raw.specs.Rows.{Raw, RecordLine}
 
@@ -22,17 +23,13 @@ abbrev pub Within : ℕ → Option (Listed × List ℕ) → Type 0
 Within n None = ⊤
 Within n (Some x) = length x.1 < n
 
-known_within : (n : ℕ) (p : List ℕ) (o : Option RawTable) → length p < n → Within n (attributes_if_known o p)
-known_within n p None h = record {}
-known_within n p (Some t) h = h
-
-listed_within : (n : ℕ) (raw : Raw) (list p : List ℕ) → length p < n → Within n (listed_in raw list p)
-listed_within n (R.Value shown) list p h = record {}
-listed_within n (R.List table) list p h = h
-listed_within n (R.Encapsulation kind) list p h = known_within n p (encapsulation kind list) h
-listed_within n (R.Head line table) list p h = omega (arith, h, length-drop (total_size line.1) p)
-listed_within n (R.Hops table) list p h = h
-listed_within n (R.Records line) list p h = h
+listed_within : (n : ℕ) (raw : Raw) (p : List ℕ) → length p < n → Within n (listed_in raw p)
+listed_within n (R.Value shown) p h = record {}
+listed_within n (R.List table) p h = h
+listed_within n (R.Chosen choice kind) p h = record {}
+listed_within n (R.Head line table) p h = omega (arith, h, length-drop (total_size line.1) p)
+listed_within n (R.Hops table) p h = h
+listed_within n (R.Records line) p h = h
 
 either_within : (n : ℕ) (b : Bool) (o : Option (Listed × List ℕ)) → Within n o → Within n (cond b o None)
 either_within n true o h = h
@@ -40,7 +37,7 @@ either_within n false o h = record {}
 
 named_within : (n level : ℕ) (o : Option (Named Raw)) (list : List ℕ) (e : Attribute) → length e.payload < n → Within n (named_list level o list e)
 named_within n level None list e h = record {}
-named_within n level (Some row) list e h = either_within n (is_shown level row.1 list e.payload) (listed_in row.1 list e.payload) (listed_within n row.1 list e.payload h)
+named_within n level (Some row) list e h = either_within n (is_shown level (resolved row.1 list) e.payload) (listed_in (resolved row.1 list) e.payload) (listed_within n (resolved row.1 list) e.payload h)
 
 -- A part of what is listed, and what it lists, are shorter than the bytes.
 pub record Smaller (level : ℕ) (listed : Listed) (bytes : List ℕ) (e : Attribute) (rest : List ℕ) : Type 0 where
@@ -194,29 +191,25 @@ abbrev pub InReach : ℕ → Option (Listed × List ℕ) → Type 0
 InReach level None = ⊤
 InReach level (Some x) = level + levels_of x.0 ≤ deepest_level
 
-known_in_reach : (level : ℕ) (p : List ℕ) (o : Option RawTable) → level ≤ deepest_level → InReach level (attributes_if_known o p)
-known_in_reach level p None h = record {}
-known_in_reach level p (Some t) h = omega (arith, h)
+listed_in_reach : (level : ℕ) (raw : Raw) (p : List ℕ) → level + levels_below raw ≤ deepest_level → InReach level (listed_in raw p)
+listed_in_reach level (R.Value shown) p h = record {}
+listed_in_reach level (R.List table) p h = h
+listed_in_reach level (R.Chosen choice kind) p h = record {}
+listed_in_reach level (R.Head line table) p h = h
+listed_in_reach level (R.Hops table) p h = h
+listed_in_reach level (R.Records line) p h = h
 
-listed_in_reach : (level : ℕ) (raw : Raw) (list p : List ℕ) → level + levels_below raw ≤ deepest_level → InReach level (listed_in raw list p)
-listed_in_reach level (R.Value shown) list p h = record {}
-listed_in_reach level (R.List table) list p h = h
-listed_in_reach level (R.Encapsulation kind) list p h = known_in_reach level p (encapsulation kind list) (omega (arith, h))
-listed_in_reach level (R.Head line table) list p h = h
-listed_in_reach level (R.Hops table) list p h = h
-listed_in_reach level (R.Records line) list p h = h
+shown_by : (level : ℕ) (raw : Raw) (p : List ℕ) (b : Bool) → is_shown level raw p ≡ b → InReach level (cond b (listed_in raw p) None)
+shown_by level raw p true h =
+    listed_in_reach level raw p (leb-true (level + levels_below raw) deepest_level (and_parts (nat_le (level + levels_below raw) deepest_level) _ h).0)
+shown_by level raw p false h = record {}
 
-shown_by : (level : ℕ) (raw : Raw) (list p : List ℕ) (b : Bool) → is_shown level raw list p ≡ b → InReach level (cond b (listed_in raw list p) None)
-shown_by level raw list p true h =
-    listed_in_reach level raw list p (leb-true (level + levels_below raw) deepest_level (and_parts (nat_le (level + levels_below raw) deepest_level) _ h).0)
-shown_by level raw list p false h = record {}
-
-pub shown_in_reach : (level : ℕ) (raw : Raw) (list p : List ℕ) → InReach level (shown_list level raw list p)
-shown_in_reach level raw list p = shown_by level raw list p (is_shown level raw list p) refl
+pub shown_in_reach : (level : ℕ) (raw : Raw) (p : List ℕ) → InReach level (shown_list level raw p)
+shown_in_reach level raw p = shown_by level raw p (is_shown level raw p) refl
 
 pub named_in_reach : (level : ℕ) (o : Option (Named Raw)) (list : List ℕ) (e : Attribute) → InReach level (named_list level o list e)
 named_in_reach level None list e = record {}
-named_in_reach level (Some row) list e = shown_in_reach level row.1 list e.payload
+named_in_reach level (Some row) list e = shown_in_reach level (resolved row.1 list) e.payload
 
 pub part_in_reach : (level : ℕ) (listed : Listed) (e : Attribute) → level + levels_of listed ≤ deepest_level → InReach (level + 1) (part_list level listed e)
 unfolding part_list

@@ -14,12 +14,10 @@ pub use Rattle.link_lines_parts.specs.KindNames.{has_byte_order_bit, has_nested_
 use Rattle.link_lines_parts.specs.Levels.{deepest_level}
 pub use Rattle.link_lines_parts.specs.Whole.{is_whole, is_whole_after, padded_length, shown_padding}
 use Rattle.link_lines_raw.specs.declared.raw_tables.RawTable.{RawTable}
-use Rattle.link_lines_raw.specs.declared.raw_tables.TheConstants.{ACTION, ENCAP_BPF, ENCAP_ILA, ENCAP_IOAM6, ENCAP_IP}
-use Rattle.link_lines_raw.specs.declared.raw_tables.TheConstants.{ENCAP_IP6, ENCAP_MPLS, ENCAP_RPL, ENCAP_SEG6}
-use Rattle.link_lines_raw.specs.declared.raw_tables.TheConstants.{ENCAP_SEG6_LOCAL, ENCAP_XFRM, INDEXED_ACTION}
-use Rattle.link_lines_raw.specs.declared.raw_tables.TheConstants.{INDEXED_IPV4, INDEXED_IPV6}
+use Rattle.link_lines_raw.specs.declared.raw_tables.TheConstants.{ACTION, INDEXED_ACTION, INDEXED_IPV4, INDEXED_IPV6}
 use Rattle.link_lines_raw.specs.declared.records.TheConstants.{RTNEXTHOP_LINE}
 use Rattle.link_lines_raw.specs.declared.rows.RawBy.TheVariants as R
+use Rattle.link_lines_raw.specs.Choices.{resolved}
 use Rattle.link_lines_raw.specs.Names.{Named}
 use Rattle.link_lines_raw.specs.Rows.{Raw, RecordLine, record_line_of}
 use Rattle.link_lines_raw.specs.Tables.{raw_rows_of}
@@ -45,46 +43,6 @@ proper_row table kind = row_or_index kind (find kind (raw_rows_of table.0)) (ind
 -- The row of a kind; none if it has the bit 0x4000.
 unfoldable pub raw_row : RawTable → ℕ → Option (Named Raw)
 raw_row table kind = cond (has_byte_order_bit kind) None (proper_row table (kind % 0x4000))
-
--- ---- encapsulations
-
--- Whether an attribute is the type of an encapsulation: of this kind, with or without the nested bit, and 2 bytes.
-abbrev pub is_type : ℕ → Attribute → Bool
-is_type kind e = not (has_byte_order_bit e.kind) && ((e.kind % 0x4000 == kind) && (length e.payload == 2))
-
--- The number in the first attribute if it is the type of an encapsulation, or else the other number.
-abbrev pub type_or : ℕ → Option (Attribute × List ℕ) → Option ℕ → Option ℕ
-type_or kind None more = None
-type_or kind (Some x) more = cond (is_type kind x.0) (Some (u16_at 0 x.0.payload)) more
-
--- The type of encapsulation in the bytes after the first `skip`, in the first attribute that is one.
-unfoldable pub type_after : ℕ → ℕ → List ℕ → Option ℕ
-type_after kind skip [] = None
-type_after kind (suc skip) (b ∷ bytes) = type_after kind skip bytes
-type_after kind zero (b ∷ bytes) =
-    type_or kind (first_attribute (b ∷ bytes)) (type_after kind (padded_length (first_attribute (b ∷ bytes)) - 1) bytes)
-
--- The table of a type of encapsulation (lwtunnel.h, LWTUNNEL_ENCAP_*), if it has one.
-abbrev pub encapsulation_table : ℕ → Option RawTable
-encapsulation_table n =
-    cond (n == 1) (Some ENCAP_MPLS) (cond (n == 2) (Some ENCAP_IP) (cond (n == 3) (Some ENCAP_ILA)
-    (cond (n == 4) (Some ENCAP_IP6) (cond (n == 5) (Some ENCAP_SEG6) (cond (n == 6) (Some ENCAP_BPF)
-    (cond (n == 7) (Some ENCAP_SEG6_LOCAL) (cond (n == 8) (Some ENCAP_RPL) (cond (n == 9) (Some ENCAP_IOAM6)
-    (cond (n == 10) (Some ENCAP_XFRM) None)))))))))
-
--- The table of a type of encapsulation, if there is a type.
-abbrev pub type_table : Option ℕ → Option RawTable
-type_table None = None
-type_table (Some n) = encapsulation_table n
-
--- The table of what is encapsulated, by the attribute of this kind in the same list.
-unfoldable pub encapsulation : ℕ → List ℕ → Option RawTable
-encapsulation kind list = type_table (type_after kind 0 list)
-
--- Whether there is a table.
-abbrev pub is_known : Option RawTable → Bool
-is_known None = false
-is_known (Some table) = true
 
 -- ---- next hops and records
 
@@ -135,14 +93,15 @@ is_headed line bytes =
     nat_le (total_size line.1) (length bytes) && (is_record line.1 (take (total_size line.1) bytes) &&
     is_whole (drop (total_size line.1) bytes))
 
--- Whether a payload of a list, next hops or records is exactly that; `list` is the list that the attribute is in.
-abbrev pub holds_lines : Raw → List ℕ → List ℕ → Bool
-holds_lines (R.Value shown) list bytes = false
-holds_lines (R.List table) list bytes = is_whole bytes
-holds_lines (R.Encapsulation kind) list bytes = is_known (encapsulation kind list) && is_whole bytes
-holds_lines (R.Head line table) list bytes = is_headed line bytes
-holds_lines (R.Hops table) list bytes = are_next_hops_after 0 bytes
-holds_lines (R.Records line) list bytes = are_records_after line.1 0 bytes
+-- Whether a payload of a list, next hops or records is exactly that. What another attribute would have to choose isn't
+-- known here.
+abbrev pub holds_lines : Raw → List ℕ → Bool
+holds_lines (R.Value shown) bytes = false
+holds_lines (R.List table) bytes = is_whole bytes
+holds_lines (R.Chosen choice kind) bytes = false
+holds_lines (R.Head line table) bytes = is_headed line bytes
+holds_lines (R.Hops table) bytes = are_next_hops_after 0 bytes
+holds_lines (R.Records line) bytes = are_records_after line.1 0 bytes
 
 -- The levels that the lines of a payload take, beyond the first: a next hop's attributes are one level deeper than it.
 abbrev pub levels_below : Raw → ℕ
@@ -151,8 +110,8 @@ levels_below raw = 0
 
 -- Whether lines show a payload, the first at this level: if the payload is exactly what its row says, and no line is too
 -- deep.
-abbrev pub is_shown : ℕ → Raw → List ℕ → List ℕ → Bool
-is_shown level raw list bytes = nat_le (level + levels_below raw) deepest_level && holds_lines raw list bytes
+abbrev pub is_shown : ℕ → Raw → List ℕ → Bool
+is_shown level raw bytes = nat_le (level + levels_below raw) deepest_level && holds_lines raw bytes
 
 -- The word `bytes` and the bytes in hex.
 abbrev pub plain_bytes : List ℕ → List ℕ
@@ -160,18 +119,19 @@ plain_bytes bytes = codes " bytes" ++ bytes_text bytes
 
 -- What follows an attribute's name on the same line: a value, or nothing if lines below show the payload, the first at
 -- this level, or else the bytes.
-unfoldable pub after_name : ℕ → Raw → List ℕ → List ℕ → List ℕ
-after_name level (R.Value shown) list bytes = raw_value shown bytes
-after_name level raw list bytes = cond (is_shown level raw list bytes) [] (plain_bytes bytes)
+unfoldable pub after_name : ℕ → Raw → List ℕ → List ℕ
+after_name level (R.Value shown) bytes = raw_value shown bytes
+after_name level raw bytes = cond (is_shown level raw bytes) [] (plain_bytes bytes)
 
 -- A kind as a number, and the bytes of a payload.
 abbrev pub unnamed_text : ℕ → List ℕ → List ℕ
 unnamed_text kind bytes = codes "kind " ++ (four_digits kind ++ bytes_text bytes)
 
--- The text of an attribute's line: its name, or its kind as a number and the bytes. `level` is that of the lines below.
+-- The text of an attribute's line: its name, or its kind as a number and the bytes. `list` is the list that it is in,
+-- `level` that of the lines below.
 abbrev pub named_text : ℕ → Option (Named Raw) → List ℕ → Attribute → List ℕ
 named_text level None list e = unnamed_text e.kind e.payload
-named_text level (Some row) list e = row.0 ++ (nested_word e.kind ++ after_name level row.1 list e.payload)
+named_text level (Some row) list e = row.0 ++ (nested_word e.kind ++ after_name level (resolved row.1 list) e.payload)
 
 -- The text of the line of a raw attribute in a table; `list` is the list that it is in, `level` that of the lines below.
 unfoldable pub raw_text : ℕ → RawTable → List ℕ → Attribute → List ℕ

@@ -5,11 +5,13 @@ use Rattle.link_lines_values.specs.DenseRows.{find}
 use Rattle.link_lines_values.specs.Exact.{determines_exact}
 use Rattle.link_lines_values.specs.Records.{has_no_booleans, sizes_known, total_size}
 use Rattle.link_lines_values.specs.Values.{are_fields_on_a_line}
+use Rattle.link_lines_raw.specs.declared.rows.Choice.TheVariants as C
 use Rattle.link_lines_raw.specs.declared.rows.RawBy.TheVariants as R
+use Rattle.link_lines_raw.specs.Choices.{choices_of}
 use Rattle.link_lines_raw.specs.Names.{Named, NameRowOf, all_named_rows, has_name, is_word, names_apart}
 use Rattle.link_lines_raw.specs.Rows.{Raw, RecordLine}
 use Rattle.link_lines_raw.specs.Tables.{bridge_rows, cfm_rows, kind_rows, link_rows, multicast_rows, neighbour_rows}
-use Rattle.link_lines_raw.specs.Tables.{route_rows, traffic_rows}
+use Rattle.link_lines_raw.specs.Tables.{option_rows, route_rows, traffic_rows}
 
 -- Whether a byte string is a word that begins with a byte from `A` on.
 abbrev pub is_line_word : List ℕ → Bool
@@ -26,7 +28,7 @@ is_line_determined line =
 abbrev pub determines_raw : Raw → Bool
 determines_raw (R.Value shown) = determines_exact shown
 determines_raw (R.List table) = true
-determines_raw (R.Encapsulation kind) = true
+determines_raw (R.Chosen choice kind) = true
 determines_raw (R.Head line table) = is_line_determined line
 determines_raw (R.Hops table) = true
 determines_raw (R.Records line) = is_line_determined line && nat_le 1 (total_size line.1)
@@ -45,20 +47,26 @@ abbrev pub has_value : Option (Named Raw) → Bool
 has_value None = false
 has_value (Some row) = is_value row.1
 
--- Whether the type of what a row encapsulates, if it does, is a value.
-abbrev pub is_type_value : List (NameRowOf Raw) → ℕ → Named Raw → Bool
-is_type_value rows kind (name, R.Encapsulation k) = has_value (find k rows)
-is_type_value rows kind (name, raw) = true
+-- Whether the attribute that chooses what a row holds, if there is one, holds a value.
+abbrev pub is_chosen_by_value : List (NameRowOf Raw) → ℕ → Named Raw → Bool
+is_chosen_by_value rows kind (name, R.Chosen choice k) = has_value (find k rows)
+is_chosen_by_value rows kind (name, raw) = true
 
--- Whether the rows of a table have different names, their lines determine what they hold, and types of encapsulations
--- are values.
+-- Whether the rows of a table have different names, their lines determine what they hold, and what chooses is a value.
 abbrev pub is_table_determined : List (NameRowOf Raw) → Bool
 is_table_determined rows =
     all_named_rows has_name rows && (all_named_rows is_row_determined rows && (names_apart rows &&
-    all_named_rows (is_type_value rows) rows))
+    all_named_rows (is_chosen_by_value rows) rows))
 
 -- Whether a property holds for each table.
 abbrev pub in_each : (List (NameRowOf Raw) → Bool) → Bool
 in_each f =
     list_all f link_rows && (list_all f kind_rows && (list_all f bridge_rows && (list_all f cfm_rows &&
-    (list_all f route_rows && (list_all f neighbour_rows && (list_all f traffic_rows && list_all f multicast_rows))))))
+    (list_all f route_rows && (list_all f neighbour_rows && (list_all f traffic_rows && (list_all f multicast_rows &&
+    list_all f option_rows)))))))
+
+-- Whether a property holds for what is chosen in each set of choices.
+abbrev pub in_each_choice : (Raw → Bool) → Bool
+in_each_choice f =
+    list_all (λ row. f row.1) (choices_of C.Encapsulation) && (list_all (λ row. f row.1) (choices_of C.Options) &&
+    list_all (λ row. f row.1) (choices_of C.ActionOptions))

@@ -7,14 +7,15 @@ use Rattle.link_lines_raw.specs.declared.raw_tables.RawTable.{RawTable}
 use Rattle.link_lines_raw.specs.Acknowledgements.{acknowledgement_lines, is_acknowledgement}
 use Rattle.link_lines_raw.specs.Attributes.{after_name, raw_text}
 use Rattle.link_lines_raw.specs.Bodies.{body_lines}
-use Rattle.link_lines_raw.specs.Coverage.{determines_raw, in_each, is_table_determined}
+use Rattle.link_lines_raw.specs.Coverage.{determines_raw, in_each, in_each_choice, is_table_determined}
 use Rattle.link_lines_raw.specs.Lines.{IsShallow, Line, lines_text}
 use Rattle.link_lines_raw.specs.Lists.{held_lines, raw_below}
 use Rattle.link_lines_raw.specs.Rows.{Raw}
 
--- The names of each table's rows are different, and the lines of each row determine what it holds.
+-- The names of each table's rows are different, and the lines of each row, and of what may be chosen, determine what it
+-- holds.
 abbrev pub RawTablesAreDetermined : Type 0
-RawTablesAreDetermined = in_each is_table_determined ≡ true
+RawTablesAreDetermined = (in_each is_table_determined ≡ true) × (in_each_choice determines_raw ≡ true)
 
 -- An attribute whose kind has 2 bytes, and whose payload consists of bytes.
 pub record IsEncodable (e : Attribute) : Type 0 where
@@ -32,10 +33,10 @@ pub record RawAttributesAreDetermined : Type 0 where
 -- What follows a name begins with a space or is empty, and is on the name's line. With the lines below it, it
 -- determines a payload if the row does, whatever less deep lines follow.
 pub record HeldPayloadsAreDetermined : Type 0 where
-  pub line : (level : ℕ) (raw : Raw) (p : List ℕ) → determines_raw raw ≡ true → IsLine (after_name level raw [] p)
-  pub space : (level : ℕ) (raw : Raw) (p : List ℕ) → BeginsWithSpace (after_name level raw [] p)
+  pub line : (level : ℕ) (raw : Raw) (p : List ℕ) → determines_raw raw ≡ true → IsLine (after_name level raw p)
+  pub space : (level : ℕ) (raw : Raw) (p : List ℕ) → BeginsWithSpace (after_name level raw p)
   pub determined : (level : ℕ) (raw : Raw) (p q s t : List ℕ) → determines_raw raw ≡ true → AreBytes p →
-      AreBytes q → IsShallow level s → IsShallow level t → after_name level raw [] p ≡ after_name level raw [] q →
+      AreBytes q → IsShallow level s → IsShallow level t → after_name level raw p ≡ after_name level raw q →
       lines_text (held_lines level raw p) ++ s ≡ lines_text (held_lines level raw q) ++ t → (p ≡ q) × (s ≡ t)
 
 -- The lines of a body determine it, among the bodies of one message type, requests or not, whatever less deep lines

@@ -2,6 +2,7 @@ pub mod Names
 pub mod Rows
 pub mod Tables
 pub mod NameSearch
+pub mod Choices
 pub mod Lines
 pub mod Attributes
 pub mod Lists

@@ -10,8 +10,9 @@ use Rattle.link_lines_raw.specs.declared.lists.ListedBy.{ListedBy}
 use Rattle.link_lines_raw.specs.declared.lists.ListedBy.TheVariants as L
 use Rattle.link_lines_raw.specs.declared.raw_tables.RawTable.{RawTable}
 use Rattle.link_lines_raw.specs.declared.rows.RawBy.TheVariants as R
-use Rattle.link_lines_raw.specs.Attributes.{encapsulation, is_first_record, is_next_hop, is_shown, next_hop_line}
+use Rattle.link_lines_raw.specs.Attributes.{is_first_record, is_next_hop, is_shown, next_hop_line}
 use Rattle.link_lines_raw.specs.Attributes.{raw_row, raw_text, record_words, shown_padding}
+use Rattle.link_lines_raw.specs.Choices.{resolved}
 use Rattle.link_lines_raw.specs.Lines.{Line, line_text}
 use Rattle.link_lines_raw.specs.Names.{Named}
 use Rattle.link_lines_raw.specs.Rows.{Raw, RecordLine}
@@ -58,13 +59,13 @@ head_of (R.Head line table) bytes = Some (record_words line (take (total_size li
 head_of raw bytes = None
 
 -- The head of a payload that is shown in lines, the first at this level.
-abbrev pub shown_head : ℕ → Raw → List ℕ → List ℕ → Option (List ℕ)
-shown_head level raw list bytes = cond (is_shown level raw list bytes) (head_of raw bytes) None
+abbrev pub shown_head : ℕ → Raw → List ℕ → Option (List ℕ)
+shown_head level raw bytes = cond (is_shown level raw bytes) (head_of raw bytes) None
 
 -- The head of the payload of an attribute with or without a row; `level` is that of the lines below the attribute's.
 abbrev pub named_head : ℕ → Option (Named Raw) → List ℕ → Attribute → Option (List ℕ)
 named_head level None list e = None
-named_head level (Some row) list e = shown_head level row.1 list e.payload
+named_head level (Some row) list e = shown_head level (resolved row.1 list) e.payload
 
 -- The text of the line below the line of a part, which has this level, and before its list, if it has one.
 unfoldable pub part_head : ℕ → Listed → Attribute → Option (List ℕ)
@@ -75,28 +76,23 @@ part_head level listed e = None
 abbrev pub attributes_in : RawTable → List ℕ → Listed × List ℕ
 attributes_in table bytes = (L.Attributes table bytes, bytes)
 
--- Attributes of a table, if it is known.
-abbrev pub attributes_if_known : Option RawTable → List ℕ → Option (Listed × List ℕ)
-attributes_if_known None bytes = None
-attributes_if_known (Some table) bytes = Some (attributes_in table bytes)
-
--- What a payload lists; `list` is the list that its attribute is in.
-abbrev pub listed_in : Raw → List ℕ → List ℕ → Option (Listed × List ℕ)
-listed_in (R.Value shown) list bytes = None
-listed_in (R.List table) list bytes = Some (attributes_in table bytes)
-listed_in (R.Encapsulation kind) list bytes = attributes_if_known (encapsulation kind list) bytes
-listed_in (R.Head line table) list bytes = Some (attributes_in table (drop (total_size line.1) bytes))
-listed_in (R.Hops table) list bytes = Some (L.NextHops table, bytes)
-listed_in (R.Records line) list bytes = Some (L.Records line, bytes)
+-- What a payload lists.
+abbrev pub listed_in : Raw → List ℕ → Option (Listed × List ℕ)
+listed_in (R.Value shown) bytes = None
+listed_in (R.List table) bytes = Some (attributes_in table bytes)
+listed_in (R.Chosen choice kind) bytes = None
+listed_in (R.Head line table) bytes = Some (attributes_in table (drop (total_size line.1) bytes))
+listed_in (R.Hops table) bytes = Some (L.NextHops table, bytes)
+listed_in (R.Records line) bytes = Some (L.Records line, bytes)
 
 -- What a payload lists that is shown in lines, the first at this level.
-abbrev pub shown_list : ℕ → Raw → List ℕ → List ℕ → Option (Listed × List ℕ)
-shown_list level raw list bytes = cond (is_shown level raw list bytes) (listed_in raw list bytes) None
+abbrev pub shown_list : ℕ → Raw → List ℕ → Option (Listed × List ℕ)
+shown_list level raw bytes = cond (is_shown level raw bytes) (listed_in raw bytes) None
 
 -- What the payload of an attribute with or without a row lists; `level` is that of the lines below the attribute's.
 abbrev pub named_list : ℕ → Option (Named Raw) → List ℕ → Attribute → Option (Listed × List ℕ)
 named_list level None list e = None
-named_list level (Some row) list e = shown_list level row.1 list e.payload
+named_list level (Some row) list e = shown_list level (resolved row.1 list) e.payload
 
 -- What a part lists below its line, which has this level, if anything.
 unfoldable pub part_list : ℕ → Listed → Attribute → Option (Listed × List ℕ)
@@ -148,7 +144,7 @@ abbrev pub inside_lines : ℕ → Option (Listed × List ℕ) → List Line
 inside_lines level None = []
 inside_lines level (Some x) = listed_lines level x.0 x.1
 
--- The lines below the line of an attribute with or without a row, in a list without types of encapsulation.
+-- The lines below the line of an attribute with or without a row, in a list in which nothing chooses what it holds.
 abbrev pub raw_below : ℕ → RawTable → Attribute → List Line
 raw_below level table e =
     head_line level (named_head level (raw_row table e.kind) [] e) ++
@@ -157,7 +153,7 @@ raw_below level table e =
 -- The lines of what a payload holds, below the line of its attribute.
 abbrev pub held_lines : ℕ → Raw → List ℕ → List Line
 held_lines level raw bytes =
-    head_line level (shown_head level raw [] bytes) ++ inside_lines level (shown_list level raw [] bytes)
+    head_line level (shown_head level raw bytes) ++ inside_lines level (shown_list level raw bytes)
 
 -- The text of the line of a head, if there is one.
 abbrev pub head_text : ℕ → Option (List ℕ) → List ℕ

@@ -3,7 +3,6 @@ use Rattle.std.specs.Prelude.{ℕ, zero, suc, cond, List, [], ◌∷◌, Option,
 use Rattle.std.specs.Str.{str_eq_ignore_ascii_case}
 use Rattle.link_lines_raw.specs.Names.{NameRowOf}
 use Rattle.link_lines_raw.specs.Tables.{raw_rows_of}
-use Rattle.link_lines_raw.specs.declared.raw_tables.TheConstants.{VNIFILTER_STATS}
 
 -- The first name if there is one, else the second.
 abbrev pub first_name : Option (List ℕ) → Option (List ℕ) → Option (List ℕ)
@@ -25,6 +24,6 @@ abbrev pub named_below : {A : Type 0} → (ℕ → List (NameRowOf A)) → List 
 named_below rows w zero = None
 named_below rows w (suc n) = first_name (named_below rows w n) (named_in (λ name. name) w (rows n))
 
--- The name of a raw attribute, of any table, that the word is.
+-- The name of a raw attribute, of any table, that the word is. The table of the index 255 has no rows.
 unfoldable pub raw_name : List ℕ → Option (List ℕ)
-raw_name w = named_below raw_rows_of w (suc VNIFILTER_STATS.0)
+raw_name w = named_below raw_rows_of w 255

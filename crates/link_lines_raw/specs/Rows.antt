@@ -27,7 +27,7 @@ record_line_of f line = (f line.0, layout_fields line.1)
 abbrev pub raw_of : {N : Type 0} → (N → List ℕ) → RawBy (ExactBy Numbers Layout) (RecordLineOf N Layout) → Raw
 raw_of f (R.Value shown) = R.Value (exact_of shown)
 raw_of f (R.List table) = R.List table
-raw_of f (R.Encapsulation kind) = R.Encapsulation kind
+raw_of f (R.Chosen choice kind) = R.Chosen choice kind
 raw_of f (R.Head line table) = R.Head (record_line_of f line) table
 raw_of f (R.Hops table) = R.Hops table
 raw_of f (R.Records line) = R.Records (record_line_of f line)

@@ -64,8 +64,11 @@ use Rattle.link_lines_raw.specs.declared.multicast_rows.TheConstants.{VLAN_TUNNE
 use Rattle.link_lines_raw.specs.declared.multicast_rows.TheConstants.{VLAN_GLOBAL_OPTIONS_ROWS, TUNNEL_ROWS}
 use Rattle.link_lines_raw.specs.declared.multicast_rows.TheConstants.{VNIFILTER_ENTRY_ROWS, VNIFILTER_STATS_ROWS}
 use Rattle.link_lines_raw.specs.declared.multicast_rows.TheConstants.{ACKNOWLEDGEMENT_ROWS, ATTRIBUTE_POLICY_ROWS}
+use Rattle.link_lines_raw.specs.declared.option_rows.TheConstants.{TBF_ROWS, HTB_ROWS, FQ_CODEL_ROWS, PRIO_ROWS}
+use Rattle.link_lines_raw.specs.declared.option_rows.TheConstants.{U32_FILTER_ROWS, FLOWER_ROWS, MATCHALL_ROWS}
+use Rattle.link_lines_raw.specs.declared.option_rows.TheConstants.{BPF_FILTER_ROWS, GACT_ROWS, MIRRED_ROWS}
 use Rattle.link_lines_raw.specs.declared.raw_tables.TheConstants.{VLAN, BRIDGE, CFM, ADDRESS, NEIGHBOUR}
-use Rattle.link_lines_raw.specs.declared.raw_tables.TheConstants.{TRAFFIC_CONTROL, MULTICAST}
+use Rattle.link_lines_raw.specs.declared.raw_tables.TheConstants.{TRAFFIC_CONTROL, MULTICAST, TBF}
 
 -- Rows of lists in link messages: each table's, in the order of their indexes.
 unfoldable pub link_rows : List (List (NameRowOf Raw))
@@ -138,6 +141,14 @@ multicast_rows =
     VLAN_STATISTICS_ROWS ∷ VLAN_GLOBAL_OPTIONS_ROWS ∷ TUNNEL_ROWS ∷ VNIFILTER_ENTRY_ROWS ∷ VNIFILTER_STATS_ROWS ∷
     ACKNOWLEDGEMENT_ROWS ∷ ATTRIBUTE_POLICY_ROWS ∷ [])
 
+-- Rows of lists in the options of queueing disciplines, filters and actions: each table's, in the order of their
+-- indexes.
+unfoldable pub option_rows : List (List (NameRowOf Raw))
+option_rows =
+    map (λ b. raw_rows_in_code (λ n. n.now) b.now)
+    (TBF_ROWS ∷ HTB_ROWS ∷ FQ_CODEL_ROWS ∷ PRIO_ROWS ∷ U32_FILTER_ROWS ∷ FLOWER_ROWS ∷ MATCHALL_ROWS ∷
+    BPF_FILTER_ROWS ∷ GACT_ROWS ∷ MIRRED_ROWS ∷ [])
+
 -- The rows of the table with this index.
 unfoldable pub raw_rows_of : ℕ → List (NameRowOf Raw)
 raw_rows_of n =
@@ -148,4 +159,5 @@ raw_rows_of n =
     (cond (nat_lt n NEIGHBOUR.0) (get_or route_rows (n - ADDRESS.0) [])
     (cond (nat_lt n TRAFFIC_CONTROL.0) (get_or neighbour_rows (n - NEIGHBOUR.0) [])
     (cond (nat_lt n MULTICAST.0) (get_or traffic_rows (n - TRAFFIC_CONTROL.0) [])
-    (get_or multicast_rows (n - MULTICAST.0) [])))))))
+    (cond (nat_lt n TBF.0) (get_or multicast_rows (n - MULTICAST.0) [])
+    (get_or option_rows (n - TBF.0) []))))))))

@@ -5,19 +5,16 @@ ghost use Rattle.netlink_packet_core_grammar.specs.Attributes.{attribute_length}
 ghost use Rattle.netlink_packet_core_grammar.specs.Attributes.{first_attribute};
 ghost use Rattle.link_interpreter.specs.Sameness.{attribute_of};
 ghost use Rattle.link_lines_values.specs.Records.{fields_of};
-ghost use Rattle.link_lines_raw.specs.Attributes.{are_next_hops_after, are_records_after, encapsulation};
-ghost use Rattle.link_lines_raw.specs.Attributes.{encapsulation_table, is_first_record, is_hop_of, is_next_hop, is_type, type_after};
+ghost use Rattle.link_lines_raw.specs.Attributes.{are_next_hops_after, are_records_after};
+ghost use Rattle.link_lines_raw.specs.Attributes.{is_first_record, is_hop_of, is_next_hop};
 ghost use Rattle.link_lines_parts.specs.Whole.{shown_padding};
 ghost use Rattle.link_lines_raw.specs.Lists.{first_part, part_padding};
 ghost use Rattle.link_lines_raw.specs.Views.{listed_of};
 
-use crate::raw_tables::{
-    ENCAP_BPF, ENCAP_ILA, ENCAP_IOAM6, ENCAP_IP, ENCAP_IP6, ENCAP_MPLS, ENCAP_RPL, ENCAP_SEG6,
-    ENCAP_SEG6_LOCAL, ENCAP_XFRM, RawTable,
-};
+use crate::raw_tables::RawTable;
 use crate::rows::RecordLine;
-use link_interpreter::{Attribute, KIND_BOUND, first_attribute};
-use link_lines_parts::{has_byte_order_bit, is_whole, shown_padding};
+use link_interpreter::{Attribute, first_attribute};
+use link_lines_parts::{is_whole, shown_padding};
 use link_lines_values::line_layouts::RTNEXTHOP;
 use link_lines_values::{Field, is_record, record_size};
 use netlink_packet_core_attributes::nla::NLA_HEADER_SIZE;
@@ -39,59 +36,6 @@ pub enum ListedBy<B, L> {
 
 /// What is listed.
 pub type Listed<'a> = ListedBy<&'a [u8], RecordLine>;
-
-/// Returns whether an attribute is the type of an encapsulation, in an attribute of this kind.
-fn is_type(kind: u16, attribute: Attribute<'_>) -> bool
-    ensures { result ≡ is_type kind (attribute_of attribute.entry) }
-{
-    !has_byte_order_bit(attribute.kind)
-        && attribute.kind % KIND_BOUND == kind
-        && attribute.payload.len() == 2
-}
-
-/// Returns the type of encapsulation that the first attribute of this kind and 2 bytes holds.
-fn encapsulation_type(kind: u16, list: &[u8]) -> Option<u16>
-    ensures { result ≡ type_after kind 0 list.now }
-{
-    let mut rest = list;
-    while let Some((attribute, after)) = first_attribute(rest) {
-        if is_type(kind, attribute) {
-            return Some(read_u16(attribute.payload, 0));
-        }
-        rest = after;
-    }
-    None
-}
-
-/// Returns the table of a type of encapsulation (lwtunnel.h: LWTUNNEL_ENCAP_*).
-fn encapsulation_table(encapsulation: u16) -> Option<RawTable>
-    ensures { result ≡ encapsulation_table encapsulation }
-{
-    match encapsulation {
-        1 => Some(ENCAP_MPLS),
-        2 => Some(ENCAP_IP),
-        3 => Some(ENCAP_ILA),
-        4 => Some(ENCAP_IP6),
-        5 => Some(ENCAP_SEG6),
-        6 => Some(ENCAP_BPF),
-        7 => Some(ENCAP_SEG6_LOCAL),
-        8 => Some(ENCAP_RPL),
-        9 => Some(ENCAP_IOAM6),
-        10 => Some(ENCAP_XFRM),
-        _ => None,
-    }
-}
-
-/// Returns the table of what is encapsulated, by the attribute of this kind in the same list.
-#[tactic(auto, unfolding(crate::specs::Attributes::encapsulation))]
-pub(crate) fn encapsulation(kind: u16, list: &[u8]) -> Option<RawTable>
-    ensures { result ≡ encapsulation kind list.now }
-{
-    match encapsulation_type(kind, list) {
-        Some(encapsulation) => encapsulation_table(encapsulation),
-        None => None,
-    }
-}
 
 /// Returns whether bytes of this size are a whole next hop.
 #[tactic(auto, unfolding(crate::specs::Attributes::next_hop_line))]

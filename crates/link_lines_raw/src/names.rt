@@ -5,11 +5,11 @@ ghost use Rattle.link_lines_raw.specs.NameSearch.{name_if, named_below, named_in
 ghost use Rattle.link_lines_raw.specs.Tables.{raw_rows_of};
 
 use crate::raw::raw_rows;
-use crate::raw_tables::{RawTable, VNIFILTER_STATS};
+use crate::raw_tables::{RawTable, UNNAMED};
 use crate::rows::{RawName, RawRow};
 
-/// The number of tables of raw attributes.
-const TABLE_COUNT: u8 = VNIFILTER_STATS.0 + 1;
+/// The number of tables of raw attributes that may have rows.
+const TABLE_COUNT: u8 = UNNAMED.0;
 
 /// Returns the name of a row, if the word is that name. The case of ASCII letters doesn't count.
 fn name_if(row: &Option<RawName>, word: &[u8]) -> Option<&'static [u8]>

@@ -11,8 +11,8 @@ use crate::raw_tables::{
     RESILIENT_BUCKET, RESILIENT_GROUP,
 };
 use crate::records::NEXTHOP_GRP_LINE;
-use crate::rows::RawBy::{Encapsulation, List, Records, Value};
-use crate::rows::RawRow;
+use crate::rows::RawBy::{Chosen, List, Records, Value};
+use crate::rows::{Choice, RawRow};
 use link_lines_values::ExactBy::{
     Address, Bytes, Counters, HardwareAddress, Number, Record, Sized, Text, Uint,
 };
@@ -145,7 +145,7 @@ pub const NEXTHOP_ROWS: &[RawRow] = &raw_rows_in! {
     5, b"NHA_OIF", Value(Number(4));
     6, b"NHA_GATEWAY", Value(Address);
     7, b"NHA_ENCAP_TYPE", Value(Sized(2, ShownBy::Number(ENCAP_TYPE)));
-    8, b"NHA_ENCAP", Encapsulation(7);
+    8, b"NHA_ENCAP", Chosen(Choice::Encapsulation, 7);
     9, b"NHA_GROUPS", Value(Sized(0, Presence));
     10, b"NHA_MASTER", Value(Number(4));
     11, b"NHA_FDB", Value(Sized(0, Presence));

@@ -1,6 +1,7 @@
 //! The rows of raw attributes by table and kind, and their lines.
 
-ghost use Rattle.std.specs.Prelude.{◌≡◌, ◌≤◌, ◌<◌, ◌+◌, ◌%◌, ◌^◌, ◌++◌, ◌∷◌, [], true, codes, length, nat_le, option_map, IfOk, OnOk};
+ghost use Rattle.std.specs.Prelude.{◌≡◌, ◌≤◌, ◌<◌, ◌+◌, ◌%◌, ◌^◌, ◌++◌, ◌∷◌, [], true};
+ghost use Rattle.std.specs.Prelude.{codes, length, nat_le, option_map, IfOk, OnOk};
 ghost use Rattle.link_lines_values.specs.Appends.{Appends};
 ghost use Rattle.link_lines_parts.specs.Levels.{deepest_level};
 ghost use Rattle.link_interpreter.specs.Sameness.{attribute_of};
@@ -20,18 +21,17 @@ ghost use Rattle.link_lines_raw.specs.Rows.{raw_of, raw_rows_in_code, record_lin
 ghost use Rattle.link_lines_raw.specs.Tables.{raw_rows_of};
 ghost use Rattle.link_lines_raw.specs.Views.{found_row, listed_of, listing};
 
-use crate::lists::{
-    Listed, ListedBy, NEXT_HOP_LEN, are_next_hops, are_records, encapsulation, first_part,
-};
+use crate::choices::resolved;
+use crate::lists::{Listed, ListedBy, NEXT_HOP_LEN, are_next_hops, are_records, first_part};
 use crate::raw_tables::{
     ACTION, ADDRESS, BRIDGE, CFM, INDEXED_ACTION, INDEXED_IPV4, INDEXED_IPV6, MULTICAST, NEIGHBOUR,
-    RawTable, TRAFFIC_CONTROL, VLAN,
+    RawTable, TBF, TRAFFIC_CONTROL, VLAN,
 };
 use crate::records::RTNEXTHOP_LINE;
 use crate::rows::{Raw, RawBy, RawName, RawRow, RecordLine};
 use crate::{
-    bridge_rows, cfm_rows, kind_rows, link_rows, multicast_rows, neighbour_rows, route_rows,
-    traffic_rows,
+    bridge_rows, cfm_rows, kind_rows, link_rows, multicast_rows, neighbour_rows, option_rows,
+    route_rows, traffic_rows,
 };
 use link_interpreter::{Attribute, KIND_BOUND};
 use link_lines_parts::{DEEPEST_LEVEL, has_byte_order_bit, is_whole, push_kind_name};
@@ -62,8 +62,10 @@ pub(crate) fn raw_rows(table: RawTable) -> &'static [RawRow]
         neighbour_rows::rows(index - NEIGHBOUR.0)
     } else if index < MULTICAST.0 {
         traffic_rows::rows(index - TRAFFIC_CONTROL.0)
-    } else {
+    } else if index < TBF.0 {
         multicast_rows::rows(index - MULTICAST.0)
+    } else {
+        option_rows::rows(index - TBF.0)
     }
 }
 
@@ -132,14 +134,12 @@ fn raw_row(table: RawTable, kind: u16) -> Option<FoundRow>
 }
 
 /// Returns whether a payload of a list, next hops or records is exactly that.
-fn holds_lines(raw: &Raw, list: &[u8], payload: &[u8]) -> bool
-    ensures { result
-        ≡ holds_lines (raw_of (λ b. b.now) raw.now) list.now payload.now }
+fn holds_lines(raw: &Raw, payload: &[u8]) -> bool
+    ensures { result ≡ holds_lines (raw_of (λ b. b.now) raw.now) payload.now }
 {
     match raw {
-        RawBy::Value(_) => false,
+        RawBy::Value(_) | RawBy::Chosen(_, _) => false,
         RawBy::List(_) => is_whole(payload),
-        RawBy::Encapsulation(kind) => encapsulation(*kind, list).is_some() && is_whole(payload),
         RawBy::Head(line, _) => starts_with_record(line, payload),
         RawBy::Hops(_) => are_next_hops(payload),
         RawBy::Records(line) => are_records(line.1.fields(), payload),
@@ -166,11 +166,10 @@ fn is_in_reach(level: usize, raw: &Raw) -> bool
 }
 
 /// Returns whether lines show a payload, the first at this level.
-fn is_shown(level: usize, raw: &Raw, list: &[u8], payload: &[u8]) -> bool
-    ensures { result
-        ≡ is_shown level (raw_of (λ b. b.now) raw.now) list.now payload.now }
+fn is_shown(level: usize, raw: &Raw, payload: &[u8]) -> bool
+    ensures { result ≡ is_shown level (raw_of (λ b. b.now) raw.now) payload.now }
 {
-    is_in_reach(level, raw) && holds_lines(raw, list, payload)
+    is_in_reach(level, raw) && holds_lines(raw, payload)
 }
 
 /// Appends the word of a record and its fields.
@@ -204,23 +203,18 @@ pub(crate) fn push_record_line(
 fn open_lines<'a>(
     level: usize,
     raw: &Raw,
-    list: &[u8],
     payload: &'a [u8],
     out: &mut Vec<u8>,
 ) -> Result<Option<(Listed<'a>, &'a [u8])>, AllocError>
-    requires { holds_lines (raw_of (λ b. b.now) raw.now) list.now payload.now ≡ true }
+    requires { holds_lines (raw_of (λ b. b.now) raw.now) payload.now ≡ true }
     ensures appends { Appends out.old out.new result
         (head_text level (head_of (raw_of (λ b. b.now) raw.now) payload.now)) }
     ensures list { IfOk result (λ found. option_map (listing (λ b. b.now)) found
-        ≡ listed_in (raw_of (λ b. b.now) raw.now) list.now payload.now) }
+        ≡ listed_in (raw_of (λ b. b.now) raw.now) payload.now) }
 {
     match raw {
-        RawBy::Value(_) => Ok(None),
+        RawBy::Value(_) | RawBy::Chosen(_, _) => Ok(None),
         RawBy::List(table) => Ok(Some((ListedBy::Attributes(*table, payload), payload))),
-        RawBy::Encapsulation(kind) => match encapsulation(*kind, list) {
-            Some(table) => Ok(Some((ListedBy::Attributes(table, payload), payload))),
-            None => Ok(None),
-        },
         RawBy::Head(line, table) => {
             let (head, rest) = payload.split_at(record_size(line.1.fields()));
             push_record_line(level, *line, head, out)?;
@@ -270,30 +264,29 @@ fn push_line_end(level: usize, padding: Option<&[u8]>, out: &mut Vec<u8>) -> Res
 pub(crate) fn push_after_name<'a>(
     level: usize,
     raw: &Raw,
-    list: &[u8],
     payload: &'a [u8],
     padding: Option<&[u8]>,
     out: &mut Vec<u8>,
 ) -> Result<Option<(Listed<'a>, &'a [u8])>, AllocError>
     ensures appends { Appends out.old out.new result
-        (after_name level (raw_of (λ b. b.now) raw.now) list.now payload.now
+        (after_name level (raw_of (λ b. b.now) raw.now) payload.now
         ++ 10 ∷ (head_text level (padding_words (option_map (λ p. p.now) padding.entry))
-        ++ head_text level (shown_head level (raw_of (λ b. b.now) raw.now) list.now payload.now))) }
+        ++ head_text level (shown_head level (raw_of (λ b. b.now) raw.now) payload.now))) }
     ensures list { IfOk result (λ found. option_map (listing (λ b. b.now)) found
-        ≡ shown_list level (raw_of (λ b. b.now) raw.now) list.now payload.now) }
+        ≡ shown_list level (raw_of (λ b. b.now) raw.now) payload.now) }
 {
     if let RawBy::Value(shown) = raw {
         push_raw_value(*shown, payload, out)?;
         push_line_end(level, padding, out)?;
         return Ok(None);
     }
-    if !is_shown(level, raw, list, payload) {
+    if !is_shown(level, raw, payload) {
         push_plain_bytes(payload, out)?;
         push_line_end(level, padding, out)?;
         return Ok(None);
     }
     push_line_end(level, padding, out)?;
-    open_lines(level, raw, list, payload, out)
+    open_lines(level, raw, payload, out)
 }
 
 /// Appends the word `kind` and a kind in four digits.
@@ -335,7 +328,7 @@ pub(crate) fn push_attribute<'a>(
     match raw_row(table, attribute.kind) {
         Some((name, raw)) => {
             push_kind_name(name, attribute.kind, out)?;
-            push_after_name(level, raw, list, attribute.payload, padding, out)
+            push_after_name(level, resolved(raw, list), attribute.payload, padding, out)
         }
         None => {
             push_unnamed(attribute.kind, attribute.payload, out)?;
@@ -444,10 +437,10 @@ pub fn push_held(
     out: &mut Vec<u8>,
 ) -> Result<(), AllocError>
     ensures { Appends out.old out.new result
-        (after_name level (raw_of (λ b. b.now) raw.now) [] payload.now
+        (after_name level (raw_of (λ b. b.now) raw.now) payload.now
         ++ 10 ∷ lines_text (held_lines level (raw_of (λ b. b.now) raw.now) payload.now)) }
 {
-    match push_after_name(level, raw, &[], payload, None, out)? {
+    match push_after_name(level, raw, payload, None, out)? {
         Some((listed, list)) => push_listed(level, listed, list, out),
         None => Ok(()),
     }

@@ -411,5 +411,35 @@ pub const ACKNOWLEDGEMENT: RawTable = RawTable(132);
 /// NL_POLICY_TYPE_ATTR_* (netlink.h): what NLMSGERR_ATTR_POLICY holds.
 pub const ATTRIBUTE_POLICY: RawTable = RawTable(133);
 
+/// TCA_TBF_* (pkt_sched.h): the options of `tbf`, a queueing discipline.
+pub const TBF: RawTable = RawTable(134);
+
+/// TCA_HTB_* (pkt_sched.h): the options of `htb`, a queueing discipline, and of its classes.
+pub const HTB: RawTable = RawTable(135);
+
+/// TCA_FQ_CODEL_* (pkt_sched.h): the options of `fq_codel`, a queueing discipline.
+pub const FQ_CODEL: RawTable = RawTable(136);
+
+/// TCA_OPTIONS (rtnetlink.h): the options of `prio`, a queueing discipline, after its record.
+pub const PRIO: RawTable = RawTable(137);
+
+/// TCA_U32_* (pkt_cls.h): the options of `u32`, a filter.
+pub const U32_FILTER: RawTable = RawTable(138);
+
+/// TCA_FLOWER_* (pkt_cls.h): the options of `flower`, a filter.
+pub const FLOWER: RawTable = RawTable(139);
+
+/// TCA_MATCHALL_* (pkt_cls.h): the options of `matchall`, a filter.
+pub const MATCHALL: RawTable = RawTable(140);
+
+/// TCA_BPF_* (pkt_cls.h): the options of `bpf`, a filter.
+pub const BPF_FILTER: RawTable = RawTable(141);
+
+/// TCA_GACT_* (tc_act/tc_gact.h): the options of `gact`, an action.
+pub const GACT: RawTable = RawTable(142);
+
+/// TCA_MIRRED_* (tc_act/tc_mirred.h): the options of `mirred`, an action.
+pub const MIRRED: RawTable = RawTable(143);
+
 /// A table without rows.
 pub const UNNAMED: RawTable = RawTable(255);

@@ -6,6 +6,7 @@ use link_lines_values::line_layouts::{
     NDMSG, NDTMSG, NETCONFMSG, NEXTHOP_GRP, NHMSG, PREFIXMSG, ROUTER_PORT, RTGENMSG, RTMSG,
     RTNEXTHOP, TCAMSG, TCMSG, TCMSG_FILTER, TIMESTAMP, TUNNEL_MSG,
 };
+use link_lines_values::traffic_layouts::{TC_MIRRED, TC_PRIO_QOPT};
 
 /// A line of a `nexthop_grp`.
 pub const NEXTHOP_GRP_LINE: RecordLine = RecordLineOf(b"nexthop_grp", NEXTHOP_GRP);
@@ -72,3 +73,9 @@ pub const TUNNEL_MSG_LINE: RecordLine = RecordLineOf(b"tunnel_msg", TUNNEL_MSG);
 
 /// A line of a `rtnexthop`.
 pub const RTNEXTHOP_LINE: RecordLine = RecordLineOf(b"rtnexthop", RTNEXTHOP);
+
+/// A line of a `tc_prio_qopt`.
+pub const TC_PRIO_QOPT_LINE: RecordLine = RecordLineOf(b"tc_prio_qopt", TC_PRIO_QOPT);
+
+/// A line of a `tc_mirred`.
+pub const TC_MIRRED_LINE: RecordLine = RecordLineOf(b"tc_mirred", TC_MIRRED);

@@ -10,8 +10,8 @@ use crate::raw_tables::{
     BPF_PROGRAM, ERSPAN_OPTION, GENEVE_OPTION, MPLS_ROUTE, MROUTE, ROUTE, ROUTE_METRICS,
     SEG6_LOCAL_BPF, SEG6_LOCAL_COUNTERS, SEG6_LOCAL_FLAVORS, TUNNEL_OPTIONS, VXLAN_OPTION,
 };
-use crate::rows::RawBy::{Encapsulation, Hops, List, Value};
-use crate::rows::RawRow;
+use crate::rows::RawBy::{Chosen, Hops, List, Value};
+use crate::rows::{Choice, RawRow};
 use link_lines_values::ExactBy::{
     Address, Bytes, Counters, Labels, Number, Record, Sized, Text, Via,
 };
@@ -65,7 +65,7 @@ macro_rules! route_rows {
             19, b"RTA_NEWDST", Value(Labels);
             20, b"RTA_PREF", Value(Sized(1, ShownBy::Number(ROUTER_PREF)));
             21, b"RTA_ENCAP_TYPE", Value(Sized(2, ShownBy::Number(ENCAP_TYPE)));
-            22, b"RTA_ENCAP", Encapsulation(21);
+            22, b"RTA_ENCAP", Chosen(Choice::Encapsulation, 21);
             23, b"RTA_EXPIRES", Value($expires);
             24, b"RTA_PAD", Value(Bytes);
             25, b"RTA_UID", Value(Number(4));

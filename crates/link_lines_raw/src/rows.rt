@@ -11,6 +11,17 @@ pub struct RecordLineOf<N, R>(pub N, pub R);
 /// A record that has a line of its own.
 pub type RecordLine = RecordLineOf<&'static [u8], Layout>;
 
+/// A set of choices: what an attribute holds if another one in the same list chooses it.
+#[derive(Clone, Copy)]
+pub enum Choice {
+    /// Encapsulations, by their type (lwtunnel.h: LWTUNNEL_ENCAP_*).
+    Encapsulation,
+    /// Options of queueing disciplines and of filters, by their name (rtnetlink.h: TCA_KIND).
+    Options,
+    /// Options of actions, by their name (pkt_cls.h: TCA_ACT_KIND).
+    ActionOptions,
+}
+
 /// What a raw attribute holds, with formats of values of type `X` and records of type `L`. A
 /// payload that isn't exactly that is shown as bytes.
 #[derive(Clone, Copy)]
@@ -19,9 +30,8 @@ pub enum RawBy<X, L> {
     Value(X),
     /// Attributes of that table.
     List(RawTable),
-    /// Attributes of the table of the encapsulation whose type is in the attribute of that kind in
-    /// the same list (lwtunnel.h: LWTUNNEL_ENCAP_*).
-    Encapsulation(u16),
+    /// What the first attribute of that kind in the same list chooses.
+    Chosen(Choice, u16),
     /// A record, followed by attributes of that table.
     Head(L, RawTable),
     /// Next hops, each with attributes of that table (rtnetlink.h: struct rtnexthop).

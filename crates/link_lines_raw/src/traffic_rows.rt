@@ -11,8 +11,8 @@ use crate::raw_tables::{
     MPLS_STATS, OFFLOAD_XSTATS, SIZE_TABLE, STATISTICS_FAMILIES, STATISTICS_FILTERS,
     TRAFFIC_CONTROL_STATISTICS, XSTATS,
 };
-use crate::rows::RawBy::{List, Value};
-use crate::rows::RawRow;
+use crate::rows::RawBy::{Chosen, List, Value};
+use crate::rows::{Choice, RawRow};
 use link_lines_values::ExactBy::{Bytes, Counters, Number, Numbers, Record, Sized, Text};
 use link_lines_values::STATS64;
 use link_lines_values::ShownBy::{Flags, FlagsAndMask, Presence};
@@ -30,7 +30,7 @@ use link_lines_values::route_layouts::{
 /// Traffic control (rtnetlink.h: TCA_*).
 pub const TRAFFIC_CONTROL_ROWS: &[RawRow] = &raw_rows_in! {
     1, b"TCA_KIND", Value(Text);
-    2, b"TCA_OPTIONS", Value(Bytes);
+    2, b"TCA_OPTIONS", Chosen(Choice::Options, 1);
     3, b"TCA_STATS", Value(Record(TC_STATS));
     4, b"TCA_XSTATS", Value(Bytes);
     5, b"TCA_RATE", Value(Record(TC_ESTIMATOR));
@@ -80,7 +80,7 @@ pub const INDEXED_ACTION_ROWS: &[RawRow] = &[];
 /// Action (pkt_cls.h: TCA_ACT_*).
 pub const ACTION_ROWS: &[RawRow] = &raw_rows_in! {
     1, b"TCA_ACT_KIND", Value(Text);
-    2, b"TCA_ACT_OPTIONS", Value(Bytes);
+    2, b"TCA_ACT_OPTIONS", Chosen(Choice::ActionOptions, 1);
     3, b"TCA_ACT_INDEX", Value(Number(4));
     4, b"TCA_ACT_STATS", List(TRAFFIC_CONTROL_STATISTICS);
     5, b"TCA_ACT_PAD", Value(Bytes);

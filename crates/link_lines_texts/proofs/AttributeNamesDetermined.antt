@@ -11,7 +11,7 @@ use Rattle.link_lines_raw.specs.declared.raw_tables.TheConstants.{UNNAMED}
 use Rattle.link_lines_raw.specs.Attributes.{indexed_row, proper_row, raw_row, row_or_index}
 use Rattle.link_lines_raw.specs.Names.{Named, all_named_rows, has_name, names_apart}
 use Rattle.link_lines_raw.specs.Rows.{Raw}
-use Rattle.link_lines_raw.specs.Tables.{multicast_rows, raw_rows_of}
+use Rattle.link_lines_raw.specs.Tables.{option_rows, raw_rows_of}
 use Rattle.link_lines_raw.proofs.Named.{apart_in, chosen, first_holds, found_in, name_of, others_hold}
 use Rattle.link_lines_raw.proofs.RawRows.{is_row}
 use Rattle.link_tables.specs.declared.table.Table.{Table}
@@ -49,7 +49,7 @@ record RawApart (m : Table) (r : RawTable) : Type 0 where
   names : names_differ (attribute_names_of m.0) (raw_rows_of r.0) ≡ true
 
 without_rows : raw_rows_of UNNAMED.0 ≡ []
-unfolding raw_rows_of multicast_rows
+unfolding raw_rows_of option_rows
 without_rows = refl
 
 unnamed_apart : (m : Table) → RawApart m UNNAMED

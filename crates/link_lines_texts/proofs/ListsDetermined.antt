@@ -25,6 +25,7 @@ use Rattle.link_lines_raw.specs.Attributes.{after_name, has_nested_bit, named_te
 use Rattle.link_lines_raw.specs.Coverage.{determines_raw}
 use Rattle.link_lines_raw.specs.Laws.{IsEncodable}
 use Rattle.link_lines_raw.specs.Lines.{lines_text}
+use Rattle.link_lines_raw.specs.Choices.{resolved}
 use Rattle.link_lines_raw.specs.Lists.{raw_below}
 use Rattle.link_lines_raw.specs.Names.{Named}
 use Rattle.link_lines_raw.specs.Rows.{Raw}
@@ -141,7 +142,7 @@ inside_line level i p h = record {}
 inside_ends : (level : ℕ) (i : Inside) (p : List ℕ) → Ends (inside_text level i p)
 inside_ends level (Value v) p = space_ends (value_text v p) (values_are_lines.space v p)
 inside_ends level Plain p = omega arith
-inside_ends level (Held raw) p = space_ends (after_name level raw [] p) (held_payloads_determined.space level raw p)
+inside_ends level (Held raw) p = space_ends (after_name level raw p) (held_payloads_determined.space level raw p)
 inside_ends level Peer p = cond_both (nat_le 16 (length p)) [] (bytes_text p) Ends (λ e. record {}) (λ e. space_ends (bytes_text p) (values_are_lines.space Bytes p))
 inside_ends level i p = record {}
 
@@ -153,7 +154,7 @@ named_attribute_line level m names c k (Some t) e l h =
 
 -- What follows the name of a raw attribute.
 abbrev after_row : ℕ → Named Raw → Attribute → List ℕ
-after_row level n e = nested_word e.kind ++ after_name level n.1 [] e.payload
+after_row level n e = nested_word e.kind ++ after_name level (resolved n.1 []) e.payload
 
 raw_starts : (level : ℕ) (t : RawTable) (e : Attribute) (o : Option (Named Raw)) → raw_row t e.kind ≡ o → Starts (named_text level o [] e)
 raw_starts level t e None h = omega arith
@@ -245,9 +246,9 @@ reached_determined bound scope r c i false h = flat_determined bound scope r (λ
 same_attribute : (e f : Attribute) → e.kind ≡ f.kind → e.payload ≡ f.payload → e ≡ f
 same_attribute e f k p i = record { kind = k i; payload = p i }
 
-after_ends : (level : ℕ) (n : Named Raw) (e : Attribute) (b : Bool) → Ends (cond b (codes " nested") [] ++ after_name level n.1 [] e.payload)
+after_ends : (level : ℕ) (n : Named Raw) (e : Attribute) (b : Bool) → Ends (cond b (codes " nested") [] ++ after_name level (resolved n.1 []) e.payload)
 after_ends level n e true = omega arith
-after_ends level n e false = inside_ends level (Held n.1) e.payload
+after_ends level n e false = inside_ends level (Held (resolved n.1 [])) e.payload
 
 -- No attribute with a row is shown as one without.
 not_raw : (level : ℕ) (m : Table) (k : ℕ) (f : Attribute) (names : NamesDetermined m) (t : Name) (s : List ℕ) (o : Option (Named Raw)) → attribute_name_of m.0 (proper_kind k) ≡ Some t → attribute_name_of m.0 (proper_kind f.kind) ≡ None → raw_row (raw_table m) f.kind ≡ o → Ends s →

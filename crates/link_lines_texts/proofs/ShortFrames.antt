@@ -107,7 +107,7 @@ flag_names_short : (t : ℕ) → AreFlagsShort (flag_names t)
 unfolding flag_names
 flag_names_short t =
     let b = nat_le 16 t && has_text (text_in message_types t) in
-    cond_both (t == 2) (number_texts MESSAGE_ACK_FLAGS) (cond b (request_flag_names t) (number_texts MESSAGE_FLAGS)) AreFlagsShort (λ e. ack_short) (λ e. cond_both b (request_flag_names t) (number_texts MESSAGE_FLAGS) AreFlagsShort (λ f. request_flags_short t) (λ f. plain_short))
+    cond_both ((t == 2) || (t == 3)) (number_texts MESSAGE_ACK_FLAGS) (cond b (request_flag_names t) (number_texts MESSAGE_FLAGS)) AreFlagsShort (λ e. ack_short) (λ e. cond_both b (request_flag_names t) (number_texts MESSAGE_FLAGS) AreFlagsShort (λ f. request_flags_short t) (λ f. plain_short))
 
 or_number_short : (t : ℕ) (name : List ℕ) → t < 256 ^ 2 → length name ≤ 40 → length (or_number t name) ≤ 40
 or_number_short t [] h l = omega (arith, decimal_short 2 t two h)

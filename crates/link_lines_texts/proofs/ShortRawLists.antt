@@ -24,18 +24,20 @@ use Rattle.link_lines_raw.specs.declared.lists.ListedBy.TheVariants as L
 use Rattle.link_lines_raw.specs.declared.raw_tables.RawTable.{RawTable}
 use Rattle.link_lines_raw.specs.declared.raw_tables.TheConstants.{INDEXED_ACTION, INDEXED_IPV4, INDEXED_IPV6}
 use Rattle.link_lines_raw.specs.declared.rows.RawBy.TheVariants as R
-use Rattle.link_lines_raw.specs.Attributes.{after_name, encapsulation, has_nested_bit, index_name, indexed_row, is_first_record, is_headed, is_next_hop, is_shown, named_text, nested_word, next_hop_line, plain_bytes, proper_row, raw_row, raw_text, record_words, row_or_index}
+use Rattle.link_lines_raw.specs.Attributes.{after_name, has_nested_bit, index_name, indexed_row, is_first_record, is_headed, is_next_hop, is_shown, named_text, nested_word, next_hop_line, plain_bytes, proper_row, raw_row, raw_text, record_words, row_or_index}
+use Rattle.link_lines_raw.specs.Choices.{choices_of, payload_after, resolved}
 use Rattle.link_lines_raw.specs.Coverage.{in_each}
 use Rattle.link_lines_raw.specs.Lines.{line_text, lines_text}
-use Rattle.link_lines_raw.specs.Lists.{Listed, attributes_if_known, first_part, head_of, head_text, held_lines, inside_lines, levels_of, lines_inside, lines_within, listed_in, listed_lines, named_head, named_list, next_lines, padding_text, padding_words, part_head, part_lines, part_list, part_padding, part_text, part_with_head, raw_below, shown_head, shown_list}
+use Rattle.link_lines_raw.specs.Lists.{Listed, first_part, head_of, head_text, held_lines, inside_lines, levels_of, lines_inside, lines_within, listed_in, listed_lines, named_head, named_list, next_lines, padding_text, padding_words, part_head, part_lines, part_list, part_padding, part_text, part_with_head, raw_below, shown_head, shown_list}
 use Rattle.link_lines_raw.specs.Names.{Named, all_named_rows}
 use Rattle.link_lines_raw.specs.Rows.{Raw, RecordLine}
-use Rattle.link_lines_raw.specs.Tables.{bridge_rows, cfm_rows, kind_rows, link_rows, multicast_rows, neighbour_rows, raw_rows_of, route_rows, traffic_rows}
+use Rattle.link_lines_raw.specs.Tables.{bridge_rows, cfm_rows, kind_rows, link_rows, multicast_rows, neighbour_rows, option_rows, raw_rows_of, route_rows, traffic_rows}
 use Rattle.link_lines_raw.proofs.Named.{found_in}
 use Rattle.link_lines_raw.proofs.RawRows.{in_table, is_row}
+use Rattle.link_lines_raw.proofs.Chosen.{chosen_or_holds}
 use Rattle.link_lines_raw.proofs.Spans.{below_is_text, lines_joined_text, no_text, part_is}
 use Rattle.link_lines_raw.proofs.Unfolding.{InReach, first_bytes_are, hop_sizes, named_in_reach, part_in_reach, shown_in_reach}
-use Rattle.link_lines_texts.specs.Growth.{allowance, factor, fields_most, is_short_line, is_short_raw, is_short_row, leaves_space, margin, padding_margin, raw_name_size}
+use Rattle.link_lines_texts.specs.Growth.{allowance, factor, fields_most, is_short_held, is_short_line, is_short_raw, is_short_row, leaves_space, margin, padding_margin, raw_name_size}
 use Rattle.link_lines_texts.proofs.ShortBytes.{bytes_text_short}
 use Rattle.link_lines_texts.proofs.ShortExact.{raw_value_short}
 use Rattle.link_lines_texts.proofs.ShortValues.{IsShort, fields_short, space}
@@ -43,7 +45,7 @@ use Rattle.link_lines_texts.proofs.ShortValues.{IsShort, fields_short, space}
 -- ---- rows, by computation
 
 rows_short : in_each (all_named_rows is_short_row) ≡ true
-unfolding link_rows kind_rows bridge_rows cfm_rows route_rows neighbour_rows traffic_rows multicast_rows layout_fields number_texts
+unfolding link_rows kind_rows bridge_rows cfm_rows route_rows neighbour_rows traffic_rows multicast_rows option_rows choices_of layout_fields number_texts
 rows_short = refl
 
 hop_line_short : is_short_line next_hop_line ≡ true
@@ -127,53 +129,63 @@ AreShortListed (Some x) = IsShortListed x.0 × AreBytes x.1
 
 -- ---- payloads
 
-known_size : (o : Option RawTable) (p : List ℕ) → listed_size (attributes_if_known o p) ≤ length p
-known_size None p = omega arith
-known_size (Some t) p = omega arith
+-- What is chosen is short if what may be chosen is.
+held_short_by : (extra : ℕ) (raw : Raw) → is_short_raw extra raw ≡ true → is_short_held extra raw ≡ true
+held_short_by extra (R.Chosen choice kind) h = refl
+held_short_by extra (R.Value shown) h = h
+held_short_by extra (R.List table) h = h
+held_short_by extra (R.Head line table) h = h
+held_short_by extra (R.Hops table) h = h
+held_short_by extra (R.Records line) h = h
+
+resolved_short : (extra : ℕ) (raw : Raw) (list : List ℕ) → is_short_raw extra raw ≡ true → is_short_held extra (resolved raw list) ≡ true
+unfolding resolved
+resolved_short extra (R.Chosen choice kind) list h = chosen_or_holds (is_short_held extra) (R.Chosen choice kind) choice (payload_after kind 0 list) h refl
+resolved_short extra (R.Value shown) list h = h
+resolved_short extra (R.List table) list h = h
+resolved_short extra (R.Head line table) list h = h
+resolved_short extra (R.Hops table) list h = h
+resolved_short extra (R.Records line) list h = h
 
 -- A payload that lines show.
-shown_block : (extra level : ℕ) (raw : Raw) (list p : List ℕ) → leaves_space extra ≡ true → is_short_raw extra raw ≡ true → AreBytes p → is_shown level raw list p ≡ true → IsShortBlock extra [] level (head_of raw p) (listed_in raw list p) p
-shown_block extra level (R.Value shown) list p h k a e = omega (arith, space extra h)
-shown_block extra level (R.List table) list p h k a e = omega (arith, space extra h)
-shown_block extra level (R.Encapsulation kind) list p h k a e = omega (arith, space extra h, known_size (encapsulation kind list) p)
-shown_block extra level (R.Head line table) list p h k a e =
+shown_block : (extra level : ℕ) (raw : Raw) (p : List ℕ) → leaves_space extra ≡ true → is_short_held extra raw ≡ true → AreBytes p → is_shown level raw p ≡ true → IsShortBlock extra [] level (head_of raw p) (listed_in raw p) p
+shown_block extra level (R.Value shown) p h k a e = omega (arith, space extra h)
+shown_block extra level (R.List table) p h k a e = omega (arith, space extra h)
+shown_block extra level (R.Chosen choice kind) p h k a e = omega (arith, space extra h)
+shown_block extra level (R.Head line table) p h k a e =
     let n = total_size line.1 in
     let b = and_parts (nat_le (level + 0) deepest_level) (is_headed line p) e in
     let c = and_parts (nat_le n (length p)) _ b.1 in
     let words = record_words line (take n p) in
     omega (arith, space extra h, line_size level words (omega (arith, leb-true (level + 0) deepest_level b.0)), words_short line (take n p) k (AreBytes-take n p a), leb-true n (length p) c.0, length-drop n p)
-shown_block extra level (R.Hops table) list p h k a e = omega (arith, space extra h)
-shown_block extra level (R.Records line) list p h k a e = omega (arith, space extra h)
+shown_block extra level (R.Hops table) p h k a e = omega (arith, space extra h)
+shown_block extra level (R.Records line) p h k a e = omega (arith, space extra h)
 
-block_by : (extra level : ℕ) (raw : Raw) (list p : List ℕ) (b : Bool) → leaves_space extra ≡ true → is_short_raw extra raw ≡ true → AreBytes p → is_shown level raw list p ≡ b →
-    IsShortBlock extra (cond b [] (plain_bytes p)) level (cond b (head_of raw p) None) (cond b (listed_in raw list p) None) p
-block_by extra level raw list p true h k a e = shown_block extra level raw list p h k a e
-block_by extra level raw list p false h k a e = omega (arith, space extra h, bytes_text_short p)
+block_by : (extra level : ℕ) (raw : Raw) (p : List ℕ) (b : Bool) → leaves_space extra ≡ true → is_short_held extra raw ≡ true → AreBytes p → is_shown level raw p ≡ b →
+    IsShortBlock extra (cond b [] (plain_bytes p)) level (cond b (head_of raw p) None) (cond b (listed_in raw p) None) p
+block_by extra level raw p true h k a e = shown_block extra level raw p h k a e
+block_by extra level raw p false h k a e = omega (arith, space extra h, bytes_text_short p)
 
 value_by : (extra level : ℕ) (s p : List ℕ) (b : Bool) → IsShort extra s p → IsShortBlock extra s level (cond b None None) (cond b None None) p
 value_by extra level s p true h = omega (arith, h)
 value_by extra level s p false h = omega (arith, h)
 
-payload_short : (extra level : ℕ) (raw : Raw) (list p : List ℕ) → leaves_space extra ≡ true → is_short_raw extra raw ≡ true → AreBytes p → IsShortBlock extra (after_name level raw list p) level (shown_head level raw list p) (shown_list level raw list p) p
+payload_short : (extra level : ℕ) (raw : Raw) (p : List ℕ) → leaves_space extra ≡ true → is_short_held extra raw ≡ true → AreBytes p → IsShortBlock extra (after_name level raw p) level (shown_head level raw p) (shown_list level raw p) p
 unfolding after_name
-payload_short extra level (R.Value shown) list p h k a = value_by extra level _ p (is_shown level (R.Value shown) list p) (raw_value_short extra shown p h k a)
-payload_short extra level raw list p h k a = block_by extra level raw list p (is_shown level raw list p) h k a refl
+payload_short extra level (R.Value shown) p h k a = value_by extra level _ p (is_shown level (R.Value shown) p) (raw_value_short extra shown p h k a)
+payload_short extra level raw p h k a = block_by extra level raw p (is_shown level raw p) h k a refl
 
 -- What a payload lists is bytes, and has short lines.
-known_listed : (o : Option RawTable) (p : List ℕ) → AreBytes p → AreShortListed (attributes_if_known o p)
-known_listed None p a = record {}
-known_listed (Some t) p a = (record {}, a)
+listed_short : (extra : ℕ) (raw : Raw) (p : List ℕ) → is_short_held extra raw ≡ true → AreBytes p → AreShortListed (listed_in raw p)
+listed_short extra (R.Value shown) p k a = record {}
+listed_short extra (R.List table) p k a = (record {}, a)
+listed_short extra (R.Chosen choice kind) p k a = record {}
+listed_short extra (R.Head line table) p k a = (record {}, AreBytes-drop (total_size line.1) p a)
+listed_short extra (R.Hops table) p k a = (record {}, a)
+listed_short extra (R.Records line) p k a = (k, a)
 
-listed_short : (extra : ℕ) (raw : Raw) (list p : List ℕ) → is_short_raw extra raw ≡ true → AreBytes p → AreShortListed (listed_in raw list p)
-listed_short extra (R.Value shown) list p k a = record {}
-listed_short extra (R.List table) list p k a = (record {}, a)
-listed_short extra (R.Encapsulation kind) list p k a = known_listed (encapsulation kind list) p a
-listed_short extra (R.Head line table) list p k a = (record {}, AreBytes-drop (total_size line.1) p a)
-listed_short extra (R.Hops table) list p k a = (record {}, a)
-listed_short extra (R.Records line) list p k a = (k, a)
-
-shown_listed : (extra level : ℕ) (raw : Raw) (list p : List ℕ) → is_short_raw extra raw ≡ true → AreBytes p → AreShortListed (shown_list level raw list p)
-shown_listed extra level raw list p k a = cond_both (is_shown level raw list p) (listed_in raw list p) None AreShortListed (λ e. listed_short extra raw list p k a) (λ e. record {})
+shown_listed : (extra level : ℕ) (raw : Raw) (p : List ℕ) → is_short_held extra raw ≡ true → AreBytes p → AreShortListed (shown_list level raw p)
+shown_listed extra level raw p k a = cond_both (is_shown level raw p) (listed_in raw p) None AreShortListed (λ e. listed_short extra raw p k a) (λ e. record {})
 
 -- ---- attributes
 
@@ -187,8 +199,9 @@ named_by : (level : ℕ) (t : RawTable) (w : List ℕ) (e : Attribute) (o : Opti
 named_by level t w e None h a = omega (arith, bytes_text_short e.payload, length-append (four_digits e.kind) (bytes_text e.payload))
 named_by level t w e (Some row) h a =
     let r = row_short t e.kind row h in
-    let after = after_name level row.1 w e.payload in
-    omega (arith, payload_short (raw_name_size row.0) level row.1 w e.payload r.name r.held a, nested_size e.kind, length-append row.0 (nested_word e.kind ++ after), length-append (nested_word e.kind) after)
+    let raw = resolved row.1 w in
+    let after = after_name level raw e.payload in
+    omega (arith, payload_short (raw_name_size row.0) level raw e.payload r.name (resolved_short (raw_name_size row.0) row.1 w r.held) a, nested_size e.kind, length-append row.0 (nested_word e.kind ++ after), length-append (nested_word e.kind) after)
 
 pub attribute_short : (level : ℕ) (t : RawTable) (w : List ℕ) (e : Attribute) → AreBytes e.payload → IsShortAttribute level t w e
 unfolding raw_text
@@ -196,7 +209,7 @@ attribute_short level t w e a = named_by level t w e (raw_row t e.kind) refl a
 
 named_listed : (level : ℕ) (t : RawTable) (w : List ℕ) (e : Attribute) (o : Option (Named Raw)) → raw_row t e.kind ≡ o → AreBytes e.payload → AreShortListed (named_list level o w e)
 named_listed level t w e None h a = record {}
-named_listed level t w e (Some row) h a = shown_listed (raw_name_size row.0) level row.1 w e.payload (row_short t e.kind row h).held a
+named_listed level t w e (Some row) h a = shown_listed (raw_name_size row.0) level (resolved row.1 w) e.payload (resolved_short (raw_name_size row.0) row.1 w (row_short t e.kind row h).held) a
 
 -- ---- parts
 
@@ -345,14 +358,14 @@ raw_short level t e a =
     )
 
 -- What follows a name, and the lines below its line.
-pub held_short : (extra level : ℕ) (raw : Raw) (p : List ℕ) → leaves_space extra ≡ true → is_short_raw extra raw ≡ true → AreBytes p → extra + length (after_name level raw [] p) + length (lines_text (held_lines level raw p)) ≤ allowance + factor * length p
+pub held_short : (extra level : ℕ) (raw : Raw) (p : List ℕ) → leaves_space extra ≡ true → is_short_raw extra raw ≡ true → AreBytes p → extra + length (after_name level raw p) + length (lines_text (held_lines level raw p)) ≤ allowance + factor * length p
 held_short extra level raw p h k a =
-    let head = shown_head level raw [] p in
-    let list = shown_list level raw [] p in
+    let head = shown_head level raw p in
+    let list = shown_list level raw p in
     omega (
       arith,
-      payload_short extra level raw [] p h k a,
-      inside_short level list (shown_in_reach level raw [] p) (shown_listed extra level raw [] p k a),
+      payload_short extra level raw p h (held_short_by extra raw k) a,
+      inside_short level list (shown_in_reach level raw p) (shown_listed extra level raw p (held_short_by extra raw k) a),
       ap length (below_is_text level head list),
       length-append (head_text level head) (lines_text (inside_lines level list)),
     )

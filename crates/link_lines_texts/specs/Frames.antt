@@ -45,7 +45,7 @@ request_flag_names t =
 -- The names of the flags that messages of a type have.
 unfoldable pub flag_names : ℕ → List Text
 flag_names t =
-    cond (t == 2) (number_texts MESSAGE_ACK_FLAGS)
+    cond ((t == 2) || (t == 3)) (number_texts MESSAGE_ACK_FLAGS)
     (cond (nat_le 16 t && has_text (text_in message_types t)) (request_flag_names t)
     (number_texts MESSAGE_FLAGS))
 

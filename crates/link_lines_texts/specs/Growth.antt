@@ -1,5 +1,6 @@
 -- How long lines are at most, by a test of each format, record and row that is computed.
 use Rattle.std.specs.Prelude.{ℕ, ◌+◌, ◌-◌, ◌*◌, ◌&&◌, nat_le, max, Bool, true, List, [], ◌∷◌, length}
+use Rattle.std.specs.List.{list_all}
 use Rattle.link_lines_parts.specs.Levels.{deepest_level}
 use Rattle.link_lines_values.specs.declared.exact.ExactBy.TheVariants as E
 use Rattle.link_lines_values.specs.declared.fields.FieldShownBy.TheVariants as F
@@ -9,6 +10,7 @@ use Rattle.link_lines_values.specs.Names.{Text}
 use Rattle.link_lines_values.specs.Records.{Field, FieldShown, total_size}
 use Rattle.link_lines_values.specs.Values.{Shown}
 use Rattle.link_lines_raw.specs.declared.rows.RawBy.TheVariants as R
+use Rattle.link_lines_raw.specs.Choices.{choices_of}
 use Rattle.link_lines_raw.specs.Names.{Named}
 use Rattle.link_lines_raw.specs.Rows.{Raw, RecordLine}
 use Rattle.link_lines_texts.specs.AttributeNames.{Name}
@@ -103,12 +105,17 @@ is_short_exact extra x = true
 abbrev pub leaves_space : ℕ → Bool
 leaves_space extra = nat_le (extra + 46) allowance
 
--- Whether what a raw attribute holds is short enough.
+-- Whether what a raw attribute holds is short enough, if no other attribute chooses it.
+abbrev pub is_short_held : ℕ → Raw → Bool
+is_short_held extra (R.Value shown) = is_short_exact extra shown
+is_short_held extra (R.Head line table) = is_short_line line
+is_short_held extra (R.Records line) = is_short_line line
+is_short_held extra raw = true
+
+-- Whether what a raw attribute holds is short enough, whatever another attribute chooses.
 abbrev pub is_short_raw : ℕ → Raw → Bool
-is_short_raw extra (R.Value shown) = is_short_exact extra shown
-is_short_raw extra (R.Head line table) = is_short_line line
-is_short_raw extra (R.Records line) = is_short_line line
-is_short_raw extra raw = true
+is_short_raw extra (R.Chosen choice kind) = list_all (λ row. is_short_held extra row.1) (choices_of choice)
+is_short_raw extra raw = is_short_held extra raw
 
 -- The length of a name and the word ` nested`.
 abbrev pub name_size : List ℕ → ℕ

@@ -35,7 +35,7 @@ of_link scope b = record { table = family_table (slice_index b 0); scope = scope
 abbrev pub inside_text : ℕ → Inside → List ℕ → List ℕ
 inside_text level (Value shown) p = value_text shown p
 inside_text level Plain p = plain_bytes p
-inside_text level (Held raw) p = after_name level raw [] p
+inside_text level (Held raw) p = after_name level raw p
 inside_text level Peer p = cond (nat_le 16 (length p)) [] (bytes_text p)
 inside_text level inside p = []
 

@@ -1,6 +1,7 @@
 //! The lines of messages.
 
-ghost use Rattle.std.specs.Prelude.{◌≡◌, ◌<◌, ◌≤◌, ◌+◌, ◌^◌, ◌++◌, true, false, length, drop, take, decimal, OnOk, IfSome, IfNone};
+ghost use Rattle.std.specs.Prelude.{◌≡◌, ◌<◌, ◌≤◌, ◌+◌, ◌^◌, ◌++◌, true, false, length};
+ghost use Rattle.std.specs.Prelude.{drop, take, decimal, OnOk, IfSome, IfNone};
 ghost use Rattle.link_lines_values.specs.Appends.{Appends};
 ghost use Rattle.link_lines_texts.specs.AppendsWith.{AppendsWith};
 ghost use Rattle.netlink_packet_core_grammar.specs.Attributes.{nla_align};
@@ -66,7 +67,7 @@ fn request_flag_names(message_type: u16) -> Numbers
 fn flag_names(message_type: u16) -> Numbers
     ensures { number_texts result ≡ flag_names message_type }
 {
-    if message_type == NLMSG_ERROR {
+    if message_type == NLMSG_ERROR || message_type == NLMSG_DONE {
         MESSAGE_ACK_FLAGS
     } else if message_type >= RTM_NEWLINK && !type_name(message_type).is_empty() {
         request_flag_names(message_type)

@@ -74,7 +74,7 @@ pub fn lines_determine_meanings()
     ensures { LinesDetermineMeanings }
 {}
 
-/// The lines of a normal text are at most 44 times as long as the text.
+/// The lines of a normal text are at most 46 times as long as the text.
 pub fn lines_are_short()
     ensures { LinesAreShort }
 {}

@@ -40,9 +40,16 @@ use Rattle.link_lines_values.specs.declared.device_layouts.TheConstants.{CAN_BIT
 use Rattle.link_lines_values.specs.declared.device_layouts.TheConstants.{CAN_BITTIMING_CONST_FIELDS}
 use Rattle.link_lines_values.specs.declared.device_layouts.TheConstants.{CAN_CTRLMODE_FIELDS, CAN_BERR_COUNTER_FIELDS}
 use Rattle.link_lines_values.specs.declared.device_layouts.TheConstants.{CAN_DEVICE_STATS_FIELDS}
+use Rattle.link_lines_values.specs.declared.traffic_layouts.TheConstants.{TC_HANDLE_FIELDS, TC_FIFO_QOPT_FIELDS}
+use Rattle.link_lines_values.specs.declared.traffic_layouts.TheConstants.{TC_PRIO_QOPT_FIELDS, TC_TBF_QOPT_FIELDS}
+use Rattle.link_lines_values.specs.declared.traffic_layouts.TheConstants.{TC_HTB_OPT_FIELDS, TC_HTB_GLOB_FIELDS}
+use Rattle.link_lines_values.specs.declared.traffic_layouts.TheConstants.{TC_U32_MARK_FIELDS, TCF_T_FIELDS}
+use Rattle.link_lines_values.specs.declared.traffic_layouts.TheConstants.{TC_GACT_FIELDS, TC_GACT_P_FIELDS}
+use Rattle.link_lines_values.specs.declared.traffic_layouts.TheConstants.{TC_MIRRED_FIELDS}
 use Rattle.link_lines_values.specs.declared.line_layouts.TheConstants.{IFADDRMSG}
 use Rattle.link_lines_values.specs.declared.route_layouts.TheConstants.{IFA_CACHEINFO}
 use Rattle.link_lines_values.specs.declared.device_layouts.TheConstants.{HW_STATS64}
+use Rattle.link_lines_values.specs.declared.traffic_layouts.TheConstants.{TC_HANDLE}
 use Rattle.link_lines_values.specs.declared.fields.Layout.{Layout}
 use Rattle.link_lines_values.specs.Records.{Field, fields_of}
 
@@ -83,10 +90,19 @@ device_layouts =
     IFLA_PORT_VSI_FIELDS ∷ CAN_BITTIMING_FIELDS ∷ CAN_BITTIMING_CONST_FIELDS ∷ CAN_CTRLMODE_FIELDS ∷
     CAN_BERR_COUNTER_FIELDS ∷ CAN_DEVICE_STATS_FIELDS ∷ [])
 
+-- Fields of records in the options of queueing disciplines, filters and actions: each layout's, in the order of their
+-- indexes.
+abbrev pub traffic_layouts : List (List Field)
+traffic_layouts =
+    map (λ b. fields_of (λ n. n.now) b.now)
+    (TC_HANDLE_FIELDS ∷ TC_FIFO_QOPT_FIELDS ∷ TC_PRIO_QOPT_FIELDS ∷ TC_TBF_QOPT_FIELDS ∷ TC_HTB_OPT_FIELDS ∷
+    TC_HTB_GLOB_FIELDS ∷ TC_U32_MARK_FIELDS ∷ TCF_T_FIELDS ∷ TC_GACT_FIELDS ∷ TC_GACT_P_FIELDS ∷ TC_MIRRED_FIELDS ∷ [])
+
 -- The fields of a record with this layout.
 unfoldable pub layout_fields : Layout → List Field
 layout_fields layout =
     cond (nat_lt layout.0 IFADDRMSG.0) (get_or link_layouts layout.0 [])
     (cond (nat_lt layout.0 IFA_CACHEINFO.0) (get_or line_layouts (layout.0 - IFADDRMSG.0) [])
     (cond (nat_lt layout.0 HW_STATS64.0) (get_or route_layouts (layout.0 - IFA_CACHEINFO.0) [])
-    (get_or device_layouts (layout.0 - HW_STATS64.0) [])))
+    (cond (nat_lt layout.0 TC_HANDLE.0) (get_or device_layouts (layout.0 - HW_STATS64.0) [])
+    (get_or traffic_layouts (layout.0 - TC_HANDLE.0) []))))

@@ -42,6 +42,9 @@ use Rattle.link_lines_values.specs.declared.bridge_texts.TheConstants.{MDB_FLAGS
 use Rattle.link_lines_values.specs.declared.bridge_texts.TheConstants.{BRIDGE_VLAN_FLAGS_TEXTS, VLAN_FLAGS_TEXTS}
 use Rattle.link_lines_values.specs.declared.bridge_texts.TheConstants.{BR_BOOLOPT_TEXTS, CAN_CTRLMODE_FLAGS_TEXTS}
 use Rattle.link_lines_values.specs.declared.error_texts.TheConstants.{ERROR, ERROR_TEXTS}
+use Rattle.link_lines_values.specs.declared.traffic_texts.TheConstants.{TC_ACTION_TEXTS, MIRRED_ACTION_TEXTS}
+use Rattle.link_lines_values.specs.declared.traffic_texts.TheConstants.{LIFETIME_TEXTS, CLS_FLAGS_TEXTS}
+use Rattle.link_lines_values.specs.declared.traffic_texts.TheConstants.{BPF_FLAGS_TEXTS, CT_STATE_TEXTS, TC_ACTION}
 use Rattle.link_lines_values.specs.declared.flag_names.TheConstants.{LINK_FLAGS}
 use Rattle.link_lines_values.specs.declared.route_texts.TheConstants.{FAMILY}
 use Rattle.link_lines_values.specs.declared.neighbour_texts.TheConstants.{FR_ACT}
@@ -100,6 +103,13 @@ bridge_texts =
 abbrev pub error_texts : List (List Text)
 error_texts = map (λ b. texts_of (λ n. n.now) b.now) (ERROR_TEXTS ∷ [])
 
+-- Names of numbers and bits in the options of queueing disciplines, filters and actions, and of lifetimes: each table's,
+-- in the order of their indexes.
+abbrev pub traffic_texts : List (List Text)
+traffic_texts =
+    map (λ b. texts_of (λ n. n.now) b.now)
+    (TC_ACTION_TEXTS ∷ MIRRED_ACTION_TEXTS ∷ LIFETIME_TEXTS ∷ CLS_FLAGS_TEXTS ∷ BPF_FLAGS_TEXTS ∷ CT_STATE_TEXTS ∷ [])
+
 -- The numbers, or the bits, of a table with their names.
 unfoldable pub number_texts : Numbers → List Text
 number_texts table =
@@ -108,4 +118,5 @@ number_texts table =
     (cond (nat_lt table.0 FR_ACT.0) (get_or route_texts (table.0 - FAMILY.0) [])
     (cond (nat_lt table.0 MCAST_MODE.0) (get_or neighbour_texts (table.0 - FR_ACT.0) [])
     (cond (nat_lt table.0 ERROR.0) (get_or bridge_texts (table.0 - MCAST_MODE.0) [])
-    (get_or error_texts (table.0 - ERROR.0) [])))))
+    (cond (nat_lt table.0 TC_ACTION.0) (get_or error_texts (table.0 - ERROR.0) [])
+    (get_or traffic_texts (table.0 - TC_ACTION.0) []))))))

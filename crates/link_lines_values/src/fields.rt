@@ -8,14 +8,15 @@ use crate::device_layouts::HW_STATS64;
 use crate::line_layouts::IFADDRMSG;
 use crate::number_tables::Numbers;
 use crate::route_layouts::IFA_CACHEINFO;
-use crate::{device_layouts, layouts, line_layouts, route_layouts};
+use crate::traffic_layouts::TC_HANDLE;
+use crate::{device_layouts, layouts, line_layouts, route_layouts, traffic_layouts};
 
 /// How a field of a record is shown, with names of numbers of type `T`, also for bits.
 #[derive(Clone, Copy)]
 pub enum FieldShownBy<T> {
     /// A little-endian number with its name.
     Number(T),
-    /// A signed little-endian number of 1, 2 or 4 bytes.
+    /// A signed little-endian number of 1, 2, 4 or 8 bytes.
     Signed,
     /// A big-endian number with its name.
     BigEndian(T),
@@ -67,8 +68,10 @@ impl Layout {
             line_layouts::fields(index - IFADDRMSG.0)
         } else if index < HW_STATS64.0 {
             route_layouts::fields(index - IFA_CACHEINFO.0)
-        } else {
+        } else if index < TC_HANDLE.0 {
             device_layouts::fields(index - HW_STATS64.0)
+        } else {
+            traffic_layouts::fields(index - TC_HANDLE.0)
         }
     }
 }

@@ -25,6 +25,8 @@ mod numbers;
 mod records;
 pub mod route_layouts;
 pub mod route_texts;
+pub mod traffic_layouts;
+pub mod traffic_texts;
 mod values;
 
 pub use bytes::{is_zero, push_bytes};

@@ -10,7 +10,11 @@ use crate::flag_names::LINK_FLAGS;
 use crate::neighbour_texts::FR_ACT;
 use crate::number_texts::PLAIN;
 use crate::route_texts::FAMILY;
-use crate::{bridge_texts, error_texts, flag_names, neighbour_texts, number_texts, route_texts};
+use crate::traffic_texts::TC_ACTION;
+use crate::{
+    bridge_texts, error_texts, flag_names, neighbour_texts, number_texts, route_texts,
+    traffic_texts,
+};
 
 /// A number, or a bit, and its name.
 pub type NumberText = (u32, &'static [u8]);
@@ -51,8 +55,10 @@ impl Numbers {
             neighbour_texts::texts(index - FR_ACT.0)
         } else if index < ERROR.0 {
             bridge_texts::texts(index - MCAST_MODE.0)
-        } else {
+        } else if index < TC_ACTION.0 {
             error_texts::texts(index - ERROR.0)
+        } else {
+            traffic_texts::texts(index - TC_ACTION.0)
         }
     }
 }

@@ -173,11 +173,10 @@ pub(crate) const ADDRESS_FAMILY_TEXTS: &[NumberText] = &[
     (45, b"AF_MCTP"),
 ];
 
-/// Types of link layers (if_arp.h: ARPHRD_*).
+/// Types of link layers (if_arp.h: ARPHRD_*), but for 0 (ARPHRD_NETROM), which requests have as well.
 pub const LINK_LAYER_TYPE: Numbers = Numbers(20);
 
 pub(crate) const LINK_LAYER_TYPE_TEXTS: &[NumberText] = &[
-    (0, b"netrom"),
     (1, b"ether"),
     (2, b"eether"),
     (3, b"ax25"),

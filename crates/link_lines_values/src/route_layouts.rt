@@ -7,13 +7,14 @@ ghost use Rattle.link_lines_values.specs.Layouts.{route_layouts};
 use crate::fields::FieldShownBy::{Number, Padding, Signed};
 use crate::fields::{FieldOf, Fields, Layout};
 use crate::number_texts::PLAIN;
+use crate::traffic_texts::LIFETIME;
 
 /// if_addr.h, `struct ifa_cacheinfo`.
 pub const IFA_CACHEINFO: Layout = Layout(39);
 
 pub(crate) const IFA_CACHEINFO_FIELDS: Fields = &[
-    FieldOf(b"prefered", 4, Number(PLAIN)),
-    FieldOf(b"valid", 4, Number(PLAIN)),
+    FieldOf(b"prefered", 4, Number(LIFETIME)),
+    FieldOf(b"valid", 4, Number(LIFETIME)),
     FieldOf(b"cstamp", 4, Number(PLAIN)),
     FieldOf(b"tstamp", 4, Number(PLAIN)),
 ];
@@ -144,8 +145,8 @@ pub(crate) const TC_SIZESPEC_FIELDS: Fields = &[
 pub const PREFIX_CACHEINFO: Layout = Layout(52);
 
 pub(crate) const PREFIX_CACHEINFO_FIELDS: Fields = &[
-    FieldOf(b"preferred_time", 4, Number(PLAIN)),
-    FieldOf(b"valid_time", 4, Number(PLAIN)),
+    FieldOf(b"preferred_time", 4, Number(LIFETIME)),
+    FieldOf(b"valid_time", 4, Number(LIFETIME)),
 ];
 
 /// neighbour.h, `struct ndt_config`.

@@ -1,5 +1,5 @@
 -- The names that lines show for numbers and flags, compared with the typed displays and with the words of `--only`.
-use Rattle.std.specs.Prelude.{◌≡◌, ℕ, List, Some, map, true}
+use Rattle.std.specs.Prelude.{◌≡◌, ℕ, List, ◌∷◌, Some, codes, map, true}
 use Rattle.std.specs.List.{Contains}
 use Rattle.link_lines_values.specs.Names.{Text}
 use Rattle.link_lines_values.specs.NumberTexts.{number_texts}
@@ -39,7 +39,7 @@ abbrev pub displayed : {V : Type 0} → (V → ℕ) → (V → List ℕ) → Lis
 displayed number text values = map (λ v. (number v, text v)) values
 
 -- The numbers that have a name in lines are those of the values that have one, and the name is the value's display. The
--- same holds for the flags of links.
+-- same holds for the flags of links. Only the layer type 0 (NETROM), which requests have as well, has no name in lines.
 pub record NumbersAreDisplayed : Type 0 where
   pub amt_modes : number_texts AMT_MODE ≡ displayed amt_mode_number amt_mode_text listed_amt_modes
   pub geneve_dfs : number_texts GENEVE_DF ≡
@@ -69,7 +69,7 @@ pub record NumbersAreDisplayed : Type 0 where
       displayed in_6_addr_gen_mode_number in_6_addr_gen_mode_text listed_in_6_addr_gen_modes
   pub mctp_phys_bindings : number_texts MCTP_PHYS_BINDING ≡
       displayed mctp_phys_binding_number mctp_phys_binding_text listed_mctp_phys_bindings
-  pub link_layer_types : number_texts LINK_LAYER_TYPE ≡
+  pub link_layer_types : (0, codes "netrom") ∷ number_texts LINK_LAYER_TYPE ≡
       displayed link_layer_type_number link_layer_type_text listed_link_layer_types
   pub link_flags : number_texts LINK_FLAGS ≡ map (λ row. (row.1, row.0)) link_flags_table
 

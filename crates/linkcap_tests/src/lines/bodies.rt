@@ -6,7 +6,7 @@ use link_lines_raw::push_body;
 use std::test::Fail;
 
 /// The type of a message, and whether it is a request; and its body in hex, followed by the lines.
-const CASES: [(u16, bool, &str); 16] = [
+const CASES: [(u16, bool, &str); 27] = [
     // Objects, by their fields.
     (
         20,
@@ -59,6 +59,130 @@ const CASES: [(u16, bool, &str); 16] = [
   ifaddrmsg family 2 (AF_INET) prefixlen 24 flags 0x80 (PERMANENT) scope 0 (universe) index 2
   IFA_LABEL \"lo\"
     padding 01
+",
+    ),
+    // Options of queueing disciplines, filters and actions, by their kind.
+    (
+        36,
+        true,
+        "000000000300000000000100ffffffff0000000008000100687462001c00020018000200030000000a000000100000000000000000000000
+  tcmsg family 0 (AF_UNSPEC) ifindex 3 handle 1:0 parent ffff:ffff (root) info 0
+  TCA_KIND \"htb\"
+  TCA_OPTIONS
+    TCA_HTB_INIT version=3 rate2quantum=10 defcls=0x10 debug=0 direct_pkts=0
+",
+    ),
+    (
+        44,
+        true,
+        "000000000300000000000000000001000800010008000100753332003000020008000100100001002400050001000100000000000000000000000000\
+        ffff00000a0400001000000000000000
+  tcmsg family 0 (AF_UNSPEC) ifindex 3 handle 0x0 parent 1:0 protocol 2048 (ip) prio 1
+  TCA_KIND \"u32\"
+  TCA_OPTIONS
+    TCA_U32_CLASSID handle=1:10
+    TCA_U32_SEL 01000100000000000000000000000000ffff00000a0400001000000000000000
+",
+    ),
+    (
+        36,
+        true,
+        "000000000200000000000200ffffffff00000000090001007072696f000000001c000200030000000102020201020000010101010101010104000200
+  tcmsg family 0 (AF_UNSPEC) ifindex 2 handle 2:0 parent ffff:ffff (root) info 0
+  TCA_KIND \"prio\"
+  TCA_OPTIONS
+    tc_prio_qopt bands 3 priomap0 1 priomap1 2 priomap2 2 priomap3 2 priomap4 1 priomap5 2 priomap6 0 priomap7 0 priomap8 1 \
+        priomap9 1 priomap10 1 priomap11 1 priomap12 1 priomap13 1 priomap14 1 priomap15 1
+    TCA_OPTIONS
+",
+    ),
+    (
+        36,
+        true,
+        "00000000020000000000000001000200000000000a000100706669666f0000000800020005000000
+  tcmsg family 0 (AF_UNSPEC) ifindex 2 handle 0:0 parent 2:1 info 0
+  TCA_KIND \"pfifo\"
+  TCA_OPTIONS limit=5
+",
+    ),
+    (
+        36,
+        true,
+        "00000000020000000000000003000200000000000d00010066715f636f64656c000000000c0002000800020064000000
+  tcmsg family 0 (AF_UNSPEC) ifindex 2 handle 0:0 parent 2:3 info 0
+  TCA_KIND \"fq_codel\"
+  TCA_OPTIONS
+    TCA_FQ_CODEL_LIMIT 100
+",
+    ),
+    (
+        44,
+        true,
+        "000000000200000000000000f2ffffff000300000d0001006d61746368616c6c000000003c00020038000200340001000b0001006d69727265640000\
+        240002802000020000000000000000000300000000000000000000000200000003000000
+  tcmsg family 0 (AF_UNSPEC) ifindex 2 handle 0x0 parent ffff:fff2 protocol 3 (all) prio 0
+  TCA_KIND \"matchall\"
+  TCA_OPTIONS
+    TCA_MATCHALL_ACT
+      [1]
+        TCA_ACT_KIND \"mirred\"
+        TCA_ACT_OPTIONS nested
+          TCA_MIRRED_PARMS
+            tc_mirred action_index 0 capab 0 action 3 (pipe) refcnt 0 bindcnt 0 eaction 2 (egress_mirror) ifindex 3
+",
+    ),
+    (
+        44,
+        true,
+        "000000000200000000000000f3ffffff080000000b000100666c6f77657200003400020008000c000a00000108000d00ffffffff0500090006000000\
+        060013000050000008001600000000000600080008000000
+  tcmsg family 0 (AF_UNSPEC) ifindex 2 handle 0x0 parent ffff:fff3 protocol 2048 (ip) prio 0
+  TCA_KIND \"flower\"
+  TCA_OPTIONS
+    TCA_FLOWER_KEY_IPV4_DST 10.0.0.1
+    TCA_FLOWER_KEY_IPV4_DST_MASK 255.255.255.255
+    TCA_FLOWER_KEY_IP_PROTO 6 (tcp)
+    TCA_FLOWER_KEY_TCP_DST 80
+    TCA_FLOWER_FLAGS 0x0
+    TCA_FLOWER_KEY_ETH_TYPE 2048 (ip)
+",
+    ),
+    (
+        36,
+        true,
+        "00000000000000000000000000000000000000000800010073667100080002000a000000
+  tcmsg family 0 (AF_UNSPEC) ifindex 0 handle 0:0 parent 0:0 info 0
+  TCA_KIND \"sfq\"
+  TCA_OPTIONS bytes 0a000000
+",
+    ),
+    (
+        36,
+        true,
+        "0000000000000000000000000000000000000000080002000a0000000a000100706669666f000000
+  tcmsg family 0 (AF_UNSPEC) ifindex 0 handle 0:0 parent 0:0 info 0
+  TCA_OPTIONS limit=10
+  TCA_KIND \"pfifo\"
+",
+    ),
+    (
+        36,
+        true,
+        "000000000000000000000000000000000000000009000100706669666f000000080002000a000000
+  tcmsg family 0 (AF_UNSPEC) ifindex 0 handle 0:0 parent 0:0 info 0
+  TCA_KIND bytes 706669666f
+  TCA_OPTIONS bytes 0a000000
+",
+    ),
+    (
+        36,
+        true,
+        "00000000000000000000000000000000000000000800010068746200090002000500020001000000
+  tcmsg family 0 (AF_UNSPEC) ifindex 0 handle 0:0 parent 0:0 info 0
+  TCA_KIND \"htb\"
+  TCA_OPTIONS
+    TCA_HTB_INIT bytes 01
+      padding
 ",
     ),
     // Requests, by their fields.

@@ -45,7 +45,7 @@ const NEIGHBOUR: &str = "RTM_DELNEIGH flags 0x0 seq 0 port 0
 /// The lines of an address.
 const ADDRESS: &str = "RTM_NEWADDR flags 0x5 (REQUEST | ACK) seq 1795830313 port 0
   ifaddrmsg family 10 (AF_INET6) prefixlen 128 flags 0x0 scope 0 (universe) index 5
-  IFA_CACHEINFO prefered=0 valid=4294967295 cstamp=0 tstamp=0
+  IFA_CACHEINFO prefered=0 valid=4294967295 (forever) cstamp=0 tstamp=0
   IFA_LOCAL fe80::9
   IFA_FLAGS 0x2 (NODAD)
   IFA_PROTO 18

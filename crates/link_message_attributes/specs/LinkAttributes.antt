@@ -195,6 +195,12 @@ row_may_allocate f k p =
 abbrev pub link_attribute_may_allocate : Family → List ℕ → Bool
 link_attribute_may_allocate f b = row_may_allocate f (proper_kind (viewed_kind b)) (viewed_payload b)
 
+-- The kind isn't that of link info, nor one of those whose payload is a text.
+abbrev pub IsNoText : ℕ → Type 0
+IsNoText k =
+    ((k == 3) ≡ false) × ((k == 6) ≡ false) × ((k == 18) ≡ false) × ((k == 20) ≡ false) × ((k == 38) ≡ false) ×
+    ((k == 56) ≡ false) × ((k == 57) ≡ false)
+
 -- The kind isn't one of those whose payload is no number.
 abbrev pub IsReadAsNumber : ℕ → Type 0
 IsReadAsNumber k =

@@ -12,7 +12,7 @@ ghost use Rattle.netlink_packet_core.specs.AttributeViews.{viewed_attribute};
 ghost use Rattle.link_message_grammar.specs.Body.{attribute_row, attributes_rule};
 ghost use Rattle.link_message_types.specs.AddressFamilies.{table_family};
 ghost use Rattle.link_message_attributes.specs.LinkAttributes.{link_attribute_entry, link_attribute_fits, link_attribute_names_row};
-ghost use Rattle.link_message_attributes.specs.LinkAttributes.{plain_row, link_attribute_may_allocate};
+ghost use Rattle.link_message_attributes.specs.LinkAttributes.{IsNoText, link_attribute_may_allocate, plain_row};
 ghost use Rattle.link_message_attributes.specs.Outcomes.{IsRowRead};
 ghost use Rattle.link_message_attributes.specs.Payloads.{link_payload_bytes, link_payload_fits};
 ghost use Rattle.attribute_tables.specs.Outcomes.{IfMemory, IsRefusedUnless, IsRewrittenBy, ListIsReadAs};
@@ -339,9 +339,9 @@ impl LinkAttribute {
         }
     }
 
-    // Reads the payload of a kind that holds neither link info nor a number; `None` if the kind has
-    // no row. It is out of line, since each call clears the temporaries of every arm: a number is
-    // read without that.
+    // Reads the payload of a kind that holds neither link info nor a text nor a number; `None` if the
+    // kind has no row. It is out of line, since each call clears the temporaries of every arm: texts
+    // and numbers are read without that.
     #[inline(never)]
     fn read_large_row(
         alloc: Global,
@@ -349,18 +349,15 @@ impl LinkAttribute {
         kind: u16,
         payload: &[u8],
     ) -> Result<Option<Self>, DecodeError>
-        requires { (kind == 18) ≡ false }
+        requires { IsNoText kind }
         ensures { IsRowRead result (table_family family) (plain_row (table_family family) kind) kind payload.now }
     {
         match kind {
             IFLA_ADDRESS => typed!(Address, parse_bytes(alloc, payload)),
             IFLA_BROADCAST => typed!(Broadcast, parse_bytes(alloc, payload)),
-            IFLA_IFNAME => typed!(IfName, parse_string(alloc, payload)),
-            IFLA_QDISC => typed!(Qdisc, parse_string(alloc, payload)),
             IFLA_STATS => Ok(Some(Self::Stats(read_settings(payload)))),
             IFLA_PROTINFO => Self::parse_protocol_info(alloc, family, payload),
             IFLA_MAP => typed!(Map, Map::parse(payload)),
-            IFLA_IFALIAS => typed!(IfAlias, parse_string(alloc, payload)),
             IFLA_VFINFO_LIST => typed!(VfInfoList, parse_vf_infos(alloc, payload)),
             IFLA_STATS64 => Ok(Some(Self::Stats64(read_settings(payload)))),
             IFLA_VF_PORTS => typed!(VfPorts, parse_vf_ports(alloc, payload)),
@@ -373,16 +370,36 @@ impl LinkAttribute {
             IFLA_EXT_MASK => typed!(ExtMask, parse_extent_masks(alloc, payload)),
             IFLA_PHYS_PORT_ID => typed!(PhysPortId, LinkPhysId::parse(alloc, payload)),
             IFLA_PHYS_SWITCH_ID => typed!(PhysSwitchId, LinkPhysId::parse(alloc, payload)),
-            IFLA_PHYS_PORT_NAME => typed!(PhysPortName, parse_string(alloc, payload)),
             IFLA_XDP => typed!(Xdp, parse_family(alloc, payload)),
             IFLA_PROP_LIST => typed!(PropList, parse_family(alloc, payload)),
             IFLA_PERM_ADDRESS => typed!(PermAddress, parse_bytes(alloc, payload)),
             IFLA_PROTO_DOWN_REASON => typed!(ProtoDownReason, parse_family(alloc, payload)),
-            IFLA_PARENT_DEV_NAME => typed!(ParentDevName, parse_string(alloc, payload)),
-            IFLA_PARENT_DEV_BUS_NAME => typed!(ParentDevBusName, parse_string(alloc, payload)),
             IFLA_DEVLINK_PORT => typed!(DevlinkPort, parse_family(alloc, payload)),
             IFLA_DPLL_PIN => typed!(DpllPin, parse_family(alloc, payload)),
             _ => Self::read_number(family, kind, payload),
+        }
+    }
+
+    // Reads the payload of a kind other than link info, of texts without the temporaries of others;
+    // `None` if the kind has no row.
+    #[inline(never)]
+    fn read_text(
+        alloc: Global,
+        family: AddressFamily,
+        kind: u16,
+        payload: &[u8],
+    ) -> Result<Option<Self>, DecodeError>
+        requires { (kind == 18) ≡ false }
+        ensures { IsRowRead result (table_family family) (plain_row (table_family family) kind) kind payload.now }
+    {
+        match kind {
+            IFLA_IFNAME => typed!(IfName, parse_string(alloc, payload)),
+            IFLA_QDISC => typed!(Qdisc, parse_string(alloc, payload)),
+            IFLA_IFALIAS => typed!(IfAlias, parse_string(alloc, payload)),
+            IFLA_PHYS_PORT_NAME => typed!(PhysPortName, parse_string(alloc, payload)),
+            IFLA_PARENT_DEV_NAME => typed!(ParentDevName, parse_string(alloc, payload)),
+            IFLA_PARENT_DEV_BUS_NAME => typed!(ParentDevBusName, parse_string(alloc, payload)),
+            _ => Self::read_large_row(alloc, family, kind, payload),
         }
     }
 
@@ -401,12 +418,12 @@ impl LinkAttribute {
         match kind {
             IFLA_ADDRESS => Self::read_large_row(alloc, family, kind, payload),
             IFLA_BROADCAST => Self::read_large_row(alloc, family, kind, payload),
-            IFLA_IFNAME => Self::read_large_row(alloc, family, kind, payload),
-            IFLA_QDISC => Self::read_large_row(alloc, family, kind, payload),
+            IFLA_IFNAME => Self::read_text(alloc, family, kind, payload),
+            IFLA_QDISC => Self::read_text(alloc, family, kind, payload),
             IFLA_STATS => Self::read_large_row(alloc, family, kind, payload),
             IFLA_PROTINFO => Self::read_large_row(alloc, family, kind, payload),
             IFLA_MAP => Self::read_large_row(alloc, family, kind, payload),
-            IFLA_IFALIAS => Self::read_large_row(alloc, family, kind, payload),
+            IFLA_IFALIAS => Self::read_text(alloc, family, kind, payload),
             IFLA_VFINFO_LIST => Self::read_large_row(alloc, family, kind, payload),
             IFLA_STATS64 => Self::read_large_row(alloc, family, kind, payload),
             IFLA_VF_PORTS => Self::read_large_row(alloc, family, kind, payload),
@@ -415,13 +432,13 @@ impl LinkAttribute {
             IFLA_EXT_MASK => Self::read_large_row(alloc, family, kind, payload),
             IFLA_PHYS_PORT_ID => Self::read_large_row(alloc, family, kind, payload),
             IFLA_PHYS_SWITCH_ID => Self::read_large_row(alloc, family, kind, payload),
-            IFLA_PHYS_PORT_NAME => Self::read_large_row(alloc, family, kind, payload),
+            IFLA_PHYS_PORT_NAME => Self::read_text(alloc, family, kind, payload),
             IFLA_XDP => Self::read_large_row(alloc, family, kind, payload),
             IFLA_PROP_LIST => Self::read_large_row(alloc, family, kind, payload),
             IFLA_PERM_ADDRESS => Self::read_large_row(alloc, family, kind, payload),
             IFLA_PROTO_DOWN_REASON => Self::read_large_row(alloc, family, kind, payload),
-            IFLA_PARENT_DEV_NAME => Self::read_large_row(alloc, family, kind, payload),
-            IFLA_PARENT_DEV_BUS_NAME => Self::read_large_row(alloc, family, kind, payload),
+            IFLA_PARENT_DEV_NAME => Self::read_text(alloc, family, kind, payload),
+            IFLA_PARENT_DEV_BUS_NAME => Self::read_text(alloc, family, kind, payload),
             IFLA_DEVLINK_PORT => Self::read_large_row(alloc, family, kind, payload),
             IFLA_DPLL_PIN => Self::read_large_row(alloc, family, kind, payload),
             _ => Self::read_number(family, kind, payload),

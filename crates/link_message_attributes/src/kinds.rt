@@ -117,3 +117,6 @@ pub(crate) const IFLA_GSO_IPV4_MAX_SIZE: u16 = 63;
 pub(crate) const IFLA_GRO_IPV4_MAX_SIZE: u16 = 64;
 
 pub(crate) const IFLA_DPLL_PIN: u16 = 65;
+
+// The last kind that has a row.
+pub(crate) const LAST_KIND: u16 = IFLA_DPLL_PIN;

@@ -18,7 +18,7 @@ use super::kinds::{
     IFLA_LINK_NETNSID, IFLA_LINKMODE, IFLA_MASTER, IFLA_MAX_MTU, IFLA_MIN_MTU, IFLA_MTU,
     IFLA_NET_NS_FD, IFLA_NET_NS_PID, IFLA_NEW_IFINDEX, IFLA_NEW_NETNSID, IFLA_NUM_RX_QUEUES,
     IFLA_NUM_TX_QUEUES, IFLA_NUM_VF, IFLA_OPERSTATE, IFLA_PROMISCUITY, IFLA_PROTO_DOWN,
-    IFLA_TSO_MAX_SEGS, IFLA_TSO_MAX_SIZE, IFLA_TXQLEN,
+    IFLA_TSO_MAX_SEGS, IFLA_TSO_MAX_SIZE, IFLA_TXQLEN, LAST_KIND,
 };
 use attribute_tables::typed;
 use link_message_types::{AddressFamily, LinkEvent, LinkMode, State};
@@ -93,8 +93,25 @@ impl LinkAttribute {
         }
     }
 
-    // Reads the payload of a kind that holds a number; `None` if the kind has no row.
+    // Reads the payload of a kind that holds a number; `None` if the kind has no row. Kinds after the
+    // last one come first: reading a number clears the temporaries of every arm.
     pub(crate) fn read_number(
+        family: AddressFamily,
+        kind: u16,
+        payload: &[u8],
+    ) -> Result<Option<Self>, DecodeError>
+        requires { IsReadAsNumber kind }
+        ensures { IsRowRead result (table_family family) (plain_row (table_family family) kind) kind payload.now }
+    {
+        if kind > LAST_KIND {
+            return Ok(None);
+        }
+        Self::read_listed_number(family, kind, payload)
+    }
+
+    // Reads the payload of a kind that holds a number; `None` if the kind has no row.
+    #[inline(never)]
+    fn read_listed_number(
         family: AddressFamily,
         kind: u16,
         payload: &[u8],

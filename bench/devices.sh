@@ -184,7 +184,7 @@ expect "lines before a fault are written" 2 "cut frame at 48" "$lines"
 run < "$work/long"
 expect "lines: a fault after the first piece" 2 "cut frame at 67200" $((1400 * lines))
 run --limit 15 < "$request"
-expect "lines: a limit that is none" 3 "linkshow: --limit: no number from 16 to 4294967295: 15" 0
+expect "lines: a limit that is none" 3 "linkshow: --limit: not a number from 16 to 4294967295: 15" 0
 for arguments in "48 48" "--limit"; do
     # shellcheck disable=SC2086
     run $arguments < "$request"

@@ -6,7 +6,7 @@ local -a _linkcap_options_linkshow=(
     --only"[show only messages of these types, by name or number]:only:_linkcap_types"
     --link"[show only messages about this link, by name or index]:link:"
     --without"[leave out these attributes, by name, and these groups]:without:_linkcap_groups"
-    --without-numbers"[leave out sequence and port numbers, which change from run to run]"
+    --without-numbers"[leave out sequence numbers and netlink port IDs, which change from run to run]"
     --offsets"[show each message's offset in bytes]"
     --keep-going"[show messages with a fault in their body too, with the reason, and the messages after them]"
     --json"[write an object of JSON for each message, a line each]"

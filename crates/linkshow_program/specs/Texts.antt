@@ -11,10 +11,10 @@ abbrev pub cause : ErrorKind → List ℕ
 cause NotFound = codes "no such file"
 cause PermissionDenied = codes "permission denied"
 cause IsADirectory = codes "it is a directory"
-cause NotADirectory = codes "a part of the path is no directory"
-cause FilesystemLoop = codes "too many links to follow"
-cause InvalidFilename = codes "no name of a file"
-cause InvalidInput = codes "no name of a file"
+cause NotADirectory = codes "a part of the path is not a directory"
+cause FilesystemLoop = codes "too many symbolic links"
+cause InvalidFilename = codes "not a valid file name"
+cause InvalidInput = codes "not a valid file name"
 cause OutOfMemory = codes "no memory"
 cause kind = codes "it can't be opened"
 
@@ -71,7 +71,7 @@ usage_line =
 abbrev pub usage_text : UsageFault → List ℕ
 usage_text UsageFault.Usage = usage_line
 usage_text (UsageFault.InvalidLimit word) =
-    codes "linkshow: --limit: no number from 16 to 4294967295: " ++ (word ++ 10 ∷ [])
+    codes "linkshow: --limit: not a number from 16 to 4294967295: " ++ (word ++ 10 ∷ [])
 usage_text (UsageFault.UnknownType word) =
     codes "linkshow: --only: no type of messages is called " ++ (word ++ 10 ∷ [])
 usage_text (UsageFault.UnknownName word) =
@@ -91,23 +91,24 @@ help_text =
     codes "       linkshow --help" ∷
     codes "       linkshow --version" ∷
     codes "" ∷
-    codes "Shows a netlink link capture as lines: the messages of FILE, or of standard" ∷
-    codes "input if there is no FILE or it is -. A capture is a byte string of netlink" ∷
-    codes "messages, one after the other, each at a multiple of 4. Its lines are those" ∷
-    codes "of its normal text: captures that mean the same have the same lines." ∷
+    codes "Shows a capture of netlink messages as lines: that in FILE, or on standard" ∷
+    codes "input if there is no FILE or it is -. A capture is the bytes of its messages," ∷
+    codes "one after the other, each at an offset that is a multiple of 4. The lines are" ∷
+    codes "those of its normal text: captures that mean the same have the same lines." ∷
     codes "" ∷
     codes "  --only TYPE,..     show only messages of these types, by name or number:" ∷
     codes "                     newlink,setlink,77" ∷
-    codes "  --link WORD        show only messages about this link, by name or index" ∷
+    codes "  --link WORD        show only messages about this link, by its index, its" ∷
+    codes "                     name or an alternative name" ∷
     codes "  --without NAME,..  leave out these attributes, by name, and these groups:" ∷
     codes "                     numbers, as --without-numbers; counters, as statistics" ∷
     codes "                     and timers; indexes, of links and of namespaces;" ∷
-    codes "                     padding, which is shown where it isn't zero" ∷
-    codes "  --without-numbers  leave out sequence and port numbers, which change from" ∷
-    codes "                     run to run" ∷
+    codes "                     padding, which is shown if it isn't zero or is cut" ∷
+    codes "  --without-numbers  leave out sequence numbers and netlink port IDs, which" ∷
+    codes "                     change from run to run" ∷
     codes "  --offsets          show each message's offset in bytes" ∷
-    codes "  --keep-going       show messages with a fault in their body too, with the" ∷
-    codes "                     reason, and the messages after them" ∷
+    codes "  --keep-going       show messages with an invalid body too, in hex and with" ∷
+    codes "                     the reason, and the messages after them" ∷
     codes "  --json             write an object of JSON for each message, a line each" ∷
     codes "  --limit N          the greatest length of a message in bytes, from 16 to" ∷
     codes "                     4294967295; without it, 1048576" ∷
@@ -120,8 +121,9 @@ help_text =
     codes "A value follows its option, or comes after =, as --only=newlink. After -- no" ∷
     codes "option follows, but a FILE, whose name may begin with -." ∷
     codes "" ∷
-    codes "Status 0: the capture is legal, and its lines are written. 2: a fault, which" ∷
-    codes "standard error names with its offset in bytes; the lines before it are" ∷
+    codes "Status 0: the capture is legal, and its lines are written. 2: the capture has" ∷
+    codes "a fault, which standard error names with its offset in bytes, or a file can't" ∷
+    codes "be opened, read or written, or memory ran out; the lines before it are" ∷
     codes "written. 3: a usage error." ∷
     codes "" ∷
     codes "Example, the links of this network namespace:" ∷

@@ -21,23 +21,24 @@ const HELP: &str = "usage: linkshow [--only TYPE,..] [--link WORD] [--without NA
        linkshow --help
        linkshow --version
 
-Shows a netlink link capture as lines: the messages of FILE, or of standard
-input if there is no FILE or it is -. A capture is a byte string of netlink
-messages, one after the other, each at a multiple of 4. Its lines are those
-of its normal text: captures that mean the same have the same lines.
+Shows a capture of netlink messages as lines: that in FILE, or on standard
+input if there is no FILE or it is -. A capture is the bytes of its messages,
+one after the other, each at an offset that is a multiple of 4. The lines are
+those of its normal text: captures that mean the same have the same lines.
 
   --only TYPE,..     show only messages of these types, by name or number:
                      newlink,setlink,77
-  --link WORD        show only messages about this link, by name or index
+  --link WORD        show only messages about this link, by its index, its
+                     name or an alternative name
   --without NAME,..  leave out these attributes, by name, and these groups:
                      numbers, as --without-numbers; counters, as statistics
                      and timers; indexes, of links and of namespaces;
-                     padding, which is shown where it isn't zero
-  --without-numbers  leave out sequence and port numbers, which change from
-                     run to run
+                     padding, which is shown if it isn't zero or is cut
+  --without-numbers  leave out sequence numbers and netlink port IDs, which
+                     change from run to run
   --offsets          show each message's offset in bytes
-  --keep-going       show messages with a fault in their body too, with the
-                     reason, and the messages after them
+  --keep-going       show messages with an invalid body too, in hex and with
+                     the reason, and the messages after them
   --json             write an object of JSON for each message, a line each
   --limit N          the greatest length of a message in bytes, from 16 to
                      4294967295; without it, 1048576
@@ -50,8 +51,9 @@ of its normal text: captures that mean the same have the same lines.
 A value follows its option, or comes after =, as --only=newlink. After -- no
 option follows, but a FILE, whose name may begin with -.
 
-Status 0: the capture is legal, and its lines are written. 2: a fault, which
-standard error names with its offset in bytes; the lines before it are
+Status 0: the capture is legal, and its lines are written. 2: the capture has
+a fault, which standard error names with its offset in bytes, or a file can't
+be opened, read or written, or memory ran out; the lines before it are
 written. 3: a usage error.
 
 Example, the links of this network namespace:
@@ -84,9 +86,9 @@ pub fn cause(kind: ErrorKind) -> &'static str
         ErrorKind::NotFound => "no such file",
         ErrorKind::PermissionDenied => "permission denied",
         ErrorKind::IsADirectory => "it is a directory",
-        ErrorKind::NotADirectory => "a part of the path is no directory",
-        ErrorKind::FilesystemLoop => "too many links to follow",
-        ErrorKind::InvalidFilename | ErrorKind::InvalidInput => "no name of a file",
+        ErrorKind::NotADirectory => "a part of the path is not a directory",
+        ErrorKind::FilesystemLoop => "too many symbolic links",
+        ErrorKind::InvalidFilename | ErrorKind::InvalidInput => "not a valid file name",
         ErrorKind::OutOfMemory => "no memory",
         _ => "it can't be opened",
     }

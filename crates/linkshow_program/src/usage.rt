@@ -18,7 +18,7 @@ pub(crate) fn report_usage<E: Sink>(errors: &mut E, error: UsageError<'_>) -> bo
     match error {
         UsageError::Usage => report_text(errors, USAGE),
         UsageError::InvalidLimit(word) => {
-            let text = "linkshow: --limit: no number from 16 to 4294967295: ";
+            let text = "linkshow: --limit: not a number from 16 to 4294967295: ";
             report_texts(errors, &[text, word, "\n"])
         }
         UsageError::UnknownType(word) => {

@@ -39,7 +39,7 @@ end
 
 # ---- lists, by tools/completion.py
 complete -c linkshow -l only -x -a '(__linkcap_types)' -d "show only messages of these types, by name or number"
-complete -c linkshow -l link -x -d "show only messages about this link, by name or index"
+complete -c linkshow -l link -x -d "show only messages about this link, by index, name or alternative name"
 complete -c linkshow -l without -x -a '(__linkcap_groups)' -d "leave out these attributes, by name, and these groups"
 complete -c linkshow -l without-numbers -d "leave out sequence numbers and netlink port IDs, which change from run to run"
 complete -c linkshow -l offsets -d "show each message's offset in bytes"

@@ -4,7 +4,7 @@
 # ---- lists, by tools/completion.py
 local -a _linkcap_options_linkshow=(
     --only"[show only messages of these types, by name or number]:only:_linkcap_types"
-    --link"[show only messages about this link, by name or index]:link:"
+    --link"[show only messages about this link, by index, name or alternative name]:link:"
     --without"[leave out these attributes, by name, and these groups]:without:_linkcap_groups"
     --without-numbers"[leave out sequence numbers and netlink port IDs, which change from run to run]"
     --offsets"[show each message's offset in bytes]"

@@ -144,7 +144,7 @@ def attributes(data, offset, end):
 
 
 def route_socket(port=0):
-    """A route socket; with port number 0 the kernel chooses one."""
+    """A route socket; the kernel chooses its port ID if that is 0."""
     route = socket.socket(socket.AF_NETLINK, socket.SOCK_RAW, socket.NETLINK_ROUTE)
     route.setsockopt(socket.SOL_SOCKET, socket.SO_RCVBUF, 8 << 20)
     route.bind((port, 0))

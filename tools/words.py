@@ -8,6 +8,7 @@ which include scripts without a suffix whose first line names python3. It skips 
 comment `words: ok` exempts its line, for a word that programs print. The exit status is 1 if anything is listed. `--count`
 prints the number of lines only.
 """
+import argparse
 import ast
 import os
 import re
@@ -82,8 +83,11 @@ def prose(path, text):
 
 
 def main():
-    paths = [path for path in sys.argv[1:] if path != "--count"]
-    files = subprocess.run(["git", "ls-files", *paths], stdout=subprocess.PIPE, text=True, check=True).stdout.split("\n")
+    parser = argparse.ArgumentParser(description=__doc__, formatter_class=argparse.RawDescriptionHelpFormatter)
+    parser.add_argument("--count", action="store_true")
+    parser.add_argument("paths", nargs="*", metavar="PATH")
+    options = parser.parse_args()
+    files = subprocess.run(["git", "ls-files", "--", *options.paths], stdout=subprocess.PIPE, text=True, check=True).stdout.split("\n")
     counts, lines = {}, 0
     for path in files:
         if not path or path.startswith((".ci/", "crates/vectors/std")) or path.endswith((".bin", ".lines", ".tsv", ".patch", ".edit", ".txt", "LICENSE")):
@@ -100,7 +104,7 @@ def main():
                 lines += 1
                 end = os.path.splitext(path)[1] or "without a suffix"
                 counts[end] = counts.get(end, 0) + 1
-                if "--count" not in sys.argv:
+                if not options.count:
                     print("%s:%d: %s" % (path, number, "; ".join("'%s' -> %s" % h for h in hits)))
     print("%d lines%s" % (lines, "" if not counts else ": " + ", ".join("%s %d" % c for c in sorted(counts.items()))))
     return 1 if lines else 0

@@ -89,7 +89,7 @@ static Bytes take_prefix(const Bytes &capture, size_t length)
     return Bytes(capture.begin(), capture.begin() + length);
 }
 
-// What is written of a capture: its text, its lines, or these without sequence and port numbers.
+// What is written of a capture: its text, its lines, or these without sequence numbers and port IDs.
 static Result normalize(const Bytes &capture, uint32_t limit) { return write_all(capture, make_options(limit)); }
 
 static Result lines(const Bytes &capture, uint32_t limit, uint32_t flags = 0, const char *only = "", const char *without = "")

@@ -79,7 +79,7 @@ enum linkcap_form {
 
 /* Flags of options. */
 enum linkcap_flag {
-    LINKCAP_WITHOUT_NUMBERS = 1, /* without sequence and port numbers */
+    LINKCAP_WITHOUT_NUMBERS = 1, /* without sequence numbers and netlink port IDs */
     LINKCAP_OFFSETS = 2,         /* each message's first line ends with its offset in the capture, in bytes */
     LINKCAP_KEEP_GOING = 4       /* a message with a fault in its body is shown too, in hex, and those after it */
 };
@@ -197,9 +197,9 @@ LINKCAP_STATUS linkcap_check(const uint8_t *capture, size_t length, const struct
 
 /*
  * Whether two captures mean the same, which is if and only if their normal texts are equal. It uses the limit, and the flag
- * LINKCAP_WITHOUT_NUMBERS: with it the sequence and port number of each message, and those of the request's header that an
- * NLMSG_ERROR repeats, are zeroed before. They change from run to run. With this flag, two legal captures mean the same if
- * and only if their lines that are written with it are equal.
+ * LINKCAP_WITHOUT_NUMBERS: with it the sequence number and the netlink port ID of each message, and those of the request's
+ * header that an NLMSG_ERROR repeats, are zeroed before. They change from run to run. With this flag, two legal captures
+ * mean the same if and only if their lines that are written with it are equal.
  *
  * LINKCAP_OK           both are legal, and mean the same.
  * LINKCAP_DIFFERENT    both are legal, and don't.

@@ -36,7 +36,7 @@
 static inline enum linkcap_status linkcap_golden_with(const uint8_t *capture, size_t length, const char *path,
                                                       const struct linkcap_options *options);
 
-/* The same, of all lines without sequence and port numbers, which change from run to run. */
+/* The same, of all lines without sequence numbers and netlink port IDs, which change from run to run. */
 static inline enum linkcap_status linkcap_golden(const uint8_t *capture, size_t length, const char *path)
 {
     struct linkcap_options options = {{NULL, 0}, {NULL, 0}, {NULL, 0}, 0, LINKCAP_WITHOUT_NUMBERS, LINKCAP_LINES, 0};

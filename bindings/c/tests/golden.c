@@ -200,7 +200,7 @@ static void test_faults(void)
     expect(LINKCAP_FAULT, "linkcap: refused body at 0: IFLA_MTU: a payload of 3 bytes at 32\n", capture, SIZE, "a.lines", NULL);
 }
 
-/* Files that linkshow wrote have sequence and port numbers, and no head. */
+/* Files that linkshow wrote have sequence numbers and port IDs, and no head. */
 static void test_lines_of_linkshow(void)
 {
     static uint8_t capture[1 << 16];

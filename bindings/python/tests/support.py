@@ -46,7 +46,7 @@ def deep_captures() -> List[Tuple[bytes, str]]:
 
 
 def clear_numbers(capture: bytes) -> bytes:
-    """A legal capture in which the sequence and port numbers are zero: those of each message (netlink.h, struct nlmsghdr), and
+    """A legal capture in which sequence numbers and port IDs are zero: those of each message (netlink.h, struct nlmsghdr), and
     of the header that an NLMSG_ERROR of 36 bytes or more repeats after its code (struct nlmsgerr)."""
     out, at = bytearray(capture), 0
     while at < len(out):

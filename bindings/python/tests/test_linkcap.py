@@ -378,7 +378,7 @@ class Edges(unittest.TestCase):
                 is_same = linkcap.same(capture, other, numbers=False)
             except linkcap.Fault:
                 continue
-            # netlink.h, struct nlmsghdr: the sequence and the port number are the bytes 8 to 16
+            # netlink.h, struct nlmsghdr: the sequence number and the port ID are the bytes 8 to 16
             self.assertEqual(is_same, 8 <= at < 16 or linkcap.same(capture, other), at)
             self.assertEqual(is_same, linkcap.lines(capture, numbers=False) == linkcap.lines(other, numbers=False))
         with self.assertRaises(linkcap.Fault) as raised:

@@ -81,7 +81,7 @@ fn equal_and_different() {
     assert_eq!(default_failure(&new_link(2), &path), expected);
 }
 
-/// Files that linkshow wrote have sequence and port numbers, and no head.
+/// Files that linkshow wrote have sequence numbers and port IDs, and no head.
 #[test]
 fn lines_of_linkshow() {
     for name in ["get-veth", "lo-request", "notify-vrf", "req-veth"] {

@@ -15,7 +15,10 @@ BYTES = [0, 0, 1, 2, 127, 255]
 TABLE_ROWS = {}
 for (_table, _kind), (_, _style) in linkshow.RAW_ROWS.items():
     TABLE_ROWS.setdefault(_table, []).append((_kind, _style))
-ENCAPSULATIONS = sorted(table for table in TABLE_ROWS if table.startswith("encap "))
+# A set of choices -> pairs of the payload of the attribute that chooses, and the format of the chosen payload
+CHOICES = {}
+for (_choice, _word), _style in linkshow.CHOICES.items():
+    CHOICES.setdefault(_choice, []).append((_word, _style))
 # Sizes of payloads of formats without a parameter
 SIZES = {"bytes": [0, 1, 5], "hardware_address": [6], "address": [4, 16], "bridge_id": [8], "label_stack": [4, 8],
          "port_range": [4], "presence": [0], "short_number": [4, 8]}
@@ -46,7 +49,6 @@ def next_hops(rng, table, depth):
 # Payloads of formats of several lines, from their parameters
 BLOCKS = {
     "list": lambda rng, depth, table: attributes(rng, table, depth),
-    "encapsulation": lambda rng, depth, kind: attributes(rng, rng.choice(ENCAPSULATIONS), depth),
     "record_and_list": lambda rng, depth, name, table: record(rng, name) + attributes(rng, table, depth),
     "records": lambda rng, depth, name: b"".join(record(rng, name) for _ in range(rng.randrange(3))),
     "next_hops": lambda rng, depth, table: next_hops(rng, table, depth),
@@ -80,16 +82,17 @@ def spoil(rng, data):
 
 def attributes(rng, table, depth=0):
     """Some attributes of a table, in any order, each with its own payload."""
-    if depth > DEEPEST:
+    if depth > DEEPEST or table not in TABLE_ROWS:      # no_options, of ingress, has no rows
         return b""
     out = b""
     for _ in range(rng.randrange(MOST_ROWS)):
         kind, style = rng.choice(TABLE_ROWS[table])
         kind = rng.randrange(40) if kind == linkshow.ANY else kind
+        if style.startswith("chosen"):
+            _, choice, chooser = style.split(" ")
+            word, style = rng.choice(CHOICES[choice])
+            out += attribute(int(chooser), word)
         out += attribute(kind | rng.choice(FLAG_BITS), spoil(rng, payload(rng, style, depth)))
-        if style.startswith("encapsulation"):
-            encapsulation = int(rng.choice(ENCAPSULATIONS).split(" ")[1])
-            out += attribute(int(style.split(" ")[1]), encapsulation.to_bytes(2, "little"))
     return out
 
 

@@ -39,11 +39,11 @@ end
 
 # ---- lists, by tools/completion.py
 complete -c linkshow -l only -x -a '(__linkcap_types)' -d "show only messages of these types, by name or number"
-complete -c linkshow -l link -x -d "show only messages about this link, by index, name or alternative name"
+complete -c linkshow -l link -x -d "show only messages about this link, by its index, its name or an alternative name"
 complete -c linkshow -l without -x -a '(__linkcap_groups)' -d "leave out these attributes, by name, and these groups"
 complete -c linkshow -l without-numbers -d "leave out sequence numbers and netlink port IDs, which change from run to run"
 complete -c linkshow -l offsets -d "show each message's offset in bytes"
-complete -c linkshow -l keep-going -d "show messages with a fault in their body too, with the reason, and the messages after them"
+complete -c linkshow -l keep-going -d "show messages with an invalid body too, in hex and with the reason, and the messages after them"
 complete -c linkshow -l json -d "write an object of JSON for each message, a line each"
 complete -c linkshow -l limit -x -d "the greatest length of a message in bytes, from 16 to 4294967295"
 complete -c linkshow -l kernels -d "first note on standard error each encoding that kernels treat differently from its normal text"

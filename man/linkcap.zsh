@@ -4,11 +4,11 @@
 # ---- lists, by tools/completion.py
 local -a _linkcap_options_linkshow=(
     --only"[show only messages of these types, by name or number]:only:_linkcap_types"
-    --link"[show only messages about this link, by index, name or alternative name]:link:"
+    --link"[show only messages about this link, by its index, its name or an alternative name]:link:"
     --without"[leave out these attributes, by name, and these groups]:without:_linkcap_groups"
     --without-numbers"[leave out sequence numbers and netlink port IDs, which change from run to run]"
     --offsets"[show each message's offset in bytes]"
-    --keep-going"[show messages with a fault in their body too, with the reason, and the messages after them]"
+    --keep-going"[show messages with an invalid body too, in hex and with the reason, and the messages after them]"
     --json"[write an object of JSON for each message, a line each]"
     --limit"[the greatest length of a message in bytes, from 16 to 4294967295]:limit:"
     --kernels"[first note on standard error each encoding that kernels treat differently from its normal text]"

@@ -76,6 +76,12 @@ compare_results() {
     [ -s "$work/$kind.cases" ] && "$@" "$call" < "$work/$kind.cases" | cmp - "$work/$kind.results"
 }
 
+# compare_attributes PROGRAM..: compares the attributes of the cases of `norm` with those of the independent implementation
+compare_attributes() {
+    python3 tools/oracle/attributes.py < "$work/norm.cases" > "$work/attributes" || return
+    [ -s "$work/attributes" ] && "$@" attributes < "$work/norm.cases" | cmp - "$work/attributes"
+}
+
 # compare_all_results NAME PROGRAM..: the same of all calls
 compare_all_results() {
     local name=$1
@@ -87,6 +93,7 @@ compare_all_results() {
     step "C, $name: show in pieces" compare_results show-pieces show "$@"
     step "C, $name: quirks" compare_results quirks spelling "$@"
     step "C, $name: why" compare_results why refusal "$@"
+    if has python3; then step "C, $name: attributes" compare_attributes "$@"; else skip "C, $name: attributes" "no python3"; fi
 }
 
 exports_only_linkcap() {
@@ -130,7 +137,7 @@ header_in_c() {
 header_in_cxx() {
     local standard
     printf '#include <linkcap.h>\nlinkcap_options options;\nlinkcap_sizes sizes;\nlinkcap_progress progress;\n' > "$work/header.cc"
-    printf 'linkcap_message message;\nint main() { return linkcap_version() != LINKCAP_VERSION; }\n' >> "$work/header.cc"
+    printf 'linkcap_message message;\nlinkcap_attribute attribute;\nint main() { return linkcap_version() != LINKCAP_VERSION; }\n' >> "$work/header.cc"
     for standard in c++98 c++11 c++14 c++17 c++20; do
         "$cxx" "-std=$standard" -Wall -Wextra -Wpedantic -Wconversion -Werror -fsyntax-only -I "$lib" "$work/header.cc" || return
     done
@@ -161,6 +168,12 @@ golden_of_the_page() {
     env -C "$work/page" "$work/request" 2> "$work/report"
     [ $? -eq 1 ] && [ "$(grep '^[-+] ' "$work/report")" = $'-  IFLA_MTU 1400\n+  IFLA_MTU 1450' ] || return
     env -C "$work/page" LINKCAP_UPDATE=1 "$work/request" && cmp "$lines" "$work/page/$lines"
+}
+
+# The example of attributes of the page.
+attributes_of_the_page() {
+    "$cc" -std=c11 -Wall -Wextra -pedantic -Werror -I "$lib" -o "$work/vxlan" bindings/c/tests/vxlan.c "$lib/liblinkcap.a" || return
+    [ "$("$work/vxlan" 10 < samples/kinds/req-vxlan.bin)" = true ] && [ "$("$work/vxlan" 9 < samples/kinds/req-vxlan.bin)" = false ]
 }
 
 # The example of linkcap(3), in a program.
@@ -258,6 +271,7 @@ test_c() {
     step "C: the edges, with short enums" short_enums_in_c
     step "C: the page" page_in_c
     step "C: the golden test of the page" golden_of_the_page
+    step "C: the attributes of the page" attributes_of_the_page
     step "C: the manual" manual_in_c
     if ! has pkg-config; then
         skip "C: installed" "no pkg-config"

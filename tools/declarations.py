@@ -27,15 +27,16 @@ from layers import TOP  # noqa: E402
 
 RUST, PYTHON = "rust/src", "python"
 #: what a package doesn't declare
+ATTRIBUTES = {"LINKCAP_NAME_ROOM", "linkcap_attribute", "linkcap_next_attribute"}  # both read attributes from lines
 UNUSED = {
-    RUST: {"LINKCAP_FORMAT", "LINKCAP_WRONG", "LINKCAP_NO_MEMORY", "LINKCAP_MEMORY", "LINKCAP_READ", "LINKCAP_WRITE",
+    RUST: ATTRIBUTES | {"LINKCAP_FORMAT", "LINKCAP_WRONG", "LINKCAP_NO_MEMORY", "LINKCAP_MEMORY", "LINKCAP_READ", "LINKCAP_WRITE",
            "LINKCAP_TOO_LONG", "LINKCAP_FAILED"},
-    PYTHON: {"LINKCAP_FORMAT"},
+    PYTHON: ATTRIBUTES | {"LINKCAP_FORMAT"},
 }
 PREFIX = "LINKCAP_"
 COMMENT = re.compile(r"/\*.*?\*/|//[^\n]*", re.DOTALL)
 ENUM = re.compile(r"enum \w+ \{(.*?)\}", re.DOTALL)
-PARAMETER = re.compile(r"(.*[ *])(\w+)")
+PARAMETER = re.compile(r"(.*[ *])(\w+)(\[\w+\])?")
 #: how linkcap.h declares a status
 STATUS = "LINKCAP_STATUS"
 RUST_TYPES = {"c_char": "char", "u8": "uint8_t", "u32": "uint32_t", "u64": "uint64_t", "usize": "size_t"}
@@ -58,8 +59,8 @@ class Declarations(NamedTuple):
 
 def declared_in_c(text):
     """A name and a type, from a parameter or a field of C."""
-    before, name = PARAMETER.fullmatch(" ".join(text.split())).groups()
-    return name, before.strip().replace(" *", "*")
+    before, name, array = PARAMETER.fullmatch(" ".join(text.split())).groups(default="")
+    return name, before.strip().replace(" *", "*") + array
 
 
 def enumerated(body):

@@ -6,6 +6,7 @@
 #include <algorithm>
 #include <cstdio>
 #include <cstdlib>
+#include <cstring>
 #include <random>
 
 static const Bytes *input;
@@ -122,10 +123,29 @@ static void check_legal(const Bytes &capture, uint32_t limit, const linkcap_size
     LAW(compare(capture, text, limit, LINKCAP_WITHOUT_NUMBERS) == LINKCAP_OK);
 }
 
-// Iteration yields as many messages as `check` counts, and ends at the capture's first fault.
+// Iteration over the attributes of a legal message yields what their headers in the capture say, in order. Returns their number.
+static uint64_t check_attributes(const Bytes &capture, uint32_t limit, uint64_t start, uint64_t end)
+{
+    uint64_t position = start, count = 0;
+    Attribute next;
+    while ((next = next_attribute(capture, make_options(limit), start, position)).status == LINKCAP_OK) {
+        const linkcap_attribute &found = next.attribute;
+        LAW(found.offset >= position && found.payload == found.offset + 4 && found.depth <= 6);
+        LAW(found.payload <= end && found.length <= end - found.payload);
+        LAW(found.length + 4 == uint64_t(capture[found.offset] | capture[found.offset + 1] << 8));
+        LAW((found.type | found.flags) == uint32_t(capture[found.offset + 2] | capture[found.offset + 3] << 8));
+        LAW(memchr(found.name, 0, LINKCAP_NAME_ROOM) && memchr(found.link_kind, 0, LINKCAP_NAME_ROOM));
+        position = found.payload;
+        count++;
+    }
+    LAW(next.status == LINKCAP_NONE);
+    return count;
+}
+
+// Iteration yields as many messages and attributes as `check` counts, and ends at the capture's first fault.
 static void check_messages(const Bytes &capture, uint32_t limit, const Result &text)
 {
-    uint64_t offset = 0;
+    uint64_t offset = 0, attributes = 0;
     size_t from = 0;
     Message next;
     while ((next = next_message(capture, make_options(limit), offset)).status == LINKCAP_OK) {
@@ -136,11 +156,15 @@ static void check_messages(const Bytes &capture, uint32_t limit, const Result &t
         LAW(part.status == LINKCAP_OK && from + part.written.size() <= text.written.size());
         LAW(std::equal(part.written.begin(), part.written.end(), text.written.begin() + from));
         from += part.written.size();
+        attributes += check_attributes(capture, limit, offset, offset + next.message.length);
         offset = next.message.next;
     }
     LAW(from == text.written.size());
     LAW(next.status == (text.status == LINKCAP_OK ? LINKCAP_NONE : LINKCAP_FAULT));
     LAW(text.status == LINKCAP_OK ? offset == capture.size() : is_same_fault(next.fault, text.fault));
+    LAW(next_attribute(capture, make_options(limit), offset, 0).status == next.status);
+    linkcap_sizes sizes = {};
+    LAW(check(capture, make_options(limit), sizes).status != LINKCAP_OK || sizes.attributes == attributes);
     LAW(next_message(capture, make_options(limit), capture.size()).status == LINKCAP_NONE);
 }
 

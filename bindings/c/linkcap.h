@@ -52,6 +52,9 @@ extern "C" {
 /* The size of a buffer for the words of any fault, or of any quirk. They have no null byte at their end. */
 #define LINKCAP_WORDS_ROOM 127
 
+/* The size of an array for a name and the null bytes after it, of which there is at least one. */
+#define LINKCAP_NAME_ROOM 64
+
 /* A compiler warns of a call whose status isn't used. */
 #ifdef __GNUC__
 #define LINKCAP_STATUS __attribute__((warn_unused_result)) enum linkcap_status
@@ -67,7 +70,7 @@ enum linkcap_status {
     LINKCAP_WRONG = 3,     /* options, a piece or a finding that isn't valid; nothing was written */
     LINKCAP_NO_ROOM = 4,   /* the buffer is too small for what is to be written */
     LINKCAP_NO_MEMORY = 5, /* out of memory */
-    LINKCAP_NONE = 6       /* there is no further message, no refused body, or no unknown word */
+    LINKCAP_NONE = 6       /* there is no further message or attribute, no refused body, or no unknown word */
 };
 
 /* What linkcap_write writes of a capture. */
@@ -185,6 +188,19 @@ struct linkcap_message {
     uint32_t type;   /* its nlmsg_type */
 };
 
+/* An attribute of a link message. An array for a name that isn't there has only null bytes. */
+struct linkcap_attribute {
+    uint64_t offset;                   /* of its header, in bytes from the capture's start */
+    uint64_t payload;                  /* the offset of its payload, from which on the next attribute is found */
+    uint64_t length;                   /* of its payload, in bytes */
+    uint32_t type;                     /* its nla_type, without flag bits */
+    uint32_t flags;                    /* the flag bits of its nla_type: NLA_F_NESTED and NLA_F_NET_BYTEORDER */
+    uint32_t depth;                    /* the number of attributes that it is inside, from 0 to 6 */
+    char name[LINKCAP_NAME_ROOM];      /* its name in the kernel's headers, as "IFLA_VXLAN_ID" */
+    char link_kind[LINKCAP_NAME_ROOM]; /* the link kind, or kind of port, whose data it holds or is in, as "vxlan": at most its
+                                          first 63 bytes */
+};
+
 /*
  * Whether a capture is legal, and its sizes. It uses the limit.
  *
@@ -251,6 +267,26 @@ LINKCAP_STATUS linkcap_write(const struct linkcap_options *options, const struct
  */
 LINKCAP_STATUS linkcap_next_message(const uint8_t *capture, size_t length, const struct linkcap_options *options,
                                     uint64_t offset, struct linkcap_message *message, struct linkcap_finding *fault);
+
+/*
+ * The first attribute at a position or after it, of the link message that starts at the offset `message`, which is 0 or the
+ * `next` of the message before it. Attributes come at all depths in the order of their bytes, each before those in it. For the
+ * first one, the position is `message`, and for the one after an attribute it is the attribute's `payload`. Attributes are
+ * nested as the rows of docs/format/rows.md say; what is in raw attributes isn't returned. Nothing is kept between calls. The
+ * time that a call takes is in proportion to the message's length. It uses the limit.
+ *
+ * LINKCAP_OK           *attribute has it. The message is legal.
+ * LINKCAP_FAULT        the message has a fault. *attribute is unchanged.
+ * LINKCAP_WRONG        options that aren't valid. *attribute is unchanged.
+ * LINKCAP_NONE         there is none: all were returned, the message is of another type than those of links, or its offset is the
+ *                      capture's length, or greater. *attribute is unchanged.
+ *
+ *     for (position = offset; linkcap_next_attribute(capture, length, &options, offset, position, &attribute, &fault)
+ *          == LINKCAP_OK; position = attribute.payload)
+ */
+LINKCAP_STATUS linkcap_next_attribute(const uint8_t *capture, size_t length, const struct linkcap_options *options,
+                                      uint64_t message, uint64_t position, struct linkcap_attribute *attribute,
+                                      struct linkcap_finding *fault);
 
 /*
  * Writes each quirk of a capture, in the order of the bytes, to the array quirks, which has space for `room` of them, and

@@ -132,6 +132,7 @@ static void test_nothing(void)
         struct linkcap_finding fault = {7, 7, 7};
         struct linkcap_sizes sizes = {7, 7, 7, 7};
         struct linkcap_message message = {7, 7, 7};
+        struct linkcap_attribute attribute = {.payload = 7};
         uint64_t count = 7, offset = 7;
         assert(linkcap_check(at, 0, &texts, &sizes, &fault) == LINKCAP_OK);
         assert(sizes.frames == 0 && sizes.attributes == 0 && sizes.text_low == 0 && sizes.text_high == 0);
@@ -143,6 +144,7 @@ static void test_nothing(void)
             assert(linkcap_write(&options, &piece, at, 0, &progress, &fault) == LINKCAP_OK && has_come(&progress, 0, 0, 0));
         }
         assert(linkcap_next_message(at, 0, &texts, 0, &message, &fault) == LINKCAP_NONE && message.next == 7);
+        assert(linkcap_next_attribute(at, 0, &texts, 0, 0, &attribute, &fault) == LINKCAP_NONE && attribute.payload == 7);
         assert(linkcap_quirks(at, 0, &texts, NULL, 0, &count, &fault) == LINKCAP_OK && count == 0);
         struct linkcap_piece piece = {at, 0, 9, 0, 0};
         assert(linkcap_why(&texts, &piece, at, 0, &count, &offset) == LINKCAP_NONE && count == 0 && offset == UINT64_MAX);
@@ -181,6 +183,7 @@ static void expect_wrong(const struct linkcap_options *options, struct bytes cap
     struct linkcap_finding fault = {7, 7, 7}, quirks[2];
     struct linkcap_sizes sizes = {7, 7, 7, 7};
     struct linkcap_message message = {7, 7, 7};
+    struct linkcap_attribute attribute = {.payload = 7, .name = "x"};
     struct linkcap_progress progress = {7, 7, 7};
     uint64_t length = 7, offset = 7;
     memset(out, UNTOUCHED, sizeof out);
@@ -189,6 +192,8 @@ static void expect_wrong(const struct linkcap_options *options, struct bytes cap
     assert(linkcap_same(capture.at, capture.length, NULL, 0, options, &fault) == LINKCAP_WRONG);
     assert(write_whole(options, capture, out, sizeof out, &progress, &fault) == LINKCAP_WRONG);
     assert(linkcap_next_message(capture.at, capture.length, options, 0, &message, &fault) == LINKCAP_WRONG);
+    assert(linkcap_next_attribute(capture.at, capture.length, options, 0, 0, &attribute, &fault) == LINKCAP_WRONG);
+    assert(attribute.payload == 7 && attribute.name[0] == 'x');
     assert(linkcap_quirks(capture.at, capture.length, options, quirks, 2, &length, &fault) == LINKCAP_WRONG);
     struct linkcap_piece piece = {capture.at, capture.length, 0, 1, 0};
     assert(linkcap_why(options, &piece, out, sizeof out, &length, &offset) == LINKCAP_WRONG);
@@ -605,14 +610,62 @@ static void test_allocate_nothing(struct bytes capture)
     struct linkcap_finding fault;
     struct linkcap_sizes sizes;
     struct linkcap_message message;
+    struct linkcap_attribute attribute;
     uint64_t count;
     requests = 0;
     assert(linkcap_check(capture.at, capture.length, &show_link, &sizes, &fault) == LINKCAP_OK);
     assert(linkcap_next_message(capture.at, capture.length, &show_link, 0, &message, &fault) == LINKCAP_OK);
+    assert(linkcap_next_attribute(capture.at, capture.length, &show_link, 0, 0, &attribute, &fault) == LINKCAP_OK);
     assert(linkcap_quirks(capture.at, capture.length, &show_link, NULL, 0, &count, &fault) == LINKCAP_OK && count == 0);
     assert(linkcap_same(capture.at, capture.length, capture.at, capture.length, &texts, &fault) == LINKCAP_OK);
     assert(linkcap_same(capture.at, capture.length, capture.at, capture.length, &show_all, &fault) == LINKCAP_OK);
     assert(requests == 0);
+}
+
+/* RTM_NEWLINK: an IFLA_LINKINFO with an IFLA_INFO_KIND "vxlan" and an IFLA_INFO_DATA, in which there are an IFLA_VXLAN_ID and an
+ * attribute of a type without a name. NLMSG_NOOP. RTM_GETLINK without an ifinfomsg. */
+static const uint8_t nested[] = {
+    68, 0, 0, 0, 16, 0, 0, 0, 0, 0, 0, 0, 0, 0, 0, 0, 0, 0, 0, 0, 0, 0, 0, 0, 0, 0, 0, 0, 0, 0, 0, 0,
+    36, 0, 18, 0x80, 10, 0, 1, 0, 'v', 'x', 'l', 'a', 'n', 0, 0, 0, 20, 0, 2, 0x80, 8, 0, 1, 0, 10, 0, 0, 0, 8, 0, 0xff, 0x7f, 1, 2, 3, 4,
+    16, 0, 0, 0, 1, 0, 0, 0, 0, 0, 0, 0, 0, 0, 0, 0,
+    16, 0, 0, 0, 18, 0, 0, 0, 0, 0, 0, 0, 0, 0, 0, 0,
+};
+
+static int is_attribute(const struct linkcap_attribute *a, const struct linkcap_attribute *b)
+{
+    return a->offset == b->offset && a->payload == b->payload && a->length == b->length && a->type == b->type
+           && a->flags == b->flags && a->depth == b->depth && memcmp(a->name, b->name, sizeof a->name) == 0
+           && memcmp(a->link_kind, b->link_kind, sizeof a->link_kind) == 0;
+}
+
+/* Attributes at all depths, from each position on; and the ends of walks. */
+static void test_attributes(void)
+{
+    static const struct linkcap_attribute all[] = {
+        {32, 36, 32, 18, 0x8000, 0, "IFLA_LINKINFO", ""},
+        {36, 40, 6, 1, 0, 1, "IFLA_INFO_KIND", ""},
+        {48, 52, 16, 2, 0x8000, 1, "IFLA_INFO_DATA", "vxlan"},
+        {52, 56, 4, 1, 0, 2, "IFLA_VXLAN_ID", "vxlan"},
+        {60, 64, 4, 0x3fff, 0x4000, 2, "", "vxlan"},
+    };
+    struct linkcap_finding fault = {7, 7, 7};
+    struct linkcap_attribute found;
+    size_t next = 0, count = sizeof all / sizeof *all;
+    for (uint64_t position = 0; position < 80; position++) {
+        next += next < count && all[next].offset < position;
+        memset(&found, UNTOUCHED, sizeof found);
+        enum linkcap_status status = linkcap_next_attribute(nested, sizeof nested, &texts, 0, position, &found, &fault);
+        assert(status == (next < count ? LINKCAP_OK : LINKCAP_NONE));
+        assert(next < count ? is_attribute(&found, &all[next]) : is_untouched(&found, &found + 1));
+        assert(is_at(&fault, 7, 7, 7));
+    }
+    assert(linkcap_next_attribute(nested, sizeof nested, &texts, 0, UINT64_MAX, &found, &fault) == LINKCAP_NONE);
+    assert(linkcap_next_attribute(nested, sizeof nested, &texts, 68, 0, &found, &fault) == LINKCAP_NONE);
+    assert(linkcap_next_attribute(nested, sizeof nested, &texts, sizeof nested, 0, &found, &fault) == LINKCAP_NONE);
+    assert(linkcap_next_attribute(nested, sizeof nested, &texts, UINT64_MAX, 0, &found, &fault) == LINKCAP_NONE);
+    assert(is_at(&fault, 7, 7, 7));
+    assert(linkcap_next_attribute(nested, sizeof nested, &texts, 84, 0, &found, &fault) == LINKCAP_FAULT);
+    assert(is_at(&fault, LINKCAP_REFUSED, 0, 84) && is_untouched(&found, &found + 1));
 }
 
 struct work {
@@ -751,6 +804,7 @@ int main(int argc, char **argv)
     test_words();
     failures += test_why();
     test_quirks();
+    test_attributes();
     test_numbers();
     failures += test_selection();
     test_selected_pieces();

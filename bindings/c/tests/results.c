@@ -2,10 +2,11 @@
  * Prints the results of stored cases of one kind, as the program vectors does. It reads a case from each line of standard
  * input, without the word of the kind:
  *
- *     sed -n 's/^norm //p' crates/vectors/stdin | results norm|pieces|same|show|show-pieces|why|quirks
+ *     sed -n 's/^norm //p' crates/vectors/stdin | results norm|pieces|same|show|show-pieces|why|quirks|attributes
  *
  * `pieces` and `show-pieces` pass captures in pieces of 1, 7 and 100 bytes, in turn, and print what `norm` and `show`
- * print. `why` takes cases of the kind `refusal`, and `quirks` of the kind `spelling`.
+ * print. `why` takes cases of the kind `refusal`, `quirks` of the kind `spelling`, and `attributes` of any kind that has
+ * a limit and a capture; it prints what tools/oracle/attributes.py does.
  */
 #include <inttypes.h>
 #include <stdbool.h>
@@ -275,6 +276,58 @@ static void run_quirks(struct bytes capture, const struct linkcap_options *optio
     free(quirks);
 }
 
+static const char *name_or_dash(const char name[LINKCAP_NAME_ROOM])
+{
+    if (!memchr(name, 0, LINKCAP_NAME_ROOM))
+        fail("a name without a null byte at its end");
+    return *name ? name : "-";
+}
+
+/* Checks that an attribute is what its header in the capture says, and is at `position` or after it; and prints it. */
+static void print_attribute(struct bytes capture, uint64_t position, const struct linkcap_attribute *attribute)
+{
+    if (attribute->offset < position || attribute->payload != attribute->offset + 4
+        || attribute->payload + attribute->length > capture.length)
+        fail("an attribute elsewhere");
+    const uint8_t *header = capture.at + attribute->offset;
+    if (attribute->length + 4 != (header[0] | (uint32_t)header[1] << 8)
+        || (attribute->type | attribute->flags) != (header[2] | (uint32_t)header[3] << 8))
+        fail("an attribute with another header");
+    printf("%" PRIu64 " %" PRIu64 " 0x%" PRIx32 " 0x%" PRIx32 " %" PRIu32 " %s %s\n", attribute->offset, attribute->length,
+           attribute->type, attribute->flags, attribute->depth, name_or_dash(attribute->name),
+           name_or_dash(attribute->link_kind));
+}
+
+/* Prints the attributes of each message, a line each, and then `legal` or the fault. */
+static void run_attributes(struct bytes capture, const struct linkcap_options *options)
+{
+    enum linkcap_status status, last;
+    struct linkcap_message message;
+    struct linkcap_attribute attribute;
+    struct linkcap_finding fault;
+    struct linkcap_sizes sizes;
+    uint64_t offset = 0, position, count = 0;
+    for (; (status = linkcap_next_message(capture.at, capture.length, options, offset, &message, &fault)) == LINKCAP_OK;
+         offset = message.next) {
+        for (position = offset; (last = linkcap_next_attribute(capture.at, capture.length, options, offset, position, &attribute,
+                                                               &fault)) == LINKCAP_OK; position = attribute.payload) {
+            print_attribute(capture, position, &attribute);
+            count++;
+        }
+        if (last != LINKCAP_NONE)
+            fail("a legal message, and its attributes don't end");
+    }
+    if (linkcap_next_attribute(capture.at, capture.length, options, offset, 0, &attribute, &fault) != status)
+        fail("another answer for attributes than for messages");
+    if (linkcap_check(capture.at, capture.length, options, &sizes, &fault) == LINKCAP_OK && sizes.attributes != count)
+        fail("another number of attributes than the check's");
+    if (status == LINKCAP_FAULT)
+        print_words(&fault);
+    else
+        printf("legal");
+    printf("\n");
+}
+
 int main(int argc, char **argv)
 {
     static const size_t sizes[] = {1, 7, 100};
@@ -300,13 +353,15 @@ int main(int argc, char **argv)
             run_quirks(capture, &options);
         } else if (strcmp(mode, "why") == 0) {
             run_why(capture, &options);
+        } else if (strcmp(mode, "attributes") == 0) {
+            run_attributes(capture, &options);
         } else if (strcmp(mode, "same") == 0) {
             word++;
             struct bytes other = read_hex(&word);
             run_same(capture, other, &options);
             free(other.at);
         } else {
-            fail("norm, pieces, same, show, show-pieces, why or quirks?");
+            fail("norm, pieces, same, show, show-pieces, why, quirks or attributes?");
         }
         free(capture.at);
     }

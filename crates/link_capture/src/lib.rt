@@ -13,6 +13,10 @@ mod types;
 
 pub use fault::RouteFault;
 pub use frames::read_message;
+pub use link_capture_attributes::laws::{
+    attributes_are_apart, attributes_are_where_they_say, next_is_from_payload,
+};
+pub use link_capture_attributes::{AttributeAt, attribute_from};
 pub use link_capture_checks::{Measure, SideFault, check, measure, normal_len, same};
 pub use link_capture_commands::{Command, DEFAULT_LIMIT, read_words, status_norm, status_same};
 pub use link_capture_comparing::{read_to_end, same_sources};

@@ -13,3 +13,4 @@ mod walk;
 pub use capture::{why, why_frame};
 pub use reason::Reason;
 pub use refusal::{Refusal, separator_after_name};
+pub use tables::{Inside, ListTable, list_rest, next_list, row_in, whole};

@@ -9,6 +9,7 @@ ghost use Rattle.link_tables.specs.Rows.{form_of};
 ghost use Rattle.link_capture_checks.specs.Listings.{listing};
 ghost use Rattle.link_capture_refusals.specs.RefusalTables.{IsLower, data_rows, find, info_inside, info_row, inside_of};
 ghost use Rattle.link_capture_refusals.specs.RefusalTables.{message_rows, row_in, table_row, table_rows, whole};
+ghost use Rattle.link_capture_refusals.specs.Refusals.{list_rest};
 ghost use Rattle.link_capture_refusals.specs.RowRules.{following};
 
 use crate::names::{find, rows_at, text_of};
@@ -167,4 +168,14 @@ pub fn next_list<'a>(
         return list;
     }
     list.after_info(kind % KIND_BOUND, payload)
+}
+
+/// Returns the bytes with which a list continues after an attribute.
+pub fn list_rest(form: Form, after: &[u8]) -> &[u8]
+    ensures { result.now ≡ list_rest form after.now }
+{
+    match form {
+        Form::FirstOnly => &[],
+        Form::Any | Form::NonEmpty | Form::OfKindOne | Form::Ports => after,
+    }
 }

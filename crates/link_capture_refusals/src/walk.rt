@@ -8,7 +8,7 @@ ghost use Rattle.link_capture_refusals.specs.ReasonTexts.{shape_reason};
 ghost use Rattle.link_capture_checks.specs.Listings.{listing};
 ghost use Rattle.link_capture_refusals.specs.RefusalTables.{depth, inside_depth};
 ghost use Rattle.link_capture_refusals.specs.RowRules.{inside_rule, peer_of};
-ghost use Rattle.link_capture_refusals.specs.Refusals.{attribute_refusal, found_at, list_rest, inside_refusal, link_refusal};
+ghost use Rattle.link_capture_refusals.specs.Refusals.{attribute_refusal, found_at, inside_refusal, link_refusal};
 ghost use Rattle.link_capture_refusals.specs.Refusals.{list_refusal, no_attribute, peer_refusal, whole_refusal};
 ghost use Rattle.link_capture_refusals.specs.RefusalViews.{all_found};
 
@@ -17,7 +17,7 @@ use crate::laws::{
 };
 use crate::reason::{Reason, shape_reason};
 use crate::refusal::Refusal;
-use crate::tables::{Inside, ListTable, is_kept, next_list, row_in, whole};
+use crate::tables::{Inside, ListTable, is_kept, list_rest, next_list, row_in, whole};
 use attribute_tables_grammar::laws::measures_determine_rules;
 use link_capture_checks::Listed;
 use link_interpreter::{Attribute, KIND_BOUND, PeerSet, first_attribute, measure_shape};
@@ -164,16 +164,6 @@ fn attribute_refusal(
     match inside_refusal(list.judged, inside, offset, attribute.payload) {
         Some(found) => Some(found.inside(name)),
         None => None,
-    }
-}
-
-/// Returns the bytes with which a list continues after an attribute.
-fn list_rest(form: Form, after: &[u8]) -> &[u8]
-    ensures { result.now ≡ list_rest form after.now }
-{
-    match form {
-        Form::FirstOnly => &[],
-        Form::Any | Form::NonEmpty | Form::OfKindOne | Form::Ports => after,
     }
 }
 

@@ -1,3 +1,4 @@
+mod AttributeBytes
 mod Forms
 mod Walking
 mod Following

@@ -7,3 +7,4 @@ pub mod Messages
 pub mod Pieces
 pub mod Apart
 pub mod Reasons
+pub mod Attributes

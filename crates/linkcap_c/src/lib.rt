@@ -1,6 +1,7 @@
 // The calls for C: captures judged, measured, compared, normalised and shown, their messages and their quirks.
 #![tactic(auto)]
 
+mod attributes;
 mod buffers;
 mod comparing;
 mod findings;

@@ -1,0 +1,4 @@
+pub mod ListUnfolding
+pub mod Places
+pub mod Walking
+pub mod Together

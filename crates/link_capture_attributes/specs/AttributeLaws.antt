@@ -1,0 +1,43 @@
+-- The laws of attributes with their contexts, as the functions of `laws` state them.
+use Rattle.std.specs.Prelude.{◌≡◌, ℕ, ◌+◌, ◌≤◌, List, [], ◌∷◌, ◌++◌, length, Some, None}
+use Rattle.netlink_packet_core_grammar.specs.Attributes.{Attribute, attribute_length, first_attribute, nla_align}
+use Rattle.netlink_packet_core_grammar.specs.Frames.{IsFrame, frame_length}
+use Rattle.link_capture_refusals.specs.Refusals.{list_rest}
+use Rattle.link_capture_attributes.specs.Attributes.{Found, Level, after, first_from, found_in, frame_attributes}
+use Rattle.link_capture_attributes.specs.Attributes.{inside, inside_attributes, list_attributes}
+
+-- The attributes of a list are its first one, those inside it, and those of the rest; none if no attribute is there.
+pub record ListsUnfoldByAttributes : Type 0 where
+  pub next : (l : Level) (offset : ℕ) (bytes : List ℕ) (e : Attribute) (rest : List ℕ) →
+      first_attribute bytes ≡ Some (e, rest) →
+      list_attributes l offset bytes ≡ found_in l offset e ∷
+      (inside_attributes list_attributes (offset + 4) (inside l e) e.payload ++
+      list_attributes (after l e) (offset + nla_align (attribute_length e)) (list_rest l.list.table.form rest))
+  pub none : (l : Level) (offset : ℕ) (bytes : List ℕ) → first_attribute bytes ≡ None → list_attributes l offset bytes ≡ []
+
+-- The headers of attributes are apart: each begins at `low` or after it, ends at `high` or before it, and those after it
+-- begin where it ends or later.
+abbrev pub AreApart : ℕ → ℕ → List Found → Type 0
+AreApart low high [] = Unit {0}
+AreApart low high (f ∷ fs) = (low ≤ f.offset) × (f.offset + 4 ≤ high) × AreApart (f.offset + 4) high fs
+
+-- The attributes of a frame are in the order of their bytes, and inside it.
+abbrev pub AttributesAreApart : Type 0
+AttributesAreApart = (offset : ℕ) (c : List ℕ) → IsFrame c →
+    AreApart (offset + 32) (offset + frame_length c) (frame_attributes offset c)
+
+-- The attribute after one is the first from the end of its header on.
+abbrev pub NextIsFromPayload : Type 0
+NextIsFromPayload = (low high : ℕ) (fs gs : List Found) (f : Found) → AreApart low high (fs ++ f ∷ gs) →
+    first_from (f.offset + 4) (fs ++ f ∷ gs) ≡ first_from 0 gs
+
+-- The bytes x are in c at `offset`, where c begins at `start`.
+abbrev pub IsAt : ℕ → List ℕ → ℕ → List ℕ → Type 0
+IsAt start c offset x = (before : List ℕ) × (rest : List ℕ) × (c ≡ before ++ (x ++ rest)) × (start + length before ≡ offset)
+
+-- Each attribute of a frame that is found from a position on is there or after it, and its payload is in the frame, 4
+-- bytes after its offset.
+abbrev pub AttributesAreWhereTheySay : Type 0
+AttributesAreWhereTheySay = (offset position : ℕ) (c : List ℕ) (f : Found) → IsFrame c →
+    first_from position (frame_attributes offset c) ≡ Some f →
+    (position ≤ f.offset) × IsAt offset c (f.offset + 4) f.attribute.payload

@@ -61,7 +61,7 @@ _linkcap_value() {
     COMPREPLY=()
     case ${_linkcap_values[$option]} in
         types) _linkcap_list "$_linkcap_types" ;;
-        groups) _linkcap_list "numbers counters indexes padding" ;;
+        groups) _linkcap_list "numbers counters indexes padding tables" ;;
         files) _linkcap_files ;;
         ?*) _linkcap_words "${_linkcap_values[$option]}" ;;
     esac

@@ -26,7 +26,7 @@ function __linkcap_types
 end
 
 function __linkcap_groups
-    __linkcap_list numbers counters indexes padding
+    __linkcap_list numbers counters indexes padding tables
 end
 
 # What completes the command after --

@@ -132,7 +132,7 @@ local -a _linkcap_types=(noop error done overrun tstamp newlink dellink getlink 
 
 # Words for a list with commas between them. Words that are none of them may precede them.
 _linkcap_types() { _sequence compadd - $_linkcap_types }
-_linkcap_groups() { _sequence compadd - numbers counters indexes padding }
+_linkcap_groups() { _sequence compadd - numbers counters indexes padding tables }
 _linkcap_files() { _files }
 
 # Completes the command after --. The status is 1 if -- isn't before the word.

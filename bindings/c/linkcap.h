@@ -103,8 +103,8 @@ struct linkcap_text {
 struct linkcap_options {
     struct linkcap_text only;    /* types of messages, with commas between them: numbers, or names as `newlink`. At most 32 */
     struct linkcap_text link;    /* the name, alternative name or index of the link that messages have to be about */
-    struct linkcap_text without; /* attributes that are left out with what they nest, by the kernel's names, with commas
-                                    between them: at most 32; and the groups `numbers`, `counters`, `indexes` and `padding` */
+    struct linkcap_text without; /* attributes that are left out with what they nest: the kernel's names, at most 32, and groups
+                                    of linkshow(1), as `counters`, with commas between them */
     uint32_t limit;              /* 0 for LINKCAP_DEFAULT_LIMIT */
     uint32_t flags;              /* enum linkcap_flag, joined by | */
     uint32_t form;               /* an enum linkcap_form */

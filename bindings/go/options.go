@@ -20,8 +20,8 @@ type Options struct {
 	Only string
 	// Link is the name, alternative name or index of the link that messages have to be about; about any if it is empty.
 	Link string
-	// Without has attributes that are left out with all that they nest: the kernel's names with commas between them, at most 32;
-	// and the groups numbers, counters, indexes and padding. The case of ASCII letters doesn't count.
+	// Without has attributes that are left out with all that they nest: the kernel's names, at most 32, and groups of linkshow(1),
+	// as counters, with commas between them. The case of ASCII letters doesn't count.
 	Without string
 	// Numbers says whether sequence numbers and netlink port IDs, which change from run to run, are shown or compared. By default
 	// they are, except in golden files.

@@ -5,7 +5,7 @@
 
 Each line of standard input is a case, a limit in decimal and a capture in hex. For each attribute of the messages before the
 capture's first fault it prints the offset in the capture, the length of the payload in bytes, the type and its flag bits in
-hex, the number of attributes that it is inside, its name, or `-`, and the link kind whose data it holds or is in, as it stands
+hex, the number of attributes that it is inside, its name, or `-`, and the link kind whose data it holds or is in, as it is
 in the capture, without NUL, or `-`. After each case it prints `legal`, or the first fault.
 """
 import os

@@ -53,7 +53,7 @@ def _parser() -> argparse.ArgumentParser:
         lines.add_argument("--only", type=_types, metavar="TYPE,..", help="message types, as newlink or 16")
         lines.add_argument("--link", metavar="NAME|INDEX", help="messages about this link")
         lines.add_argument("--without", type=lambda names: names.split(","), default=(), metavar="NAME,..",
-                           help="no attributes of these names, or of the groups numbers, counters, indexes and padding")
+                           help="no attributes of these names, or of these groups of linkshow")
         lines.add_argument("--offsets", action="store_true", help="each message's offset, in bytes")
         lines.add_argument("--keep-going", action="store_true", help="messages with a fault in their body too")
     _add(commands, "messages", "write each message's offset, length and type")

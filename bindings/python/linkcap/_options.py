@@ -27,8 +27,8 @@ class Options(TypedDict, total=False):
 
     - `only`: only messages of these types, at most 32 of them, by name or number: `only=["newlink", 17]`;
     - `link`: only messages about this link, by name, alternative name or index;
-    - `without`: no attributes of these names, at most 32 of them, with all that they nest, and none of the groups "numbers",
-      "counters", "indexes" and "padding": `without=["IFLA_MTU", "counters"]`;
+    - `without`: no attributes of these names, at most 32 of them, with all that they nest, and none of these groups of linkshow(1):
+      `without=["IFLA_MTU", "counters"]`;
     - `numbers`: whether sequence numbers and netlink port IDs, which change from run to run, are shown or compared. By default
       they are, except in golden files;
     - `offsets`: each message's first line ends with its offset in the capture, in bytes;

@@ -286,6 +286,7 @@ LINE_WITH_OFFSET = re.compile(r"(\S.*) offset ([0-9]+)")
 
 # The group indexes also has the references to namespaces by a process or a descriptor, which change from run to run.
 _GROUPS = {"numbers": frozenset({"numbers"}), "counters": COUNTERS, "padding": frozenset({"padding"}),
+           "tables": frozenset({"TCA_HTB_CTAB", "TCA_HTB_RTAB", "TCA_STAB_DATA", "TCA_TBF_PTAB", "TCA_TBF_RTAB"}),
            "indexes": INDEXES | {"indexes", "IFLA_NET_NS_PID", "IFLA_NET_NS_FD"}}
 # An index, or what lines_record.py shows instead: a name, or a number in order of appearance.
 _INDEX = re.compile(r' (?:if)?index (?:-?[0-9]+|#[0-9]+|"(?:[^"\\]|\\.)*")(?= |$)')

@@ -66,8 +66,8 @@ impl<'a> Options<'a> {
         Options { link, ..self }
     }
 
-    /// No attributes with these names, with all that they nest: the kernel's names with commas between them, at most 32; and
-    /// the groups `numbers`, `counters`, `indexes` and `padding`. The case of ASCII letters doesn't count.
+    /// No attributes with these names, with all that they nest: the kernel's names, at most 32, and groups of linkshow(1), as
+    /// `counters`, with commas between them. The case of ASCII letters doesn't count.
     #[must_use]
     pub const fn without(self, without: &'a str) -> Self {
         Options { without, ..self }

@@ -1,4 +1,4 @@
--- Where the attributes of a list are: their headers are apart, and their payloads behind them.
+-- Where the attributes of a list are: their headers are apart, and each payload follows its header.
 use Rattle.std.proofs.Common.{◌≡◌, ℕ, zero, suc, ◌+◌, ◌-◌, ◌*◌, ◌<◌, ◌≤◌, Bool, true, false, cond, List, [], ◌∷◌, ◌++◌, drop, take, length, Option, Some, None, refl, sym, ap, subst, ◌∙◌, append_assoc, append-nil, arith, length-append, length-drop}
 use Rattle.std.specs.Prelude.{min, nat_le}
 use Rattle.std.proofs.lemmas.Bool.{le-leb, leb-true, lt-leb}
@@ -94,7 +94,7 @@ module _ (w : FirstIsWithin) where
 
 -- ---- the next attribute
 
--- the attributes from some place on
+-- the attributes from some offset on
 found_from : (position low high : ℕ) (gs : List Found) → position ≤ low → AreApart low high gs → first_from position gs ≡ first_from 0 gs
 found_from position low high [] h x = refl
 found_from position low high (g ∷ gs) h x =

@@ -17,10 +17,10 @@ use Rattle.link_lines_texts.specs.Frames.{frame_lines}
 use Rattle.link_lines_parts.specs.BytesLines.{bytes_line}
 use Rattle.link_lines.specs.Messages.{Message, Message.Accepted, Message.Faulty, Message.Last, messages}
 
--- What is shown of a capture: whether sequence and port numbers, if they aren't among what is left out; the types of
--- messages if not all are; the link that messages have to be about, if one is given; what is left out of lines; whether
--- each message's offset is shown; whether messages with a fault of their body are shown too, and those after them; and
--- whether a message's lines become an object of JSON.
+-- What is shown of a capture: whether sequence numbers and netlink port IDs, if they aren't among what is left out; the
+-- types of messages if not all are; the link that messages have to be about, if one is given; what is left out of lines;
+-- whether each message's offset is shown; whether messages with a fault of their body are shown too, and those after
+-- them; and whether a message's lines become an object of JSON.
 pub record Selection : Type 0 where
   pub numbers : Bool
   pub only : Option (List ℕ)

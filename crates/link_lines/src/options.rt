@@ -13,9 +13,9 @@ use link_lines_parts::Without;
 /// What is shown of a capture; by default everything up to its first fault.
 #[derive(Clone, Debug, PartialEq, Eq, Drop)]
 pub struct ShowOptions<'a> {
-    /// Whether sequence and port numbers are left out: those of messages, and of the request's
-    /// header that an NLMSG_ERROR repeats after its code (netlink.h, `struct nlmsghdr`, `struct
-    /// nlmsgerr`). They also are if they are among what `without` leaves out.
+    /// Whether sequence numbers and netlink port IDs are left out: those of messages, and of the
+    /// request's header that an NLMSG_ERROR repeats after its code (netlink.h, `struct nlmsghdr`,
+    /// `struct nlmsgerr`). They also are if they are among what `without` leaves out.
     pub without_numbers: bool,
     /// The types of the messages that are shown (netlink.h, rtnetlink.h); None shows all.
     pub only: Option<Types>,
@@ -72,7 +72,7 @@ impl ShowOptions<'_> {
         }
     }
 
-    /// Returns whether sequence and port numbers are shown.
+    /// Returns whether sequence numbers and netlink port IDs are shown.
     pub fn shows_numbers(&self) -> bool
         ensures { result ≡ (choice_of (selection_of self.now)).numbers }
     {

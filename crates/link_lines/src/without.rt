@@ -1,13 +1,22 @@
 //! What is left out of lines, by names.
 
-ghost use Rattle.std.specs.Prelude.{◌≡◌, option_map};
+ghost use Rattle.std.specs.Prelude.{◌≡◌, map, option_map};
 ghost use Rattle.std.specs.Result.{result_map_both};
 ghost use Rattle.link_lines_parts.specs.Remaining.{nothing_omitted, omitted_of};
-ghost use Rattle.link_lines.specs.Without.{line_name, with_name, with_word, TakesWord};
+ghost use Rattle.link_lines.specs.Without.{line_name, table_names, with_names, with_word, TakesWord};
 ghost use Rattle.link_lines.specs.Words.{parts, word_fault, Reads};
 
 use crate::words::{WordError, first_part};
 use link_lines_parts::Without;
+
+/// The attributes with tables of rates and sizes (rtnetlink.h and pkt_sched.h), which tc(8) computes.
+const TABLES: &[&[u8]] = &[
+    b"TCA_HTB_CTAB",
+    b"TCA_HTB_RTAB",
+    b"TCA_STAB_DATA",
+    b"TCA_TBF_PTAB",
+    b"TCA_TBF_RTAB",
+];
 
 /// Returns the kernel's name of an attribute, raw or not, that the word is, or the word of the lines
 /// of padding.
@@ -23,15 +32,23 @@ fn find_name(word: &str) -> Option<&'static [u8]>
     }
 }
 
-/// Returns the choice that also leaves out an attribute, if there is capacity for its name.
-fn with_name(without: Without, name: &'static [u8]) -> Option<Without>
-    ensures { option_map omitted_of result ≡ with_name (omitted_of without) name.now }
+/// Returns the choice that also leaves out attributes, if there is capacity for their names.
+fn with_names(without: Without, names: &[&'static [u8]]) -> Option<Without>
+    ensures { option_map omitted_of result
+        ≡ with_names (omitted_of without) (map (λ name. name.now) names.now) }
 {
     let mut more = without;
-    match more.names.try_push(name) {
+    match more.names.try_extend_from_slice(names) {
         Ok(()) => Some(more),
         Err(_) => None,
     }
+}
+
+/// Returns the choice that also leaves out the tables of rates and sizes, if there is capacity for their names.
+fn with_tables(without: Without) -> Option<Without>
+    ensures { option_map omitted_of result ≡ with_names (omitted_of without) table_names }
+{
+    with_names(without, TABLES)
 }
 
 /// Returns the choice that also leaves out what a word names.
@@ -51,14 +68,17 @@ fn with_word(without: Without, word: &str) -> Result<Without, WordError<'_>>
         more.indexes = true;
         return Ok(more);
     }
+    if word.eq_ignore_ascii_case("tables") {
+        return with_tables(more).ok_or(WordError::TooMany);
+    }
     match find_name(word) {
-        Some(name) => with_name(more, name).ok_or(WordError::TooMany),
+        Some(name) => with_names(more, &[name]).ok_or(WordError::TooMany),
         None => Err(WordError::Unknown(word)),
     }
 }
 
 /// Reads words with commas between them: each is the kernel's name of an attribute, `padding`, or a
-/// group: `numbers`, `counters` or `indexes`. The case of ASCII letters doesn't count.
+/// group: `numbers`, `counters`, `indexes` or `tables`. The case of ASCII letters doesn't count.
 ///
 /// # Errors
 ///

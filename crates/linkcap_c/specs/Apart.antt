@@ -1,4 +1,4 @@
--- Bodies and captures compared without sequence and port numbers.
+-- Bodies and captures compared without sequence numbers and netlink port IDs.
 use Rattle.std.specs.Prelude.{ℕ, nat_le, nat_eq, Bool, cond, List, length}
 use Rattle.link_capture_grammar.specs.Same.{SameCapture}
 use Rattle.link_capture_numbers.specs.Cleared.{zeros_at, numbers_cleared}
@@ -11,7 +11,7 @@ error_cleared body = cond (nat_le 20 (length body)) (zeros_at 12 body) body
 abbrev pub body_without_numbers : ℕ → List ℕ → List ℕ
 body_without_numbers t body = cond (nat_eq t 2) (error_cleared body) body
 
--- the captures mean the same after zeroing their sequence and port numbers
+-- the captures mean the same after zeroing their sequence numbers and netlink port IDs
 abbrev pub SameButNumbers : ℕ → List ℕ → List ℕ → Type 0
 SameButNumbers limit a b = SameCapture limit (numbers_cleared a) (numbers_cleared b)
 

@@ -1,4 +1,4 @@
-//! Two captures compared, with their sequence and port numbers or without.
+//! Two captures compared, with their sequence numbers and netlink port IDs or without.
 
 ghost use Rattle.std.specs.Prelude.{◌≡◌, ◌≢◌, ◌≤◌, ◌↔◌, ◌⊎◌, true, cond, Some, IfErr, IfOk, OnOk};
 ghost use Rattle.link_capture_grammar.specs.Captures.{first_fault, texts, IsLegal};
@@ -17,8 +17,8 @@ use link_capture_checks::{SideFault, check, same};
 use link_capture_grammar::laws::texts_determine_meanings;
 use link_capture_numbers::laws::cleared_captures_have_cleared_texts;
 
-/// Whether two captures are legal and mean the same after zeroing their sequence and port numbers, those too of the
-/// request's header that an NLMSG_ERROR repeats.
+/// Whether two captures are legal and mean the same after zeroing their sequence numbers and netlink port IDs, those
+/// too of the request's header that an NLMSG_ERROR repeats.
 fn same_without_numbers(first: &[u8], second: &[u8], limit: u32) -> Result<bool, SideFault>
     ensures legal { OnOk result (IsLegal limit first.now × IsLegal limit second.now) }
     ensures same { IfOk result (λ is_same. (is_same ≡ true) ↔ SameButNumbers limit first.now second.now) }
@@ -66,8 +66,8 @@ fn same_by(
     }
 }
 
-/// Whether two captures mean the same under a limit, with their sequence and port numbers or after zeroing them; else
-/// the first fault of the first one, or of the second if the first is legal. Allocates nothing.
+/// Whether two captures mean the same under a limit, with their sequence numbers and netlink port IDs or after zeroing
+/// them; else the first fault of the first one, or of the second if the first is legal. Allocates nothing.
 #[unsafe(no_mangle)]
 pub extern "C" fn linkcap_same(
     first: &[u8],

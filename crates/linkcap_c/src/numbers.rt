@@ -1,4 +1,4 @@
-//! Legal captures compared without their sequence and port numbers, which change from run to run.
+//! Legal captures compared without their sequence numbers and netlink port IDs, which change from run to run.
 
 ghost use Rattle.std.specs.Prelude.{◌≡◌, ◌≤◌, ◌↔◌, true, length, drop, bytes_eq};
 ghost use Rattle.netlink_packet_core_grammar.specs.Attributes.{nla_align};
@@ -77,7 +77,8 @@ fn rest_after_frame(bytes: &[u8]) -> &[u8]
     &bytes[len.min(bytes.len())..]
 }
 
-/// Whether two legal captures mean the same after zeroing their sequence and port numbers. Allocates nothing.
+/// Whether two legal captures mean the same after zeroing their sequence numbers and netlink port IDs. Allocates
+/// nothing.
 pub(crate) fn same_but_numbers(left: &[u8], right: &[u8], limit: u32) -> bool
     requires left { IsLegal limit left.now }
     requires right { IsLegal limit right.now }

@@ -15,7 +15,7 @@ const DEFAULT_LIMIT: u32 = 1 << 20;
 /// The least limit.
 const MIN_LIMIT: u32 = 16;
 
-/// Sequence and port numbers are left out.
+/// Sequence numbers and netlink port IDs are left out.
 const WITHOUT_NUMBERS: u32 = 1;
 
 /// Each message's first line ends with its offset.
@@ -69,7 +69,7 @@ pub(crate) fn has_flag(flag: u32, flags: u32) -> bool
     flags & flag != 0
 }
 
-/// Whether sequence and port numbers are to be left out.
+/// Whether sequence numbers and netlink port IDs are to be left out.
 pub(crate) fn leaves_out_numbers(options: &LinkcapOptions<'_>) -> bool
     ensures { result ≡ has_flag 1 options.now.flags }
 {

@@ -103,7 +103,8 @@ help_text =
     codes "  --without NAME,..  leave out these attributes, by name, and these groups:" ∷
     codes "                     numbers, as --without-numbers; counters, as statistics" ∷
     codes "                     and timers; indexes, of links and of namespaces;" ∷
-    codes "                     padding, which is shown if it isn't zero or is cut" ∷
+    codes "                     padding, which is shown if it isn't zero or is cut;" ∷
+    codes "                     tables, of rates and sizes in traffic control" ∷
     codes "  --without-numbers  leave out sequence numbers and netlink port IDs, which" ∷
     codes "                     change from run to run" ∷
     codes "  --offsets          show each message's offset in bytes" ∷

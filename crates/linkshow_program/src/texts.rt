@@ -33,7 +33,8 @@ those of its normal text: captures that mean the same have the same lines.
   --without NAME,..  leave out these attributes, by name, and these groups:
                      numbers, as --without-numbers; counters, as statistics
                      and timers; indexes, of links and of namespaces;
-                     padding, which is shown if it isn't zero or is cut
+                     padding, which is shown if it isn't zero or is cut;
+                     tables, of rates and sizes in traffic control
   --without-numbers  leave out sequence numbers and netlink port IDs, which
                      change from run to run
   --offsets          show each message's offset in bytes

@@ -49,6 +49,22 @@ fn types_and_names_are_read(rt: HostRuntime) -> Result<(), Fail> {
     assert!(rt; without.names.as_slice() == names.as_slice());
     assert!(rt; without.counters && without.indexes && !without.numbers);
     assert!(rt; matches!(read_without("numbers"), Ok(without) if without.numbers));
+    // The tables of rates of pkt_sched.h, and that of sizes of rtnetlink.h.
+    let Ok(without) = read_without("IFLA_MTU,Tables") else {
+        return Err(Fail::from("refused"));
+    };
+    let names: [&[u8]; 6] = [
+        b"IFLA_MTU",
+        b"TCA_HTB_CTAB",
+        b"TCA_HTB_RTAB",
+        b"TCA_STAB_DATA",
+        b"TCA_TBF_PTAB",
+        b"TCA_TBF_RTAB",
+    ];
+    assert!(rt; without.names.as_slice() == names.as_slice());
+    assert!(rt;
+        read_without("tables,tables,tables,tables,tables,tables,tables") == Err(WordError::TooMany)
+    );
     assert!(rt; read_without("numbers,IFLA_STAT,x") == Err(WordError::Unknown("IFLA_STAT")));
     Ok(())
 }

@@ -68,7 +68,10 @@ HEADERS = {"ifinfomsg", "rtgenmsg", "rtnexthop"} | {word_of(body[3]) for body in
     style.split()[1] for style in (*(row[1] for row in RAW_ROWS.values()), *CHOICES.values())
     if style.startswith(("records ", "record_and_list "))}
 INDEX_FIELDS = "index", "ifindex"
-NAME_LINES = "  IFLA_IFNAME %s\n", "  IFLA_ALT_IFNAME %s\n", "    IFLA_ALT_IFNAME %s\n"
+NAME_LINES = ("  IFLA_IFNAME %s\n", "  IFLA_ALT_IFNAME %s\n", "    IFLA_ALT_IFNAME %s\n", "  FRA_IIFNAME %s\n",
+              "  FRA_OIFNAME %s\n")
+# The attributes with the index of the link that a message of another type than links' is about
+OF_LINK = "RTA_OIF", "RTA_IIF", "NHA_OIF", "NETCONFA_IFINDEX"
 REFUSED = 4                             # the number of the fault `refused body`
 BODY_FAULTS = range(REFUSED, 8)         # those of a message's body
 
@@ -414,12 +417,15 @@ def level_of(text):
 def is_about(texts, link):
     """Whether a message's lines are about the link with this name or index."""
     names = {form % quote(os.fsencode(link)) for form in NAME_LINES}
-    if names & set(texts):
-        return True
-    if len(texts) < 2 or level_of(texts[1]) != 1:
-        return False
-    first, *fields = texts[1].split()
-    return first in HEADERS and any(name in INDEX_FIELDS and field == link for name, field in zip(fields, fields[1:]))
+    return any(text in names or is_about_index(level_of(text), text.split(), link) for text in texts)
+
+
+def is_about_index(level, words, link):
+    """Whether the words of a line are those of a header, a next hop or an attribute with the index of the link."""
+    first, *fields = words
+    if (level, first) == (2, "rtnexthop") or level == 1 and first in HEADERS:
+        return any(name in INDEX_FIELDS and field == link for name, field in zip(fields, fields[1:]))
+    return level == 1 and first in OF_LINK and fields[:1] == [link]
 
 
 def leave_out(texts, omitted):

@@ -371,12 +371,16 @@ def _escape(byte: int) -> str:
 
 def is_about(message: List[str], link: str) -> bool:
     """Whether a message is about the link with a name or index."""
-    header = message[1] if len(message) > 1 and depth(message[1]) == 1 and _is_struct(message[1]) else ""
     name = quoted(link)
-    if re.search(rf" (?:if)?index (?:{re.escape(link)}|{re.escape(name)})(?: |$)", header):
-        return True
-    name_lines = {f"  IFLA_IFNAME {name}", f"  IFLA_ALT_IFNAME {name}", f"    IFLA_ALT_IFNAME {name}"}
-    return any(line in name_lines for line in message)
+    value = rf"(?:{re.escape(link)}|{re.escape(name)})(?: |$)"
+    field, attribute = re.compile(rf" (?:if)?index {value}"), re.compile(rf"  (?:RTA_[IO]IF|NHA_OIF|NETCONFA_IFINDEX) {value}")
+    name_lines = {f"  IFLA_IFNAME {name}", f"  IFLA_ALT_IFNAME {name}", f"    IFLA_ALT_IFNAME {name}", f"  FRA_IIFNAME {name}",
+                  f"  FRA_OIFNAME {name}"}
+
+    def is_place(line: str) -> bool:
+        return (depth(line) == 1 and _is_struct(line)) or line.startswith("    rtnexthop ")
+
+    return any(line in name_lines or attribute.match(line) or (is_place(line) and field.search(line)) for line in message[1:])
 
 
 def about(lines: Iterable[str], link: str) -> List[str]:

@@ -51,6 +51,25 @@ const ADDRESS: &str = "RTM_NEWADDR flags 0x5 (REQUEST | ACK) seq 1795830313 port
   IFA_PROTO 18
 ";
 
+/// The lines of a route to a link, of a rule by a link's name, and of settings of all links.
+const LINK_ROUTE: &str = "RTM_NEWROUTE flags 0x0 seq 1 port 0
+  rtmsg family 2 (AF_INET) dst_len 24 src_len 0 tos 0 table 254 (main) protocol 3 (boot) scope 253 (link) type 1 (unicast) flags 0x0
+  RTA_DST 198.51.100.0
+  RTA_OIF 12
+";
+
+const RULE: &str = "RTM_NEWRULE flags 0x0 seq 1 port 0
+  fib_rule_hdr family 2 (AF_INET) dst_len 0 src_len 0 tos 0 table 0 (unspec) action 1 (to_tbl) flags 0x0
+  FRA_IIFNAME \"v0\"
+  FRA_PRIORITY 12
+";
+
+const SETTINGS: &str = "RTM_NEWNETCONF flags 0x0 seq 1 port 0
+  netconfmsg family 2 (AF_INET)
+  NETCONFA_IFINDEX 4294967295 (all)
+  NETCONFA_FORWARDING 12
+";
+
 /// The lines of the end of a dump.
 const END: &str = "NLMSG_DONE flags 0x2 (MULTI) seq 3 port 30
   code 0
@@ -216,7 +235,7 @@ fn attributes_are_left_out(rt: HostRuntime) -> Result<(), Fail> {
 }
 
 /// Lines, the name or index of a link, and whether the lines are about it.
-const ABOUT: [(&str, &[u8], bool); 19] = [
+const ABOUT: [(&str, &[u8], bool); 28] = [
     (LINK, b"v0", true),
     (LINK, b"v", false),
     (LINK, b"v00", false),
@@ -234,7 +253,16 @@ const ABOUT: [(&str, &[u8], bool); 19] = [
     (NEIGHBOUR, b"2", true),
     (NEIGHBOUR, b"6007", false),
     (ADDRESS, b"5", true),
-    (ROUTE, b"0", false),
+    (ROUTE, b"0", true),
+    (ROUTE, b"9", false),
+    (LINK_ROUTE, b"12", true),
+    (LINK_ROUTE, b"1", false),
+    (LINK_ROUTE, b"24", false),
+    (RULE, b"v0", true),
+    (RULE, b"v", false),
+    (RULE, b"12", false),
+    (SETTINGS, b"4294967295", true),
+    (SETTINGS, b"12", false),
     (END, b"0", false),
 ];
 

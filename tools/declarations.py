@@ -27,11 +27,10 @@ from layers import TOP  # noqa: E402
 
 RUST, PYTHON = "rust/src", "python"
 #: what a package doesn't declare
-ATTRIBUTES = {"LINKCAP_NAME_ROOM", "linkcap_attribute", "linkcap_next_attribute"}  # both read attributes from lines
 UNUSED = {
-    RUST: ATTRIBUTES | {"LINKCAP_FORMAT", "LINKCAP_WRONG", "LINKCAP_NO_MEMORY", "LINKCAP_MEMORY", "LINKCAP_READ", "LINKCAP_WRITE",
+    RUST: {"LINKCAP_FORMAT", "LINKCAP_WRONG", "LINKCAP_NO_MEMORY", "LINKCAP_MEMORY", "LINKCAP_READ", "LINKCAP_WRITE",
            "LINKCAP_TOO_LONG", "LINKCAP_FAILED"},
-    PYTHON: ATTRIBUTES | {"LINKCAP_FORMAT"},
+    PYTHON: {"LINKCAP_FORMAT"},
 }
 PREFIX = "LINKCAP_"
 COMMENT = re.compile(r"/\*.*?\*/|//[^\n]*", re.DOTALL)
@@ -41,6 +40,8 @@ PARAMETER = re.compile(r"(.*[ *])(\w+)(\[\w+\])?")
 STATUS = "LINKCAP_STATUS"
 RUST_TYPES = {"c_char": "char", "u8": "uint8_t", "u32": "uint32_t", "u64": "uint64_t", "usize": "size_t"}
 RUST_POINTER = re.compile(r"(\*const |\*mut |&mut |&)(\w+)")
+RUST_ARRAY = re.compile(r"\[(\w+); (\w+)\]")
+C_ARRAY = re.compile(r"char\[(\w+)\]")
 PYTHON_TYPES = {"uint32_t": ctypes.c_uint32, "uint64_t": ctypes.c_uint64, "size_t": ctypes.c_size_t}
 
 
@@ -94,7 +95,9 @@ def read_header(text):
 
 def type_of_rust(text):
     """The type of C that a type of Rust is."""
-    pointer = RUST_POINTER.fullmatch(text)
+    pointer, array = RUST_POINTER.fullmatch(text), RUST_ARRAY.fullmatch(text)
+    if array:
+        return f"{RUST_TYPES[array[1]]}[{PREFIX}{array[2]}]"
     if not pointer:
         return RUST_TYPES.get(text) or struct_type(text)
     constant = "const " if pointer[1] in ("*const ", "&") else ""
@@ -192,14 +195,18 @@ def type_of_python(kind):
     return "struct " + struct_name(kind) if is_struct(kind) else kind
 
 
-def in_ctypes(kind):
+def in_ctypes(kind, constants):
+    array = C_ARRAY.fullmatch(kind)
+    if array:
+        return ctypes.c_char * constants[array[1]]
     return ctypes.c_void_p if kind.endswith("*") else PYTHON_TYPES.get(kind, kind)
 
 
 def for_python(header):
     """The declarations of the header as a Python package has them: types of ctypes, and parameters without names."""
-    functions = {name: [("", in_ctypes(kind)) for _, kind in parts] for name, parts in header.functions.items()}
-    structs = {name: [(field, in_ctypes(kind)) for field, kind in fields] for name, fields in header.structs.items()}
+    constants = header.constants
+    functions = {name: [("", in_ctypes(kind, constants)) for _, kind in parts] for name, parts in header.functions.items()}
+    structs = {name: [(field, in_ctypes(kind, constants)) for field, kind in fields] for name, fields in header.structs.items()}
     return header._replace(functions=functions, structs=structs)
 
 

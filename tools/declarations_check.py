@@ -44,7 +44,10 @@ CASES = (
       "rust/src: LINKCAP_STRANGE isn't declared")),
     (HEADER, "#define LINKCAP_VERSION 3", "#define LINKCAP_VERSION 4",
      ("rust/src: LINKCAP_VERSION is (3)", "python: liblinkcap.so has version 4 of the interface, and 3 is needed")),
+    (HEADER, "#define LINKCAP_NAME_ROOM 64", "#define LINKCAP_NAME_ROOM 32",
+     ("rust/src: LINKCAP_NAME_ROOM is (64)", "python: linkcap_attribute is (")),
     # Rust
+    (FFI, "pub name: [c_char; NAME_ROOM]", "pub name: [u8; NAME_ROOM]", ("rust/src: linkcap_attribute is (",)),
     (FFI, "offset: u64,\n        message: &mut Message", "offset: u32,\n        message: &mut Message",
      ("rust/src: linkcap_next_message is (",)),
     (FFI, "pub fn linkcap_quirks(\n        capture: *const u8", "pub fn linkcap_quirks(\n        capture: *mut u8",

@@ -300,6 +300,31 @@ func TestSelectedAttributes(t *testing.T) {
 	}
 }
 
+// TestLinkAttributes checks IFLA_LINKINFO with the nested bit, in it IFLA_INFO_KIND and IFLA_INFO_DATA, and in that IFLA_VXLAN_ID and
+// an attribute in network byte order whose type has no name.
+func TestLinkAttributes(t *testing.T) {
+	data := append(attribute(1, []byte{10, 0, 0, 0}), attribute(0x7fff, []byte{1, 2, 3, 4})...)
+	info := append(attribute(1, []byte("vxlan\x00")), attribute(2, data)...)
+	noop := []byte{16, 0, 0, 0, 1, 0, 0, 0, 0, 0, 0, 0, 0, 0, 0, 0}
+	messages, err := collect(linkcap.Messages(append(noop, newLink(attribute(0x8012, info))...)))
+	if err != nil || len(messages) != 2 {
+		t.Fatal(len(messages), err)
+	}
+	if all := messages[0].LinkAttributes(); all != nil {
+		t.Error(all)
+	}
+	expected := []linkcap.LinkAttribute{
+		{48, 18, 0x8000, info, 0, "IFLA_LINKINFO", ""},
+		{52, 1, 0, []byte("vxlan\x00"), 1, "IFLA_INFO_KIND", ""},
+		{64, 2, 0, data, 1, "IFLA_INFO_DATA", "vxlan"},
+		{68, 1, 0, []byte{10, 0, 0, 0}, 2, "IFLA_VXLAN_ID", "vxlan"},
+		{76, 0x3fff, 0x4000, []byte{1, 2, 3, 4}, 2, "", "vxlan"},
+	}
+	if all := messages[1].LinkAttributes(); !reflect.DeepEqual(all, expected) {
+		t.Errorf("%v\n%v", all, expected)
+	}
+}
+
 // TestLongMessages checks the attributes of a message that is longer than the default limit.
 func TestLongMessages(t *testing.T) {
 	capture := newLink(bytes.Repeat(attribute(0x3fff, make([]byte, 65000)), 20))

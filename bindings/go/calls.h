@@ -73,6 +73,14 @@ static inline uint32_t linkcap_go_next_message(const uint8_t *capture, size_t le
     return linkcap_next_message(capture, length, &options, offset, message, fault);
 }
 
+static inline uint32_t linkcap_go_next_attribute(const uint8_t *message, size_t length, uint64_t position,
+                                                 struct linkcap_attribute *attribute, struct linkcap_finding *fault)
+{
+    struct linkcap_options options = {{0, 0}, {0, 0}, {0, 0}, 0, 0, 0, 0};
+    options.limit = UINT32_MAX;
+    return linkcap_next_attribute(message, length, &options, 0, position, attribute, fault);
+}
+
 static inline uint32_t linkcap_go_quirks(const uint8_t *capture, size_t length, uint32_t limit, struct linkcap_finding *quirks,
                                          size_t room, uint64_t *count, struct linkcap_finding *fault)
 {

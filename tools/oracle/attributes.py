@@ -5,8 +5,8 @@
 
 Each line of standard input is a case, a limit in decimal and a capture in hex. For each attribute of the messages before the
 capture's first fault it prints the offset in the capture, the length of the payload in bytes, the type and its flag bits in
-hex, the number of attributes that it is inside, its name, or `-`, and the link kind whose data it holds or is in, as it is
-in the capture, without NUL, or `-`. After each case it prints `legal`, or the first fault.
+hex, the number of attributes that it is inside, its name, or `-`, and the link kind whose data it holds or is in, up to a
+NUL, or `-`. After each case it prints `legal`, or the first fault.
 """
 import os
 import sys
@@ -20,8 +20,12 @@ from quirks import attributes_with_offsets      # noqa: E402
 OF_KIND, OF_PORT_KIND = (2, 3), 5
 
 
-def name_of(table, kind):
-    return ROWS.get((table.name, kind), (None,))[0]
+def name_of(rules, table, context, kind):
+    """The name of the row of a kind, or None if the table has none in this context."""
+    row = table.rows.get(kind)
+    if row is None or isinstance(row, o.Choice) and row.pick(rules, context) is o.RAW:
+        return None
+    return ROWS[table.name, kind][0]
 
 
 def list_attributes(rules, table, context, b, start, depth, link_kind):
@@ -35,7 +39,7 @@ def list_attributes(rules, table, context, b, start, depth, link_kind):
             here = in_force
             of = in_force[0] if proper in OF_KIND else in_force[1] if proper == OF_PORT_KIND else None
             in_force = o.next_in_force(in_force, kind, payload)
-        yield offset, len(payload), kind, depth, name_of(table, proper), of
+        yield offset, len(payload), kind, depth, name_of(rules, table, here, proper), of
         if table.kept_kind is None or proper == table.kept_kind:
             yield from payload_attributes(rules, rules.row(table, here, proper), payload, offset + 4, depth + 1, of)
 
@@ -65,7 +69,7 @@ def main():
         attributes, fault = capture_attributes(bytes.fromhex(capture.strip()), int(limit))
         for offset, length, kind, depth, name, link_kind in attributes:
             print("%d %d %#x %#x %d %s %s" % (offset, length, o.proper(kind), kind - o.proper(kind), depth, name or "-",
-                                              link_kind or "-"))
+                                              (link_kind or "").partition("\0")[0] or "-"))
         print(o.display(fault) if fault else "legal")
 
 

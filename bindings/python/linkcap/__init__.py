@@ -22,7 +22,7 @@ is the page for callers. `python -m linkcap` normalises, compares and shows file
 from ._calls import Measure, Quirk, QuirkKind, check, lines, measure, normalize, quirks, same, to_json, why
 from ._fault import Fault, Kind, Refusal
 from ._golden import golden
-from ._messages import Attribute, Message, attributes, messages
+from ._messages import Attribute, LinkAttribute, Message, attributes, messages
 from ._native import FORMAT, LIBRARY_PATH, Capture
 from ._options import DEFAULT_LIMIT, Options
 from ._reader import LineReader, Reader
@@ -30,6 +30,6 @@ from ._record import RecordError, Recording, record
 
 __version__ = "0.1.0"
 
-__all__ = ["DEFAULT_LIMIT", "FORMAT", "LIBRARY_PATH", "Attribute", "Capture", "Fault", "Kind", "LineReader", "Measure", "Message",
+__all__ = ["DEFAULT_LIMIT", "FORMAT", "LIBRARY_PATH", "Attribute", "Capture", "Fault", "Kind", "LineReader", "LinkAttribute", "Measure", "Message",
            "Options", "Quirk", "QuirkKind", "Reader", "RecordError", "Recording", "Refusal", "attributes", "check", "golden", "lines",
            "measure", "messages", "normalize", "quirks", "record", "same", "to_json", "why"]

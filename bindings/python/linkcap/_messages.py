@@ -36,6 +36,16 @@ class Message(NamedTuple):
         """Its attributes, at all depths, each before those in it."""
         return _read(self, _ALL_LINES)
 
+    def link_attributes(self) -> "List[LinkAttribute]":
+        """The attributes of a link message with their bytes, at all depths, each before those in it. Messages of other types have
+        none here, and what is in raw attributes isn't among them.
+
+        >>> request = bytes.fromhex("280000001200010001000000000000000000000000000000000000000000000007000300") + b"lo\\0\\0"
+        >>> [(a.offset, a.name, a.payload) for m in messages(request) for a in m.link_attributes()]
+        [(32, 'IFLA_IFNAME', b'lo\\x00')]
+        """
+        return list(_read_link(self))
+
 
 class Attribute(NamedTuple):
     """An attribute of a message, or a struct in an attribute, for example a next hop."""
@@ -48,6 +58,24 @@ class Attribute(NamedTuple):
     #: what follows the name in its line, for example '10', '"vx0"' with its quotes, or '0x9 (Vf | SkipStats)'; nothing for an attribute
     #: with others in it
     value: str
+
+
+class LinkAttribute(NamedTuple):
+    """An attribute of a link message, as its bytes are."""
+
+    #: where its header begins, in bytes from the capture's start
+    offset: int
+    #: its type, without flag bits
+    type: int
+    #: NLA_F_NESTED and NLA_F_NET_BYTEORDER of its type
+    flags: int
+    payload: builtins.bytes
+    #: how many attributes it is inside
+    depth: int
+    #: for example "IFLA_VXLAN_ID"; empty if its list has no name for its type
+    name: str
+    #: the link kind, or the kind of port, whose data it holds or is in, for example "vxlan"; empty elsewhere
+    link_kind: str
 
 
 def messages(capture: Capture, limit: SupportsIndex = DEFAULT_LIMIT) -> Iterator[Message]:
@@ -106,6 +134,22 @@ def _read(message: Message, options: CallOptions) -> List[Attribute]:
     """The attributes of a message that options select."""
     lines = write_all(options, message.bytes).decode("ascii").splitlines()
     return [Attribute(message, path, _value(path, line)) for path, line in zip(line_paths(lines), lines) if _is_attribute(line)]
+
+
+def _read_link(message: Message) -> Iterator[LinkAttribute]:
+    found, fault, position = _native.AttributeStruct(), _native.FindingStruct(), 0
+    at, fault_at = address_of(found), address_of(fault)
+    with BorrowedBytes(message.bytes) as capture:
+        while True:
+            status = _native.library.linkcap_next_attribute(capture.at, capture.length, _ALL_LINES.at, 0, position, at, fault_at)
+            if status == _native.NONE:
+                return
+            if status != _native.OK:
+                raise failure(status, fault, _ALL_LINES, whole(capture))
+            position = found.payload
+            yield LinkAttribute(message.offset + found.offset, found.type, found.flags,
+                                message.bytes[position:position + found.length], found.depth, found.name.decode("ascii"),
+                                found.link_kind.decode(errors="replace"))
 
 
 def _is_attribute(line: str) -> bool:

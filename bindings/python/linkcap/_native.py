@@ -30,6 +30,7 @@ VERSION = 3
 MIN_LIMIT, DEFAULT_LIMIT = 16, 1048576
 #: the size of a buffer for the words of any fault, or of any quirk
 WORDS_ROOM = 127
+NAME_ROOM = 64
 OK, DIFFERENT, FAULT, WRONG, NO_ROOM, NO_MEMORY, NONE = range(7)
 #: the forms of what linkcap_write writes
 TEXT, LINES, JSON = range(3)
@@ -65,6 +66,12 @@ class SizesStruct(ctypes.Structure):
 
 class MessageStruct(ctypes.Structure):
     _fields_ = [("next", ctypes.c_uint64), ("length", ctypes.c_uint32), ("type", ctypes.c_uint32)]
+
+
+class AttributeStruct(ctypes.Structure):
+    _fields_ = [*((name, ctypes.c_uint64) for name in ("offset", "payload", "length")),
+                *((name, ctypes.c_uint32) for name in ("type", "flags", "depth")),
+                *((name, ctypes.c_char * NAME_ROOM) for name in ("name", "link_kind"))]
 
 
 # These calls of CPython yield the address of the bytes of an object, and aren't interrupted.
@@ -202,6 +209,7 @@ def _load() -> ctypes.CDLL:
         "linkcap_format": [],
         "linkcap_check": [*bytes_, address, address, address],
         "linkcap_next_message": [*bytes_, address, ctypes.c_uint64, address, address],
+        "linkcap_next_attribute": [*bytes_, address, ctypes.c_uint64, ctypes.c_uint64, address, address],
         "linkcap_quirks": [*bytes_, address, *bytes_, address, address],
         "linkcap_same": [*bytes_, *bytes_, address, address],
         "linkcap_unknown_word": [address, *bytes_, address],

@@ -121,6 +121,24 @@ class Lines(unittest.TestCase):
                 ([attribute(3, b"IFLA_VXLAN_ID\0")], False)):
             self.assertEqual(creates_vni_10(new_link(*attributes)), expected, attributes)
 
+    def test_bytes(self) -> None:
+        """IFLA_LINKINFO with the nested bit, in it IFLA_INFO_KIND and IFLA_INFO_DATA, and in that IFLA_VXLAN_ID and an attribute in
+        network byte order whose type has no name."""
+        data = attribute(1, b"\x0a\0\0\0") + attribute(0x7fff, b"\1\2\3\4")
+        info = attribute(1, b"vxlan\0") + attribute(2, data)
+        capture = bytes.fromhex("10000000010000000000000000000000") + new_link(attribute(0x8012, info))
+        noop, link = linkcap.messages(capture)
+        self.assertEqual(noop.link_attributes(), [])
+        self.assertEqual(link.link_attributes(), [
+            (48, 18, 0x8000, info, 0, "IFLA_LINKINFO", ""),
+            (52, 1, 0, b"vxlan\0", 1, "IFLA_INFO_KIND", ""),
+            (64, 2, 0, data, 1, "IFLA_INFO_DATA", "vxlan"),
+            (68, 1, 0, b"\x0a\0\0\0", 2, "IFLA_VXLAN_ID", "vxlan"),
+            (76, 0x3fff, 0x4000, b"\1\2\3\4", 2, "", "vxlan"),
+        ])
+        with self.assertRaises(linkcap.Fault):
+            link._replace(bytes=link.bytes[:20]).link_attributes()
+
     def test_types_without_names(self) -> None:
         found, = linkcap.attributes(new_link(attribute(0x3fff, b"\x0a\x0b")))
         self.assertEqual((found.path, found.value), ("kind 0x3fff", "0a0b"))

@@ -7,6 +7,7 @@ pub const VERSION: u32 = 3;
 pub const MIN_LIMIT: u32 = 16;
 pub const DEFAULT_LIMIT: u32 = 1_048_576;
 pub const WORDS_ROOM: usize = 127;
+pub const NAME_ROOM: usize = 64;
 
 pub const OK: u32 = 0;
 pub const DIFFERENT: u32 = 1;
@@ -81,6 +82,18 @@ pub struct Message {
     pub r#type: u32,
 }
 
+#[repr(C)]
+pub struct Attribute {
+    pub offset: u64,
+    pub payload: u64,
+    pub length: u64,
+    pub r#type: u32,
+    pub flags: u32,
+    pub depth: u32,
+    pub name: [c_char; NAME_ROOM],
+    pub link_kind: [c_char; NAME_ROOM],
+}
+
 extern "C" {
     pub fn linkcap_version() -> u32;
     pub fn linkcap_format() -> u32;
@@ -113,6 +126,15 @@ extern "C" {
         options: &Options,
         offset: u64,
         message: &mut Message,
+        fault: &mut Finding,
+    ) -> u32;
+    pub fn linkcap_next_attribute(
+        capture: *const u8,
+        length: usize,
+        options: &Options,
+        message: u64,
+        position: u64,
+        attribute: &mut Attribute,
         fault: &mut Finding,
     ) -> u32;
     pub fn linkcap_quirks(

@@ -195,6 +195,33 @@ fn selections() {
     assert_eq!(Options::new().without("mtu").attributes(&capture).err(), Some(Error::UnknownName("mtu".to_string())));
 }
 
+/// Offset, type, flags, payload, depth, name and link kind of an attribute.
+type Expected<'a> = (usize, u16, u16, &'a [u8], usize, &'a str, &'a str);
+
+/// IFLA_LINKINFO with the nested bit, in it IFLA_INFO_KIND and IFLA_INFO_DATA, and in that IFLA_VXLAN_ID and an attribute in network
+/// byte order whose type has no name.
+#[test]
+fn attributes_with_bytes() {
+    let data = [attribute(1, &[10, 0, 0, 0]), attribute(0x7fff, &[1, 2, 3, 4])].concat();
+    let info = [attribute(1, b"vxlan\0"), attribute(2, &data)].concat();
+    let capture = [b"\x10\0\0\0\x01\0\0\0\0\0\0\0\0\0\0\0".to_vec(), new_link(&[attribute(0x8012, &info)])].concat();
+    let messages: Vec<Message<'_>> = linkcap::messages(&capture).collect::<Result<_, _>>().expect("a legal capture");
+    assert_eq!(messages[0].link_attributes(), []);
+    let found = messages[1].link_attributes();
+    let expected: [Expected<'_>; 5] = [
+        (48, 18, 0x8000, &info, 0, "IFLA_LINKINFO", ""),
+        (52, 1, 0, b"vxlan\0", 1, "IFLA_INFO_KIND", ""),
+        (64, 2, 0, &data, 1, "IFLA_INFO_DATA", "vxlan"),
+        (68, 1, 0, &[10, 0, 0, 0], 2, "IFLA_VXLAN_ID", "vxlan"),
+        (76, 0x3fff, 0x4000, &[1, 2, 3, 4], 2, "", "vxlan"),
+    ];
+    assert_eq!(found.len(), expected.len());
+    for (a, (offset, attribute_type, flags, payload, depth, name, link_kind)) in found.iter().zip(expected) {
+        assert_eq!((a.offset, a.attribute_type, a.flags, a.depth), (offset, attribute_type, flags, depth));
+        assert_eq!((a.payload, a.name.as_str(), a.link_kind.as_str()), (payload, name, link_kind));
+    }
+}
+
 /// A message that is longer than the default limit.
 #[test]
 fn long_messages() {

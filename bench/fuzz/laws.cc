@@ -127,7 +127,7 @@ static void check_legal(const Bytes &capture, uint32_t limit, const linkcap_size
 static uint64_t check_attributes(const Bytes &capture, uint32_t limit, uint64_t start, uint64_t end)
 {
     uint64_t position = start, count = 0;
-    Attribute next;
+    LinkAttribute next;
     while ((next = next_attribute(capture, make_options(limit), start, position)).status == LINKCAP_OK) {
         const linkcap_attribute &found = next.attribute;
         LAW(found.offset >= position && found.payload == found.offset + 4 && found.depth <= 6);

@@ -129,9 +129,9 @@ Message next_message(const Bytes &capture, const linkcap_options &options, uint6
     return result;
 }
 
-Attribute next_attribute(const Bytes &capture, const linkcap_options &options, uint64_t message, uint64_t position)
+LinkAttribute next_attribute(const Bytes &capture, const linkcap_options &options, uint64_t message, uint64_t position)
 {
-    Attribute result = {};
+    LinkAttribute result = {};
     result.status = linkcap_next_attribute(first_input.store(capture), capture.size(), &options, message, position,
                                            &result.attribute, &result.fault);
     return result;

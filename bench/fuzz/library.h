@@ -58,7 +58,7 @@ struct Message {
 };
 
 // The result of linkcap_next_attribute.
-struct Attribute {
+struct LinkAttribute {
     linkcap_status status;
     linkcap_finding fault;
     linkcap_attribute attribute;
@@ -84,6 +84,6 @@ Result write_all(const Bytes &capture, const linkcap_options &options);
 // Calls linkcap_why for a piece at an offset of a capture.
 Reason why(const Bytes &piece, uint64_t offset, const linkcap_options &options);
 Message next_message(const Bytes &capture, const linkcap_options &options, uint64_t offset);
-Attribute next_attribute(const Bytes &capture, const linkcap_options &options, uint64_t message, uint64_t position);
+LinkAttribute next_attribute(const Bytes &capture, const linkcap_options &options, uint64_t message, uint64_t position);
 Quirks quirks(const Bytes &capture, const linkcap_options &options);
 Bytes words(const linkcap_finding &finding);

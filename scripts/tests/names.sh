@@ -121,7 +121,7 @@ succeeds "without order, with namespaces" bash -c '"$0" --ignore-order namespace
 
 # Refused requests.
 succeeds "a golden file isn't written with a refused request" bash -c 'rm -f refused.lines; "$0" --update refused.lines -- sh -c "ip link add v0 type no_such_kind; true" 2> report
-    [ $? -eq 2 ] && [ ! -e refused.lines ] && grep -qx "linkgold: RTM_NEWLINK: refused: EOPNOTSUPP" report' "$linkgold"
+    [ $? -eq 2 ] && [ ! -e refused.lines ] && grep -qx "linkgold: RTM_NEWLINK .v0.: refused: EOPNOTSUPP" report' "$linkgold"
 succeeds "a golden file with a refused request" bash -c '"$0" --may-fail --update refused.lines -- sh -c "ip link add v0 type no_such_kind; true" &&
     [ "$(tail -n 1 refused.lines)" = "  refused: EOPNOTSUPP" ] && "$0" refused.lines -- sh -c "ip link add v0 type no_such_kind; true" 2> /dev/null' "$linkgold"
 succeeds "the reason of a refused request" bash -c '"$0" --may-fail --reasons --update reasons.lines -- ip link add v0 type no_such_kind &&

@@ -184,7 +184,7 @@ def _refusal(text: str) -> Json:
 
 def _table(attributes: List[Json]) -> Json:
     """A route's table as the first RTA_TABLE has it, if that is a number: the header has 8 bits for it."""
-    table = next((attribute for attribute in attributes if attribute.get("name") == "RTA_TABLE"), {})
+    table: Json = next((attribute for attribute in attributes if attribute.get("name") == "RTA_TABLE"), {})
     value = {key: table[key] for key in table if key != "name"}
     return {"table": value} if isinstance(value.get("value"), int) and "nested_bit" not in value else {}
 

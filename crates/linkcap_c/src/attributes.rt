@@ -100,6 +100,7 @@ pub extern "C" fn linkcap_next_attribute(
 ) -> u32
     ensures legal { result ≡ 0 → (size kind : ℕ) × IsMessage (limit_of options.now) (drop message capture.now) size kind }
     ensures attribute { result ≡ 0 → IsNextAttribute capture.now message position attribute.new }
+    ensures inside { (result ≡ 0) ⊎ (result ≡ 2) → message < length capture.now }
     ensures position { result ≡ 0 → position ≤ attribute.new.offset }
     ensures none { result ≡ 6 → (length capture.now ≤ message)
         ⊎ (first_from position (frame_attributes message (drop message capture.now)) ≡ None) }

@@ -2,6 +2,7 @@
 use Rattle.std.specs.Prelude.{◌≡◌, ℕ, ◌+◌, ◌-◌, List, [], ◌++◌, length, drop, take, replicate, Option, None, Some}
 use Rattle.netlink_packet_core_grammar.specs.Attributes.{proper_kind}
 use Rattle.link_capture_attributes.specs.Attributes.{Found, first_from, frame_attributes}
+use Rattle.linkcap_c.specs.Messages.{IsMessage}
 use Rattle.linkcap_c.specs.declared.attributes.LinkcapAttribute.{LinkcapAttribute}
 
 -- The first 63 bytes of a name, and zeros up to 64 bytes.
@@ -34,3 +35,10 @@ pub record IsNextAttribute (c : List ℕ) (message position : ℕ) (a : LinkcapA
   pub first : first_from position (frame_attributes message (drop message c)) ≡ Some found
   pub is : a ≡ attribute_of found
   pub payload : take a.length (drop a.payload c) ≡ found.attribute.payload
+
+-- The message at the offset `message` of c is legal, and has no attribute at a position or after it.
+pub record HasNoneFrom (limit : ℕ) (c : List ℕ) (message position : ℕ) : Type 0 where
+  pub size : ℕ
+  pub kind : ℕ
+  pub legal : IsMessage limit (drop message c) size kind
+  pub none : first_from position (frame_attributes message (drop message c)) ≡ None

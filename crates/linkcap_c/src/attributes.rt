@@ -1,11 +1,10 @@
 //! The attributes of a message, one after the other, without a state between the calls.
 
-ghost use Rattle.std.specs.Prelude.{◌≡◌, ◌≢◌, ◌≤◌, ◌<◌, ◌^◌, ◌++◌, ◌⊎◌, ℕ, length, drop, option_map, None, Err};
+ghost use Rattle.std.specs.Prelude.{◌≡◌, ◌≢◌, ◌≤◌, ◌<◌, ◌^◌, ◌++◌, ◌⊎◌, ℕ, length, drop, option_map, Err};
 ghost use Rattle.link_capture_attributes.specs.AttributeViews.{found};
-ghost use Rattle.link_capture_attributes.specs.Attributes.{first_from, frame_attributes};
 ghost use Rattle.link_capture_grammar.specs.declared.fault.FaultKind.{FaultKind};
 ghost use Rattle.link_capture_grammar.specs.Captures.{first_frame};
-ghost use Rattle.linkcap_c.specs.Attributes.{IsNextAttribute, attribute_of, name_of};
+ghost use Rattle.linkcap_c.specs.Attributes.{HasNoneFrom, IsNextAttribute, attribute_of, name_of};
 ghost use Rattle.linkcap_c.specs.Findings.{fault_of};
 ghost use Rattle.linkcap_c.specs.Messages.{IsMessage};
 ghost use Rattle.linkcap_c.specs.Options.{AreInvalid, AreValid, limit_of};
@@ -103,7 +102,7 @@ pub extern "C" fn linkcap_next_attribute(
     ensures inside { (result ≡ 0) ⊎ (result ≡ 2) → message < length capture.now }
     ensures position { result ≡ 0 → position ≤ attribute.new.offset }
     ensures none { result ≡ 6 → (length capture.now ≤ message)
-        ⊎ (first_from position (frame_attributes message (drop message capture.now)) ≡ None) }
+        ⊎ HasNoneFrom (limit_of options.now) capture.now message position }
     ensures fault { result ≡ 2 → (kind : FaultKind)
         × (fault.new ≡ fault_of 0 (record { kind = kind; offset = message }))
         × (first_frame (limit_of options.now) (drop message capture.now) ≡ Err kind) }

@@ -1,8 +1,8 @@
-use Rattle.std.proofs.Common.{◌≡◌, Some, length, drop, refl, sym, ap, subst, ◌∙◌, arith, rules}
+use Rattle.std.proofs.Common.{◌≡◌, Some, None, inr, length, drop, refl, sym, ap, subst, ◌∙◌, arith, rules}
 use Rattle.std.proofs.lemmas.List.{take_rest}
 use Rattle.netlink_packet_core_grammar.specs.Frames.{IsFrame, frame_type}
 use Rattle.link_capture_attributes.specs.Attributes.{first_from, frame_attributes}
-use Rattle.link_capture_attributes.specs.AttributeViews.{found}
+use Rattle.link_capture_attributes.specs.AttributeViews.{all_found, found}
 use Rattle.link_capture_grammar.specs.Captures.{first_frame}
 use Rattle.linkcap_c.specs.Messages.{IsMessage}
 use Rattle.linkcap_c.proofs.AttributeBytes.{next_attribute}
@@ -23,3 +23,17 @@ returns-in-Some-attribute_from-clause-attribute c = λ _.
     (subst IsFrame rest m.whole)
     (ap (λ x. first_from c.args.position (frame_attributes c.args.message x)) (sym rest) ∙ sym c.in-Some-attribute_from.ensures.found)
     c.attribute_of.ensures
+
+pub returns-in-None-clause-none : goal.returns-in-None-clause-none
+returns-in-None-clause-none c = λ _.
+    let m = c.in_default-measure_frame.ensures.ok in
+    let rest = drop c.args.message c.args.capture.now in
+    let e = take_rest c.args.capture.now c.args.message in
+    let is = ap (first_frame c.in-Some.limit) (sym e) ∙ m.is in
+    let nothing : c.attribute_from.result ≡ None = search rules in
+    inr (record {
+      size = c.in_default-measure_frame.field-0.len;
+      kind = frame_type rest;
+      legal = subst (λ limit. IsMessage limit rest c.in_default-measure_frame.field-0.len (frame_type rest)) c.in-Some.ensures.limit.0 (m.text, is, refl);
+      none = ap (λ x. first_from c.args.position (frame_attributes c.args.message x)) (sym e) ∙ sym c.attribute_from.ensures.found ∙ ap all_found nothing;
+    })

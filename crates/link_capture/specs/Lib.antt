@@ -8,6 +8,7 @@ pub use Rattle.link_capture_grammar.specs.Numbers
 pub use Rattle.link_capture_checks.specs.Listings
 pub use Rattle.link_capture_checks.specs.Measures
 pub use Rattle.link_capture_checks.specs.Sides
+pub use Rattle.link_capture_walks.specs.Walks
 pub use Rattle.link_capture_comparing.specs.Comparisons
 pub use Rattle.link_capture_reader.specs.Readers
 pub use Rattle.link_capture_reader.specs.Devices

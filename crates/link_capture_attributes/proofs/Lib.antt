@@ -1,4 +1,3 @@
-pub mod ListUnfolding
 pub mod Places
 pub mod Walking
 pub mod Together

@@ -1,6 +1,6 @@
 -- Where the attributes of a list are: their headers are apart, and each payload follows its header.
 use Rattle.std.proofs.Common.{◌≡◌, ℕ, zero, suc, ◌+◌, ◌-◌, ◌*◌, ◌<◌, ◌≤◌, Bool, true, false, cond, List, [], ◌∷◌, ◌++◌, drop, take, length, Option, Some, None, refl, sym, ap, subst, ◌∙◌, append_assoc, append-nil, arith, length-append, length-drop}
-use Rattle.std.specs.Prelude.{min, nat_le}
+use Rattle.std.specs.Prelude.{nat_le}
 use Rattle.std.proofs.lemmas.Bool.{le-leb, leb-true, lt-leb}
 use Rattle.std.proofs.lemmas.List.{length-take, length-take-le, take-append-drop}
 use Rattle.netlink_packet_core_grammar.specs.Attributes.{Attribute, attribute_length, first_attribute, nla_align}
@@ -13,18 +13,22 @@ use Rattle.link_capture_refusals.proofs.Continuing.{shorter_rest}
 use Rattle.link_capture_refusals.specs.Refusals.{list_rest}
 use Rattle.link_tables.specs.declared.rows.Form.{Form}
 use Rattle.link_tables.specs.declared.rows.Form.TheVariants.{FirstOnly}
-use Rattle.link_capture_attributes.specs.Attributes.{Found, Level, ListAttributes, after, attributes_within, first_from, frame_attributes, inside, inside_attributes, link_level, list_attributes, next_attributes}
+use Rattle.link_capture_walks.specs.Walks.{OfLists, collected, collected_inside, collected_next, collected_within}
+use Rattle.link_capture_attributes.specs.Attributes.{Found, Level, after, attribute_walk, first_from, frame_attributes, inside, link_level, list_attributes}
 use Rattle.link_capture_attributes.specs.AttributeLaws.{AreApart, AttributesAreApart, AttributesAreWhereTheySay, IsAt, NextIsFromPayload}
+
+abbrev ListAttributes : Type 0
+ListAttributes = OfLists Level (List Found)
 
 -- ---- no bytes have no attributes
 
-no_bytes_within : (n : ℕ) (l : Level) (offset : ℕ) → attributes_within n l offset [] ≡ []
-unfolding attributes_within first_attribute
+no_bytes_within : (n : ℕ) (l : Level) (offset : ℕ) → collected_within attribute_walk n l offset [] ≡ []
+unfolding collected_within first_attribute
 no_bytes_within zero l offset = refl
 no_bytes_within (suc n) l offset = refl
 
 pub no_bytes : (l : Level) (offset : ℕ) → list_attributes l offset [] ≡ []
-unfolding list_attributes
+unfolding list_attributes collected
 no_bytes l offset = no_bytes_within 0 l offset
 
 abbrev EndsEmpty : ListAttributes → Type 0
@@ -49,11 +53,11 @@ module _ (f : ListAttributes) (k : ℕ) (i : Apart f k) (none : EndsEmpty f) whe
   apart_at low at high l [] h g n = subst (AreApart low high) (sym (none l at)) tt
   apart_at low at high l (b ∷ bytes) h g n = wider at (at + length (b ∷ bytes)) low high (f l at (b ∷ bytes)) g (n (omega arith)) (i l at (b ∷ bytes) h)
 
-  apart_inside : (offset : ℕ) (o : Option (Level × ℕ)) (p : List ℕ) → length p ≤ k → AreApart offset (offset + length p) (inside_attributes f offset o p)
+  apart_inside : (offset : ℕ) (o : Option (Level × ℕ)) (p : List ℕ) → length p ≤ k → AreApart offset (offset + length p) (collected_inside f offset o p)
   apart_inside offset None p h = tt
   apart_inside offset (Some x) p h = let d = length-drop x.1 p in apart_at offset (offset + x.1) (offset + length p) x.0 (drop x.1 p) (omega (arith, d, h)) (omega arith) (λ n. omega (arith, n, d))
 
-  apart_next : FirstIsWithin → (l : Level) (offset : ℕ) (bytes : List ℕ) → length bytes ≤ suc k → (o : Option (Attribute × List ℕ)) → first_attribute bytes ≡ o → AreApart offset (offset + length bytes) (next_attributes f l offset o)
+  apart_next : FirstIsWithin → (l : Level) (offset : ℕ) (bytes : List ℕ) → length bytes ≤ suc k → (o : Option (Attribute × List ℕ)) → first_attribute bytes ≡ o → AreApart offset (offset + length bytes) (collected_next attribute_walk f l offset o)
   apart_next w l offset bytes p None h = tt
   apart_next w l offset bytes p (Some x) h =
       let a = w.within bytes x.0 x.1 h in
@@ -63,20 +67,20 @@ module _ (f : ListAttributes) (k : ℕ) (i : Apart f k) (none : EndsEmpty f) whe
       let mid = offset + 4 + length x.0.payload in (
         omega arith,
         omega (arith, a),
-        joined (offset + 4) mid (offset + length bytes) (inside_attributes f (offset + 4) (inside l x.0) x.0.payload)
+        joined (offset + 4) mid (offset + length bytes) (collected_inside f (offset + 4) (inside l x.0) x.0.payload)
             (f (after l x.0) (offset + nla_align (attribute_length x.0)) (list_rest l.list.table.form x.1)) (omega arith) (omega (arith, a))
             (apart_inside (offset + 4) (inside l x.0) x.0.payload (omega (arith, a, p)))
             (apart_at mid (offset + nla_align (attribute_length x.0)) (offset + length bytes) (after l x.0) (list_rest l.list.table.form x.1) (omega (arith, g, r, p)) (omega arith) (λ n. omega (arith, n, g, d))),
       )
 
 module _ (w : FirstIsWithin) where
-  apart_within : (n : ℕ) → Apart (λ l q d. attributes_within n l q d) n
-  unfolding attributes_within
+  apart_within : (n : ℕ) → Apart (collected_within attribute_walk n) n
+  unfolding collected_within
   apart_within zero l offset bytes h = tt
-  apart_within (suc n) l offset bytes h = apart_next (λ l q d. attributes_within n l q d) n (apart_within n) (no_bytes_within n) w l offset bytes h (first_attribute bytes) refl
+  apart_within (suc n) l offset bytes h = apart_next (collected_within attribute_walk n) n (apart_within n) (no_bytes_within n) w l offset bytes h (first_attribute bytes) refl
 
   apart_list : (l : Level) (offset : ℕ) (bytes : List ℕ) → AreApart offset (offset + length bytes) (list_attributes l offset bytes)
-  unfolding list_attributes
+  unfolding list_attributes collected
   apart_list l offset bytes = apart_within (length bytes) l offset bytes (omega arith)
 
   pub apart : AttributesAreApart
@@ -157,7 +161,7 @@ module _ (start : ℕ) (c : List ℕ) (f : ListAttributes) (k : ℕ) (i : There 
           let t = length-drop n bytes in
           i l (offset + n) (b ∷ d) (omega (arith, h, s)) (subst (IsAt start c (offset + n)) e (dropped_at start c offset n bytes (omega (arith, s, t)) a))
 
-  there_inside : (offset : ℕ) (o : Option (Level × ℕ)) (p : List ℕ) → length p ≤ k → IsAt start c offset p → AreAt start c (inside_attributes f offset o p)
+  there_inside : (offset : ℕ) (o : Option (Level × ℕ)) (p : List ℕ) → length p ≤ k → IsAt start c offset p → AreAt start c (collected_inside f offset o p)
   there_inside offset None p h a = tt
   there_inside offset (Some x) p h a = let d = length-drop x.1 p in there_rest x.0 offset x.1 p (omega (arith, d, h)) a
 
@@ -165,14 +169,14 @@ module _ (start : ℕ) (c : List ℕ) (f : ListAttributes) (k : ℕ) (i : There 
   there_kept FirstOnly l offset n bytes rest e h a = subst (AreAt start c) (sym (none l (offset + n))) tt
   there_kept form l offset n bytes rest e h a = subst (λ d. AreAt start c (f l (offset + n) d)) (sym e) (there_rest l offset n bytes (omega (arith, h, ap length e)) a)
 
-  there_next : FirstIsWithin → (l : Level) (offset : ℕ) (bytes : List ℕ) → length bytes ≤ suc k → IsAt start c offset bytes → (o : Option (Attribute × List ℕ)) → first_attribute bytes ≡ o → AreAt start c (next_attributes f l offset o)
+  there_next : FirstIsWithin → (l : Level) (offset : ℕ) (bytes : List ℕ) → length bytes ≤ suc k → IsAt start c offset bytes → (o : Option (Attribute × List ℕ)) → first_attribute bytes ≡ o → AreAt start c (collected_next attribute_walk f l offset o)
   there_next w l offset bytes p a None h = tt
   there_next w l offset bytes p a (Some x) h =
       let t = w.within bytes x.0 x.1 h in
       let r = rest_shorter w bytes x.0 x.1 h in
       let payload = payload_at x.0 x.1 (headed bytes x.0 x.1 h) a in (
         payload,
-        all_there start c (inside_attributes f (offset + 4) (inside l x.0) x.0.payload) (f (after l x.0) (offset + nla_align (attribute_length x.0)) (list_rest l.list.table.form x.1))
+        all_there start c (collected_inside f (offset + 4) (inside l x.0) x.0.payload) (f (after l x.0) (offset + nla_align (attribute_length x.0)) (list_rest l.list.table.form x.1))
             (there_inside (offset + 4) (inside l x.0) x.0.payload (omega (arith, t, p)) payload)
             (there_kept l.list.table.form (after l x.0) offset (nla_align (attribute_length x.0)) bytes x.1 (rest_is x.0 x.1 (headed bytes x.0 x.1 h)) (omega (arith, r, p)) a),
       )
@@ -196,13 +200,13 @@ module _ (start : ℕ) (c : List ℕ) (f : ListAttributes) (k : ℕ) (i : There 
           ∙ ap (drop (nla_align (attribute_length e))) (sym k.is)
 
 module _ (w : FirstIsWithin) (start : ℕ) (c : List ℕ) where
-  there_within : (n : ℕ) → There start c (λ l q d. attributes_within n l q d) n
-  unfolding attributes_within
+  there_within : (n : ℕ) → There start c (collected_within attribute_walk n) n
+  unfolding collected_within
   there_within zero l offset bytes h a = tt
-  there_within (suc n) l offset bytes h a = there_next start c (λ l q d. attributes_within n l q d) n (there_within n) (no_bytes_within n) w l offset bytes h a (first_attribute bytes) refl
+  there_within (suc n) l offset bytes h a = there_next start c (collected_within attribute_walk n) n (there_within n) (no_bytes_within n) w l offset bytes h a (first_attribute bytes) refl
 
 there_list : FirstIsWithin → (start : ℕ) (c : List ℕ) (l : Level) (offset : ℕ) (bytes : List ℕ) → IsAt start c offset bytes → AreAt start c (list_attributes l offset bytes)
-unfolding list_attributes
+unfolding list_attributes collected
 there_list w start c l offset bytes a = there_within w start c (length bytes) l offset bytes (omega arith) a
 
 all_in_frame : FirstIsWithin → (offset : ℕ) (c : List ℕ) → IsFrame c → AreAt offset c (frame_attributes offset c)

@@ -1,19 +1,12 @@
 -- The laws of attributes with their contexts, as the functions of `laws` state them.
-use Rattle.std.specs.Prelude.{◌≡◌, ℕ, ◌+◌, ◌≤◌, List, [], ◌∷◌, ◌++◌, length, Some, None}
-use Rattle.netlink_packet_core_grammar.specs.Attributes.{Attribute, attribute_length, first_attribute, nla_align}
+use Rattle.std.specs.Prelude.{◌≡◌, ℕ, ◌+◌, ◌≤◌, List, [], ◌∷◌, ◌++◌, length, Some}
 use Rattle.netlink_packet_core_grammar.specs.Frames.{IsFrame, frame_length}
-use Rattle.link_capture_refusals.specs.Refusals.{list_rest}
-use Rattle.link_capture_attributes.specs.Attributes.{Found, Level, after, first_from, found_in, frame_attributes}
-use Rattle.link_capture_attributes.specs.Attributes.{inside, inside_attributes, list_attributes}
+use Rattle.link_capture_walks.specs.Walks.{UnfoldsByAttributes}
+use Rattle.link_capture_attributes.specs.Attributes.{Found, attribute_walk, first_from, frame_attributes, list_attributes}
 
 -- The attributes of a list are its first one, those inside it, and those of the rest; none if no attribute is there.
-pub record ListsUnfoldByAttributes : Type 0 where
-  pub next : (l : Level) (offset : ℕ) (bytes : List ℕ) (e : Attribute) (rest : List ℕ) →
-      first_attribute bytes ≡ Some (e, rest) →
-      list_attributes l offset bytes ≡ found_in l offset e ∷
-      (inside_attributes list_attributes (offset + 4) (inside l e) e.payload ++
-      list_attributes (after l e) (offset + nla_align (attribute_length e)) (list_rest l.list.table.form rest))
-  pub none : (l : Level) (offset : ℕ) (bytes : List ℕ) → first_attribute bytes ≡ None → list_attributes l offset bytes ≡ []
+abbrev pub ListsUnfoldByAttributes : Type 0
+ListsUnfoldByAttributes = UnfoldsByAttributes attribute_walk list_attributes
 
 -- The headers of attributes are apart: each begins at `low` or after it, ends at `high` or before it, and those after it
 -- begin where it ends or later.

@@ -1,8 +1,7 @@
 -- The attributes of a link message, each with its context, in the order of their bytes.
-use Rattle.std.specs.Prelude.{ℕ, zero, suc, ◌+◌, ◌==◌, ◌&&◌, ◌||◌, nat_le, cond, false, true, List, [], ◌∷◌, ◌++◌, length}
+use Rattle.std.specs.Prelude.{ℕ, suc, ◌+◌, ◌==◌, ◌&&◌, ◌||◌, nat_le, cond, false, true, List, [], ◌∷◌, length}
 use Rattle.std.specs.Prelude.{drop, slice_index, Option, Some, None, option_map}
-use Rattle.netlink_packet_core_grammar.specs.Attributes.{Attribute, attribute_length, first_attribute, nla_align}
-use Rattle.netlink_packet_core_grammar.specs.Attributes.{proper_kind}
+use Rattle.netlink_packet_core_grammar.specs.Attributes.{Attribute, proper_kind}
 use Rattle.netlink_packet_core_grammar.specs.Frames.{frame_body, frame_type}
 use Rattle.attribute_tables_grammar.specs.Lists.{Context}
 use Rattle.link_tables.specs.declared.rows.Form.TheVariants.{Any}
@@ -13,6 +12,7 @@ use Rattle.link_capture_refusals.specs.declared.tables.Inside.TheVariants as I
 use Rattle.link_capture_refusals.specs.RefusalTables.{Listing, row_in, whole}
 use Rattle.link_capture_refusals.specs.Refusals.{list_rest}
 use Rattle.link_capture_refusals.specs.RowRules.{following}
+use Rattle.link_capture_walks.specs.Walks.{OfLists, Walk, collected}
 
 -- An attribute with its context: the offset of its header in bytes from the capture's start, its kind and payload, how
 -- many attributes it is inside, its name if its table has one, and the link kind whose data it holds or is in.
@@ -78,31 +78,20 @@ inside l e =
 abbrev pub after : Level → Attribute → Level
 after l e = record { list = following l.list e; depth = l.depth; link_kind = l.link_kind }
 
--- A function that returns the attributes of a list, of which these bytes are the rest, at an offset.
-abbrev pub ListAttributes : Type 0
-ListAttributes = Level → ℕ → List ℕ → List Found
+-- The walk through the attributes of a list and those inside them.
+abbrev pub attribute_walk : Walk Level Found
+attribute_walk =
+    record {
+      direct = λ l offset e. found_in l offset e ∷ [];
+      inside = inside;
+      after = after;
+      rest = λ l bytes. list_rest l.list.table.form bytes;
+    }
 
--- The attributes inside an attribute whose payload is at `offset`, by those of lists.
-abbrev pub inside_attributes : ListAttributes → ℕ → Option (Level × ℕ) → List ℕ → List Found
-inside_attributes list offset None p = []
-inside_attributes list offset (Some x) p = list x.0 (offset + x.1) (drop x.1 p)
-
--- The attributes of a list: its first one, those inside that, and those of what follows it and its padding.
-abbrev pub next_attributes : ListAttributes → Level → ℕ → Option (Attribute × List ℕ) → List Found
-next_attributes list l offset None = []
-next_attributes list l offset (Some x) =
-    found_in l offset x.0 ∷ (inside_attributes list (offset + 4) (inside l x.0) x.0.payload
-    ++ list (after l x.0) (offset + nla_align (attribute_length x.0)) (list_rest l.list.table.form x.1))
-
--- The attributes of a list in at most n steps.
-unfoldable pub attributes_within : ℕ → ListAttributes
-attributes_within zero l offset bytes = []
-attributes_within (suc n) l offset bytes =
-    next_attributes (λ m q d. attributes_within n m q d) l offset (first_attribute bytes)
-
--- The attributes of a list whose bytes, or the rest of them, begin at `offset`.
-unfoldable pub list_attributes : ListAttributes
-list_attributes l offset bytes = attributes_within (length bytes) l offset bytes
+-- The attributes of a list whose bytes, or the rest of them, begin at `offset`: its first one, those inside that, and
+-- those of what follows it and its padding.
+unfoldable pub list_attributes : OfLists Level (List Found)
+list_attributes l offset bytes = collected attribute_walk l offset bytes
 
 -- A link's attributes, from its first one on.
 abbrev pub link_level : List ℕ → Level

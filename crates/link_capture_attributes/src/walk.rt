@@ -1,16 +1,17 @@
 //! A walk through the nested lists of a link message, up to an offset.
 
-ghost use Rattle.std.specs.Prelude.{◌≡◌, ◌≤◌, ◌<◌, ◌+◌, ◌^◌, drop, length, option_map, IfSome};
+ghost use Rattle.std.specs.Prelude.{◌≡◌, ◌≤◌, ◌<◌, ◌+◌, ◌^◌, length, option_map, IfSome};
 ghost use Rattle.link_interpreter.specs.Sameness.{attribute_of};
 ghost use Rattle.link_capture_refusals.specs.RefusalTables.{IsLower};
 ghost use Rattle.link_capture_attributes.specs.Attributes.{found_in, first_from, inside, level_by_row, link_kind_of};
-ghost use Rattle.link_capture_attributes.specs.Attributes.{list_attributes, row_of};
+ghost use Rattle.link_capture_attributes.specs.Attributes.{list_attributes};
 ghost use Rattle.link_capture_attributes.specs.AttributeViews.{IsShallow, all_found, found, level_of};
 
 use crate::attribute_at::AttributeAt;
 use crate::laws::lists_unfold_by_attributes;
 use link_capture_checks::Listed;
 use link_capture_refusals::{Inside, ListTable, list_rest, next_list, row_in, whole};
+use link_capture_walks::following;
 use link_interpreter::{Attribute, KIND_BOUND, first_attribute};
 use link_tables::{
     Form, IFLA_INFO_DATA, IFLA_INFO_SLAVE_DATA, IFLA_INFO_XSTATS, LINK_HEADER_LEN, family_table,
@@ -109,14 +110,6 @@ fn enter<'a>(
         link_kind,
     };
     (here, level_by_row(level, link_kind, row, attribute.payload))
-}
-
-/// Returns the bytes after the first `skipped`.
-pub(crate) fn following(bytes: &[u8], skipped: usize) -> &[u8]
-    requires { skipped ≤ length bytes.now }
-    ensures { result.now ≡ drop skipped bytes.now }
-{
-    &bytes[skipped..]
 }
 
 /// Returns the first attribute at `position` or after it, of a list whose bytes begin at `offset`.

@@ -27,7 +27,8 @@ use Rattle.link_capture_quirks.specs.declared.tables.Data.{Data}
 use Rattle.link_capture_quirks.specs.declared.tables.Data.TheVariants.{Vxlan, Geneve, Gre, Gre6, IpTunnel, BareUdp, Batadv, Netkit, Pair}
 use Rattle.link_capture_quirks.specs.declared.tables.Table.TheVariants.{Inet, Programs, Functions, OfKind}
 use Rattle.link_capture_quirks.specs.QuirkRows.{quirk_if, over_one_byte, over_one_u32, has_nul, is_long_alias, link_quirk, data_quirk, is_flag, is_strict, bit_quirk, payload_quirk, header_quirk}
-use Rattle.link_capture_quirks.specs.QuirkLists.{quirks_at, direct_quirks, inside_of, list_kind_after, inside_quirks, list_quirks}
+use Rattle.link_capture_walks.specs.Walks.{collected_inside}
+use Rattle.link_capture_quirks.specs.QuirkLists.{quirks_at, direct_quirks, inside_of, list_kind_after, list_quirks}
 use Rattle.link_capture_quirks.specs.declared.tables.Table.{Table}
 use Rattle.link_capture_checks.specs.Listings.{whole}
 use Rattle.link_capture_quirks.specs.QuirkTables.{Listing, family_table, inside}
@@ -240,8 +241,8 @@ one-quirk : ListsUnfoldByAttributes → WrittenIsFirst → (offset : ℕ) (e : A
 unfolding list_text first_attribute
 one-quirk s w offset e direct =
     s.next Twin offset (list_text (e ∷ [])) e [] (w e [])
-    ∙ ap (λ z. z ++ (inside_quirks list_quirks (offset + 4) (inside_of Twin e) e.payload ++ list_quirks (list_kind_after Twin e) (offset + nla_align (attribute_length e)) [])) (direct offset)
-    ∙ ap (λ o. inside_quirks list_quirks (offset + 4) o e.payload ++ list_quirks (list_kind_after Twin e) (offset + nla_align (attribute_length e)) []) (pair-inside e)
+    ∙ ap (λ z. z ++ (collected_inside list_quirks (offset + 4) (inside_of Twin e) e.payload ++ list_quirks (list_kind_after Twin e) (offset + nla_align (attribute_length e)) [])) (direct offset)
+    ∙ ap (λ o. collected_inside list_quirks (offset + 4) o e.payload ++ list_quirks (list_kind_after Twin e) (offset + nla_align (attribute_length e)) []) (pair-inside e)
     ∙ s.none (list_kind_after Twin e) (offset + nla_align (attribute_length e)) [] refl
 
 pair-quirks : ListsUnfoldByAttributes → WrittenIsFirst → (p : Peer) (offset : ℕ) (b : List ℕ) → (list_rule first_only (grammar p pair)).accepted b ≡ true → list_quirks Twin offset ((list_rule first_only (grammar p pair)).canonical b) ≡ []

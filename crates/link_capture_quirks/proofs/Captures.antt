@@ -2,8 +2,8 @@
 use Rattle.std.proofs.Common.{◌≡◌, ℕ, ◌+◌, Bool, true, false, cond, List, [], ◌++◌, drop, Ok, refl, sym, ap, ◌∙◌, arith}
 use Rattle.netlink_packet_core_grammar.specs.Attributes.{nla_align}
 use Rattle.netlink_packet_core_grammar.specs.Frames.{frame_type, frame_body, frame_text}
-use Rattle.netlink_packet_core_grammar.specs.Laws.{FirstIsWithin}
-use Rattle.netlink_packet_core_grammar.proofs.Attributes.{sized, first_attribute_text}
+use Rattle.netlink_packet_core_grammar.proofs.Attributes.{first_attribute_text}
+use Rattle.netlink_packet_core_grammar.proofs.Together.{first_is_within}
 use Rattle.attribute_tables_grammar.specs.Rules.{Migrates}
 use Rattle.attribute_tables_grammar.proofs.Attributes.{migrates_reflexive}
 use Rattle.link_message_grammar.specs.Body.{link_body, link_peer}
@@ -19,22 +19,21 @@ use Rattle.link_capture_quirks.specs.QuirkLaws.{ListsUnfoldByAttributes, QuirksU
 use Rattle.link_capture_quirks.specs.CaptureQuirks.{frame_quirks, link_quirks, quirks_from}
 use Rattle.link_capture_quirks.proofs.Canonical.{written}
 use Rattle.link_capture_quirks.proofs.CaptureSteps as Steps
-use Rattle.link_capture_quirks.proofs.ListUnfolding as ListUnfolding
+use Rattle.link_capture_quirks.specs.QuirkLists.{list_quirks, quirk_walk}
+use Rattle.link_capture_walks.proofs.Steps.{unfolds_by_attributes}
 use Rattle.link_capture_quirks.specs.TextLaws.{TextsHaveNoQuirk}
 use Rattle.link_capture_quirks.proofs.Bodies.{body-none}
 
 -- ---- the laws of the crates below
 
-within : FirstIsWithin
-within = record { within = λ bytes e rest h. (sized bytes e rest h).within; rest_length = λ bytes e rest h. (sized bytes e rest h).rest_length }
-
-by_lists : ListsUnfoldByAttributes
-by_lists = ListUnfolding.steps within
+pub by_lists : ListsUnfoldByAttributes
+unfolding list_quirks
+by_lists = unfolds_by_attributes quirk_walk first_is_within (λ l bytes. omega arith)
 
 by_frames : QuirksUnfoldByFrames
 by_frames = Steps.steps
 
-attributes : WrittenAttributesHaveNone
+pub attributes : WrittenAttributesHaveNone
 attributes = written by_lists first_attribute_text
 
 migrates : Migrates link_body link_body

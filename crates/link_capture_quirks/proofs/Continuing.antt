@@ -6,7 +6,8 @@ use Rattle.link_capture_quirks.specs.declared.walk.Level.{Level}
 use Rattle.link_capture_checks.specs.Listings.{listing}
 use Rattle.link_capture_quirks.specs.QuirkTables.{depth}
 use Rattle.link_capture_quirks.specs.QuirkRows.{bit_quirk, payload_quirk}
-use Rattle.link_capture_quirks.specs.QuirkLists.{quirks_at, direct_quirks, inside_of, list_kind_after, inside_quirks, list_quirks}
+use Rattle.link_capture_walks.specs.Walks.{collected_inside}
+use Rattle.link_capture_quirks.specs.QuirkLists.{quirks_at, direct_quirks, inside_of, list_kind_after, list_quirks}
 use Rattle.link_capture_quirks.specs.QuirkWalks.{optional_quirk, level_quirks, levels_quirks, walk_quirks, IsWithin, AreWithin, weight}
 use Rattle.link_capture_quirks.specs.QuirkLaws.{ListsUnfoldByAttributes}
 use Rattle.link_capture_quirks.proofs.Stacks.{quirks-push, weight-push, within-push, within-leading, within-last}
@@ -30,7 +31,7 @@ pub record Inner (l k : Level) (e : Attribute) (header_size : ℕ) : Type 0 wher
   pub offset : k.offset ≡ l.offset + 4 + header_size
   pub inside : header_size ≤ length e.payload
   pub size : length k.rest.now ≡ length e.payload - header_size
-  pub quirks_left : level_quirks k ≡ inside_quirks list_quirks (l.offset + 4) (Some (listing k.list, header_size)) e.payload
+  pub quirks_left : level_quirks k ≡ collected_inside list_quirks (l.offset + 4) (Some (listing k.list, header_size)) e.payload
 
 pub record Found (l : Level) (e : Attribute) (first second : Option QuirkAt) : Type 0 where
   pub bit : optional_quirk first ≡ quirks_at l.offset (bit_quirk l.list.table e.kind)
@@ -64,25 +65,25 @@ module _ (s : ListsUnfoldByAttributes) (ls : List Level) (l m : Level) (e : Attr
   following : level_quirks m ≡ list_quirks (list_kind_after (listing l.list) e) (l.offset + nla_align (attribute_length e)) m.rest.now
   following = ap (λ z. list_quirks z m.offset m.rest.now) n.list ∙ ap (λ z. list_quirks (list_kind_after (listing l.list) e) z m.rest.now) n.offset
 
-  whole : levels_quirks (ls ++ l ∷ []) ≡ ((optional_quirk first ++ optional_quirk second) ++ (inside_quirks list_quirks (l.offset + 4) (inside_of (listing l.list) e) e.payload ++ level_quirks m)) ++ levels_quirks ls
+  whole : levels_quirks (ls ++ l ∷ []) ≡ ((optional_quirk first ++ optional_quirk second) ++ (collected_inside list_quirks (l.offset + 4) (inside_of (listing l.list) e) e.payload ++ level_quirks m)) ++ levels_quirks ls
   whole =
       quirks-push ls l
       ∙ ap (λ z. z ++ levels_quirks ls) (s.next (listing l.list) l.offset l.rest.now e m.rest.now n.first)
-      ∙ ap (λ z. (z ++ (inside_quirks list_quirks (l.offset + 4) (inside_of (listing l.list) e) e.payload ++ list_quirks (list_kind_after (listing l.list) e) (l.offset + nla_align (attribute_length e)) m.rest.now)) ++ levels_quirks ls) direct
-      ∙ ap (λ z. ((optional_quirk first ++ optional_quirk second) ++ (inside_quirks list_quirks (l.offset + 4) (inside_of (listing l.list) e) e.payload ++ z)) ++ levels_quirks ls) (sym following)
+      ∙ ap (λ z. (z ++ (collected_inside list_quirks (l.offset + 4) (inside_of (listing l.list) e) e.payload ++ list_quirks (list_kind_after (listing l.list) e) (l.offset + nla_align (attribute_length e)) m.rest.now)) ++ levels_quirks ls) direct
+      ∙ ap (λ z. ((optional_quirk first ++ optional_quirk second) ++ (collected_inside list_quirks (l.offset + 4) (inside_of (listing l.list) e) e.payload ++ z)) ++ levels_quirks ls) (sym following)
 
   pub quirks-next : inside_of (listing l.list) e ≡ None → walk_quirks first second (ls ++ m ∷ []) ≡ levels_quirks (ls ++ l ∷ [])
   quirks-next none =
       ap (λ z. optional_quirk first ++ (optional_quirk second ++ z)) (quirks-push ls m)
       ∙ sym (glue (optional_quirk first) (optional_quirk second) [] (level_quirks m) (levels_quirks ls))
-      ∙ ap (λ o. ((optional_quirk first ++ optional_quirk second) ++ (inside_quirks list_quirks (l.offset + 4) o e.payload ++ level_quirks m)) ++ levels_quirks ls) (sym none)
+      ∙ ap (λ o. ((optional_quirk first ++ optional_quirk second) ++ (collected_inside list_quirks (l.offset + 4) o e.payload ++ level_quirks m)) ++ levels_quirks ls) (sym none)
       ∙ sym whole
 
   pub quirks-inside : (k : Level) (header_size : ℕ) → Inner l k e header_size → walk_quirks first second ((ls ++ m ∷ []) ++ k ∷ []) ≡ levels_quirks (ls ++ l ∷ [])
   quirks-inside k header_size i =
       ap (λ z. optional_quirk first ++ (optional_quirk second ++ z)) (quirks-push (ls ++ m ∷ []) k ∙ ap (λ z. level_quirks k ++ z) (quirks-push ls m))
       ∙ sym (glue (optional_quirk first) (optional_quirk second) (level_quirks k) (level_quirks m) (levels_quirks ls))
-      ∙ ap (λ z. ((optional_quirk first ++ optional_quirk second) ++ (z ++ level_quirks m)) ++ levels_quirks ls) (i.quirks_left ∙ ap (λ o. inside_quirks list_quirks (l.offset + 4) o e.payload) (sym i.list))
+      ∙ ap (λ z. ((optional_quirk first ++ optional_quirk second) ++ (z ++ level_quirks m)) ++ levels_quirks ls) (i.quirks_left ∙ ap (λ o. collected_inside list_quirks (l.offset + 4) o e.payload) (sym i.list))
       ∙ sym whole
 
 -- if no whole attribute follows, the rest of the list has no quirk

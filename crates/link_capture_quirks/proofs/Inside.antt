@@ -13,7 +13,8 @@ use Rattle.link_capture_quirks.specs.declared.tables.Table.{Table}
 use Rattle.link_capture_quirks.specs.QuirkRows.{nested_bit_quirk, payload_quirk}
 use Rattle.link_capture_checks.specs.Listings.{whole}
 use Rattle.link_capture_quirks.specs.QuirkTables.{Listing, family_table, inside, inside_table, at_payload_start, has_peer}
-use Rattle.link_capture_quirks.specs.QuirkLists.{quirks_at, direct_quirks, inside_of, list_kind_after, inside_quirks, next_list_quirks, quirks_within, list_quirks}
+use Rattle.link_capture_walks.specs.Walks.{OfLists, collected, collected_inside, collected_next, collected_within}
+use Rattle.link_capture_quirks.specs.QuirkLists.{quirks_at, direct_quirks, inside_of, list_kind_after, list_quirks, quirk_walk}
 use Rattle.link_capture_quirks.proofs.Lists.{HasNone, NoneInside}
 
 -- ---- choices
@@ -71,20 +72,20 @@ no-quirks-direct t offset e d =
 
 -- if no attribute has a list inside, and the list kind stays the same
 module _ (l : Listing) (d : HasNoQuirks l.table) (inner : (e : Attribute) → inside_of l e ≡ None) (same : (e : Attribute) → list_kind_after l e ≡ l) where
-  next-none : (list : Listing → ℕ → List ℕ → List QuirkAt) → ((offset : ℕ) (b : List ℕ) → list l offset b ≡ []) → (offset : ℕ) (o : Option (Attribute × List ℕ)) → next_list_quirks list l offset o ≡ []
+  next-none : (list : OfLists Listing (List QuirkAt)) → ((offset : ℕ) (b : List ℕ) → list l offset b ≡ []) → (offset : ℕ) (o : Option (Attribute × List ℕ)) → collected_next quirk_walk list l offset o ≡ []
   next-none list h offset None = refl
   next-none list h offset (Some x) =
       let following = offset + nla_align (attribute_length x.0) in
-      ap (λ z. z ++ (inside_quirks list (offset + 4) (inside_of l x.0) x.0.payload ++ list (list_kind_after l x.0) following x.1)) (no-quirks-direct l.table offset x.0 d)
-      ∙ ap (λ o. inside_quirks list (offset + 4) o x.0.payload ++ list (list_kind_after l x.0) following x.1) (inner x.0)
+      ap (λ z. z ++ (collected_inside list (offset + 4) (inside_of l x.0) x.0.payload ++ list (list_kind_after l x.0) following x.1)) (no-quirks-direct l.table offset x.0 d)
+      ∙ ap (λ o. collected_inside list (offset + 4) o x.0.payload ++ list (list_kind_after l x.0) following x.1) (inner x.0)
       ∙ ap (λ m. list m following x.1) (same x.0)
       ∙ h following x.1
 
-  within-none : (n offset : ℕ) (b : List ℕ) → quirks_within n l offset b ≡ []
-  unfolding quirks_within
+  within-none : (n offset : ℕ) (b : List ℕ) → collected_within quirk_walk n l offset b ≡ []
+  unfolding collected_within
   within-none zero offset b = refl
-  within-none (suc n) offset b = next-none (λ m p c. quirks_within n m p c) (within-none n) offset (first_attribute b)
+  within-none (suc n) offset b = next-none (collected_within quirk_walk n) (within-none n) offset (first_attribute b)
 
   pub none-at-all : (offset : ℕ) (b : List ℕ) → list_quirks l offset b ≡ []
-  unfolding list_quirks
+  unfolding list_quirks collected
   none-at-all offset b = within-none (length b) offset b

@@ -28,7 +28,8 @@ use Rattle.link_capture_quirks.specs.declared.tables.Data.TheVariants.{Other, Vx
 use Rattle.link_capture_quirks.specs.declared.tables.Table.TheVariants.{OfKind}
 use Rattle.link_capture_checks.specs.Listings.{whole}
 use Rattle.link_capture_quirks.specs.QuirkTables.{Listing, data_of, data_in, data_list, held_list, at_payload_start, family_table, inside, next_data, has_peer}
-use Rattle.link_capture_quirks.specs.QuirkLists.{inside_of, list_kind_after, inside_quirks, list_quirks}
+use Rattle.link_capture_walks.specs.Walks.{collected_inside}
+use Rattle.link_capture_quirks.specs.QuirkLists.{inside_of, list_kind_after, list_quirks}
 use Rattle.link_capture_quirks.specs.QuirkLaws.{ListsUnfoldByAttributes, IsDataTable, WrittenAttributesHaveNone}
 use Rattle.link_capture_quirks.proofs.Lists.{HasNone, NoneInside, rows-none}
 use Rattle.link_capture_quirks.proofs.Inside.{at_kind, either, split, nothing-inside, without-peer, whole-list, written-inside, HasNoQuirks, no-quirks-direct, none-at-all}
@@ -111,7 +112,7 @@ module _ (s : ListsUnfoldByAttributes) (w : WrittenAttributesHaveNone) (p : Peer
       let x = rewrite r e in
       let following = offset + nla_align (attribute_length x) in
       s.next l offset (attribute_text x ++ []) x [] (first_attribute_text x [])
-      ∙ ap (λ z. z ++ (inside_quirks list_quirks (offset + 4) (inside_of l x) x.payload ++ list_quirks (list_kind_after l x) following [])) (no-quirks-direct l.table offset x (record { bit = λ k. refl; payload = λ k q. refl }))
+      ∙ ap (λ z. z ++ (collected_inside list_quirks (offset + 4) (inside_of l x) x.payload ++ list_quirks (list_kind_after l x) following [])) (no-quirks-direct l.table offset x (record { bit = λ k. refl; payload = λ k q. refl }))
       ∙ ap (λ z. z ++ list_quirks (list_kind_after l x) following []) (written-peer Pair pair pair-peers e a (offset + 4))
       ∙ s.none (list_kind_after l x) following [] refl
 

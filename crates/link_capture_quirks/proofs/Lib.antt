@@ -1,4 +1,3 @@
-pub mod ListUnfolding
 pub mod CaptureSteps
 pub mod Stacks
 pub mod Continuing

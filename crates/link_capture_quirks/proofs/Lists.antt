@@ -12,7 +12,8 @@ use Rattle.attribute_tables_grammar.specs.Tables.{Table}
 use Rattle.attribute_tables_grammar.proofs.LookUps.{list-rows}
 use Rattle.attribute_tables_grammar.proofs.Lists.{accepted_list}
 use Rattle.link_capture_quirks.specs.QuirkTables.{Listing}
-use Rattle.link_capture_quirks.specs.QuirkLists.{direct_quirks, inside_of, list_kind_after, inside_quirks, list_quirks}
+use Rattle.link_capture_walks.specs.Walks.{collected_inside}
+use Rattle.link_capture_quirks.specs.QuirkLists.{direct_quirks, inside_of, list_kind_after, list_quirks}
 use Rattle.link_capture_quirks.specs.QuirkLaws.{ListsUnfoldByAttributes}
 
 -- what a list's rule writes has no quirk as a list of this kind
@@ -21,7 +22,7 @@ HasNone l r = (offset : ℕ) (b : List ℕ) → r.accepted b ≡ true → list_q
 
 -- the list inside an attribute with this payload has no quirk, if there is one
 abbrev pub NoneInside : Option (Listing × ℕ) → List ℕ → Type 0
-NoneInside o q = (offset : ℕ) → inside_quirks list_quirks offset o q ≡ []
+NoneInside o q = (offset : ℕ) → collected_inside list_quirks offset o q ≡ []
 
 -- An attribute, as its row writes it, has no quirk, neither itself nor inside, and the context determines the kind of
 -- list after it.
@@ -63,7 +64,7 @@ module _ (s : ListsUnfoldByAttributes) where
         let following = offset + nla_align (attribute_length x) in
         let h = and_parts (r.rule.accepted e.payload) _ a in
         s.next (listed c) offset (attribute_text x ++ rest) x rest (first_attribute_text x rest)
-        ∙ ap (λ z. z ++ (inside_quirks list_quirks (offset + 4) (inside_of (listed c) x) x.payload ++ list_quirks (list_kind_after (listed c) x) following rest)) (q.direct c e offset k.0 h.0)
+        ∙ ap (λ z. z ++ (collected_inside list_quirks (offset + 4) (inside_of (listed c) x) x.payload ++ list_quirks (list_kind_after (listed c) x) following rest)) (q.direct c e offset k.0 h.0)
         ∙ ap (λ z. z ++ list_quirks (list_kind_after (listed c) x) following rest) (q.inner c e h.0 (offset + 4))
         ∙ ap (λ l. list_quirks l following rest) (q.following c e)
         ∙ text-none (g.next c e) following es k.1 h.1

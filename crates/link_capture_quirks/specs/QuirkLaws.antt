@@ -1,7 +1,6 @@
 -- The laws of encoding quirks, as the functions of `laws` state them.
-use Rattle.std.specs.Prelude.{◌≡◌, ℕ, true, false, ◌+◌, List, [], ◌++◌, drop, Some, None, Ok, Err}
-use Rattle.netlink_packet_core_grammar.specs.Attributes.{Attribute, proper_kind, nla_align, attribute_length}
-use Rattle.netlink_packet_core_grammar.specs.Attributes.{first_attribute}
+use Rattle.std.specs.Prelude.{◌≡◌, ℕ, true, false, ◌+◌, List, [], ◌++◌, drop, None, Ok, Err}
+use Rattle.netlink_packet_core_grammar.specs.Attributes.{Attribute, proper_kind, nla_align}
 use Rattle.link_capture_grammar.specs.declared.fault.FaultKind.{FaultKind}
 use Rattle.link_capture_grammar.specs.Captures.{first_frame}
 use Rattle.attribute_tables_grammar.specs.Shapes.{Shape}
@@ -21,20 +20,14 @@ use Rattle.link_capture_quirks.specs.declared.tables.Table.TheVariants.{Unspec, 
 use Rattle.link_capture_quirks.specs.declared.tables.Table.TheVariants.{OfKind}
 use Rattle.link_capture_quirks.specs.QuirkRows.{header_quirk}
 use Rattle.link_capture_checks.specs.Listings.{whole}
-use Rattle.link_capture_quirks.specs.QuirkTables.{Listing}
-use Rattle.link_capture_quirks.specs.QuirkLists.{direct_quirks, inside_of, list_kind_after, inside_quirks, list_quirks}
+use Rattle.link_capture_walks.specs.Walks.{UnfoldsByAttributes}
+use Rattle.link_capture_quirks.specs.QuirkLists.{direct_quirks, list_quirks, quirk_walk}
 use Rattle.link_capture_quirks.specs.CaptureQuirks.{frame_quirks, quirks_from}
 
 -- The quirks of a list are those of its first attribute, of the list inside that, and of the rest. If no whole
 -- attribute is left, there are none.
-pub record ListsUnfoldByAttributes : Type 0 where
-  pub next : (l : Listing) (offset : ℕ) (bytes : List ℕ) (e : Attribute) (after : List ℕ) →
-      first_attribute bytes ≡ Some (e, after) →
-      list_quirks l offset bytes ≡
-      direct_quirks l.table offset e ++
-      (inside_quirks list_quirks (offset + 4) (inside_of l e) e.payload ++
-      list_quirks (list_kind_after l e) (offset + nla_align (attribute_length e)) after)
-  pub none : (l : Listing) (offset : ℕ) (bytes : List ℕ) → first_attribute bytes ≡ None → list_quirks l offset bytes ≡ []
+abbrev pub ListsUnfoldByAttributes : Type 0
+ListsUnfoldByAttributes = UnfoldsByAttributes quirk_walk list_quirks
 
 -- The quirks of a capture are those of its first frame, and of the bytes after it and its padding. From a faulty frame
 -- on there are none.

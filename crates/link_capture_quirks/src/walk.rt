@@ -1,6 +1,6 @@
 //! A walk through the nested lists of a frame.
 
-ghost use Rattle.std.specs.Prelude.{◌≡◌, ◌≤◌, ◌<◌, ◌+◌, ◌^◌, ◌∷◌, ◌++◌, [], true, drop, length, IfSome, IfNone};
+ghost use Rattle.std.specs.Prelude.{◌≡◌, ◌≤◌, ◌<◌, ◌+◌, ◌^◌, ◌∷◌, ◌++◌, [], true, length, IfSome, IfNone};
 ghost use Rattle.netlink_packet_core.specs.Frames.{IsFrame, frame_type, frame_body};
 ghost use Rattle.link_capture_grammar.specs.Bodies.{is_link_type};
 ghost use Rattle.link_capture_quirks.specs.QuirkLists.{quirks_at};
@@ -14,6 +14,7 @@ use crate::tables::{Table, family_table, inside, next_list};
 use arrayvec::ArrayVec;
 use link_capture_checks::{Listed, frame_body};
 use link_capture_grammar::link_types::is_link_type;
+use link_capture_walks::following;
 use link_interpreter::{KIND_BOUND, first_attribute};
 use link_tables::LINK_HEADER_LEN;
 use netlink_packet_core::{NETLINK_HEADER_LEN, NetlinkBuffer, nla_align};
@@ -61,14 +62,6 @@ fn quirk_at(offset: usize, quirk: Option<Quirk>) -> Option<QuirkAt>
         }),
         None => None,
     }
-}
-
-/// Returns the bytes after the first `header_size`.
-fn following(bytes: &[u8], header_size: usize) -> &[u8]
-    requires { header_size ≤ length bytes.now }
-    ensures { result.now ≡ drop header_size bytes.now }
-{
-    &bytes[header_size..]
 }
 
 impl<'a> Walk<'a> {

@@ -1,18 +1,20 @@
 -- A capture has a refusal if and only if its first fault is a refused body.
-use Rattle.std.proofs.Common.{◌≡◌, ℕ, ◌+◌, ◌-◌, Bool, true, false, cond, List, [], drop, take, length, Option, Some, None, Ok, Err, Result, refl, sym, ap, subst, ◌∙◌, arith}
+use Rattle.std.proofs.Common.{◌≡◌, ℕ, ◌+◌, ◌-◌, ◌<◌, Bool, true, false, cond, List, drop, take, length, Option, Some, None, Ok, Err, Result, refl, sym, ap, subst, ◌∙◌, arith}
 use Rattle.std.specs.Prelude.{min, IsSome, is_none, nat_eq, nat_le, nat_lt}
-use Rattle.std.proofs.lemmas.Bool.{and_parts, cond_both, leb-true, ltb-false, ne_eqb}
+use Rattle.std.proofs.lemmas.Bool.{and_parts, cond_both, leb-true, ne_eqb}
 use Rattle.std.proofs.lemmas.List.{length-take}
 use Rattle.netlink_packet_core_grammar.specs.Frames.{IsFrame, frame_body, frame_length, frame_type}
 use Rattle.netlink_packet_core_grammar.specs.Laws.{FirstIsWithin}
 use Rattle.attribute_tables_grammar.specs.Rules.{Rule}
 use Rattle.link_message_grammar.specs.Body.{link_body}
-use Rattle.link_capture_grammar.specs.Bodies.{Refusal, refused, empty_ports, unfit, body_text, body_text_under, done_text, error_text, is_link_type, ruled_text}
-use Rattle.link_capture_grammar.specs.Captures.{Judged, first_fault, first_frame, first_frame_under, judged_text}
+use Rattle.link_capture_grammar.specs.Bodies.{Refusal, refused, empty_ports, unfit, body_text, body_text_under, is_link_type}
+use Rattle.link_capture_grammar.specs.Captures.{first_fault, first_frame, first_frame_under, judged_text}
 use Rattle.link_capture_grammar.specs.Laws.{CapturesUnfoldByFrames}
+use Rattle.link_capture_grammar.proofs.Frames.{checked_header_by}
+use Rattle.link_capture_grammar.proofs.SameFrames.{no, yes}
 use Rattle.link_capture_grammar.specs.declared.fault.CaptureFault.{CaptureFault}
 use Rattle.link_capture_grammar.specs.declared.fault.FaultKind.{FaultKind}
-use Rattle.link_capture_grammar.specs.declared.fault.FaultKind.TheVariants.{Cut, ShortLength, OverLimit, Refused, TextOverLimit}
+use Rattle.link_capture_grammar.specs.declared.fault.FaultKind.TheVariants.{Refused, TextOverLimit}
 use Rattle.link_capture_refusals.specs.RefusalLaws.{IsBetween, LinksAreAccepted, RefusedBodiesHaveRefusals, RefusedFramesAreWhole, IsInFrame}
 use Rattle.link_capture_refusals.specs.Refusals.{Found, code_refusal, fault_refusal, frame_refusal, link_refusal, list_refusal, refusal, first_fault_refusal}
 use Rattle.link_capture_refusals.proofs.Offsets.{IsPlacedBetween, link_between}
@@ -23,11 +25,6 @@ record RefusedFrame (c : List ℕ) : Type 0 where
   frame : IsFrame c
   body : body_text (frame_type c) (frame_body c) ≡ Err refused
 
--- the tests that it passed
-tests : (a b d e : Bool) (j : Judged) → cond a (Err Cut) (cond b (Err ShortLength) (cond d (Err OverLimit) (cond e (Err Cut) j))) ≡ Err Refused → (a ≡ false) × (b ≡ false) × (e ≡ false) × (j ≡ Err Refused)
-tests false false false false j h = (refl, refl, refl, h)
-tests a b d e j h = absurd cc
-
 judged_refused : (limit : ℕ) (c : List ℕ) (o : Result (List ℕ) Refusal) → judged_text limit c o ≡ Err Refused → o ≡ Err refused
 judged_refused limit c (Ok text) h = cond_both (nat_lt limit (16 + length text)) (Err TextOverLimit) (Ok _) (λ j. j ≡ Err Refused → Ok text ≡ Err refused) (λ _ e. absurd cc) (λ _ e. absurd cc) h
 judged_refused limit c (Err refused) h = refl
@@ -36,11 +33,12 @@ judged_refused limit c (Err r) h = absurd cc
 frame_refused : (limit : ℕ) (c : List ℕ) → first_frame limit c ≡ Err Refused → RefusedFrame c
 unfolding first_frame_under
 frame_refused limit c h =
-    let t = tests (nat_lt (length c) 16) (nat_lt (frame_length c) 16) (nat_lt limit (frame_length c)) (nat_lt (length c) (frame_length c)) _ h in
-    record {
-      frame = record { has_header = ltb-false (length c) 16 t.0; covers_header = ltb-false (frame_length c) 16 t.1; within = ltb-false (length c) (frame_length c) t.2 };
-      body = judged_refused limit c (body_text (frame_type c) (frame_body c)) t.3;
-    }
+    checked_header_by limit (length c) (frame_length c) (judged_text limit c (body_text (frame_type c) (frame_body c))) (λ j. j ≡ Err Refused → RefusedFrame c)
+    (λ _ e. absurd cc) (λ _ e. absurd cc) (λ _ e. absurd cc) (λ _ _ _ _ e. absurd cc)
+    (λ header covers _ whole e. record {
+      frame = record { has_header = header; covers_header = covers; within = whole };
+      body = judged_refused limit c (body_text (frame_type c) (frame_body c)) e;
+    }) h
 
 pub frames : CapturesUnfoldByFrames link_body → RefusedFramesAreWhole
 frames law limit offset c h = (frame_refused limit (drop offset c) (law.fault_there limit c (record { kind = Refused; offset = offset }) h)).frame
@@ -57,13 +55,12 @@ link_refused : (t : ℕ) (b : List ℕ) → is_link_type t ≡ true → body_tex
 unfolding body_text_under
 link_refused t b l h =
     let low = leb-true 16 t (and_parts (nat_le 16 t) (nat_le t 19) l).0 in
-    let ruled : ruled_text link_body b ≡ Err refused =
-    sym (ap (λ x. cond x (Ok []) (cond (nat_eq t 2) (error_text b) (cond (nat_eq t 3) (done_text b) (cond (is_link_type t) (ruled_text link_body b) (Ok b))))) (ne_eqb t 1 (λ e. omega (arith, e, low)))
-    ∙ ap (λ x. cond x (error_text b) (cond (nat_eq t 3) (done_text b) (cond (is_link_type t) (ruled_text link_body b) (Ok b)))) (ne_eqb t 2 (λ e. omega (arith, e, low)))
-    ∙ ap (λ x. cond x (done_text b) (cond (is_link_type t) (ruled_text link_body b) (Ok b))) (ne_eqb t 3 (λ e. omega (arith, e, low)))
-    ∙ ap (λ x. cond x (ruled_text link_body b) (Ok b)) l) ∙ h
-    in
-    ruled_refused link_body b (link_body.accepted b) (link_body.empty_ports b) (link_body.fits b) refl ruled
+    let other : (k : ℕ) → k < 16 → t ≡ k → ⊥ = λ k m e. absurd (omega (arith, e, low, m)) in
+    ruled_refused link_body b (link_body.accepted b) (link_body.empty_ports b) (link_body.fits b) refl
+    (yes (is_link_type t) _ _ _ l
+    (no (nat_eq t 3) _ _ _ (ne_eqb t 3 (other 3 (omega arith)))
+    (no (nat_eq t 2) _ _ _ (ne_eqb t 2 (other 2 (omega arith)))
+    (no (nat_eq t 1) _ _ _ (ne_eqb t 1 (other 1 (omega arith))) h))))
 
 -- ---- a refused body has a refusal
 

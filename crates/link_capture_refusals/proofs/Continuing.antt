@@ -1,5 +1,5 @@
 -- A walk continues after an attribute without a refusal.
-use Rattle.std.proofs.Common.{◌≡◌, ℕ, ◌+◌, ◌<◌, ◌≤◌, true, false, List, [], ◌∷◌, length, Option, Some, None, refl, sym, ap, ◌∙◌, arith}
+use Rattle.std.proofs.Common.{◌≡◌, ℕ, ◌+◌, ◌<◌, ◌≤◌, true, false, List, [], ◌∷◌, length, Option, Some, None, sym, ap, ◌∙◌, arith}
 use Rattle.std.specs.Prelude.{is_some}
 use Rattle.netlink_packet_core_grammar.specs.Attributes.{Attribute, attribute_length, first_attribute, nla_align}
 use Rattle.link_tables.specs.declared.rows.Form.{Form}
@@ -8,8 +8,9 @@ use Rattle.link_capture_refusals.specs.RefusalTables.{Listing}
 use Rattle.link_capture_refusals.specs.RowRules.{following}
 use Rattle.link_capture_refusals.specs.declared.refusal.Refusal.{Refusal}
 use Rattle.link_capture_refusals.specs.RefusalLaws.{ListsUnfoldByAttributes}
-use Rattle.link_capture_refusals.specs.RefusalViews.{all_found}
+use Rattle.link_capture_refusals.specs.RefusalViews.{all_found, found}
 use Rattle.link_capture_refusals.specs.Refusals.{Found, attribute_refusal, found_at, list_rest, list_refusal, next_refusal, no_attribute, or_else}
+use Rattle.link_capture_walks.proofs.Choices.{none_taken, some_taken}
 
 unfolds_next : ListsUnfoldByAttributes → (l : Listing) (offset : ℕ) (rest : List ℕ) → 0 < length rest → list_refusal l offset rest ≡ next_refusal list_refusal l offset rest (first_attribute rest)
 unfolds_next s l offset [] h = absurd (omega (arith, h))
@@ -18,14 +19,6 @@ unfolds_next s l offset (b ∷ rest) h = s.next l offset b rest
 -- no attribute follows
 pub stopped : ListsUnfoldByAttributes → (l : Listing) (offset : ℕ) (rest : List ℕ) → 0 < length rest → first_attribute rest ≡ None → list_refusal l offset rest ≡ Some (found_at offset (no_attribute rest))
 stopped s l offset rest h n = unfolds_next s l offset rest h ∙ ap (next_refusal list_refusal l offset rest) n
-
-some_taken : (o : Option Refusal) (q : Option Found) → is_some o ≡ true → or_else (all_found o) q ≡ all_found o
-some_taken None q h = absurd cc
-some_taken (Some r) q h = refl
-
-none_taken : (o : Option Refusal) (q : Option Found) → is_some o ≡ false → or_else (all_found o) q ≡ q
-none_taken None q h = refl
-none_taken (Some r) q h = absurd cc
 
 module _ (s : ListsUnfoldByAttributes) (l : Listing) (offset : ℕ) (rest : List ℕ) (e : Attribute) (after : List ℕ) (o : Option Refusal) (h : 0 < length rest) (f : first_attribute rest ≡ Some (e, after))
     (a : all_found o ≡ attribute_refusal list_refusal l offset e) where
@@ -37,10 +30,10 @@ module _ (s : ListsUnfoldByAttributes) (l : Listing) (offset : ℕ) (rest : List
 
   -- the attribute has a refusal, or none
   pub here : is_some o ≡ true → all_found o ≡ list_refusal l offset rest
-  here i = sym (some_taken o more i) ∙ sym by_first
+  here i = sym (some_taken found o more i) ∙ sym by_first
 
   pub passed : is_some o ≡ false → more ≡ list_refusal l offset rest
-  passed i = sym (none_taken o more i) ∙ sym by_first
+  passed i = sym (none_taken found o more i) ∙ sym by_first
 
 pub shorter_rest : (f : Form) (after : List ℕ) → length (list_rest f after) ≤ length after
 shorter_rest FirstOnly after = omega arith

@@ -1,5 +1,5 @@
 -- The refusal of a list, attribute by attribute: a larger number of steps yields the same refusal.
-use Rattle.std.proofs.Common.{◌≡◌, ℕ, zero, suc, ◌+◌, ◌≤◌, Bool, false, cond, List, [], ◌∷◌, drop, length, Option, Some, None, refl, ap, ◌∙◌, arith, length-drop}
+use Rattle.std.proofs.Common.{◌≡◌, ℕ, suc, ◌+◌, ◌≤◌, Bool, false, cond, List, [], ◌∷◌, drop, length, Option, Some, None, refl, ap, ◌∙◌, arith, length-drop}
 use Rattle.std.specs.Prelude.{nat_lt, option_map, slice_index}
 use Rattle.netlink_packet_core_grammar.specs.Attributes.{Attribute, nla_align, attribute_length, first_attribute, proper_kind}
 use Rattle.netlink_packet_core_grammar.specs.Laws.{FirstIsWithin}
@@ -10,16 +10,13 @@ use Rattle.link_capture_refusals.specs.declared.tables.Inside.{Inside}
 use Rattle.link_capture_refusals.specs.declared.tables.Inside.TheVariants as I
 use Rattle.link_capture_refusals.specs.declared.reason.Reason.TheVariants as R
 use Rattle.link_capture_checks.proofs.Listings.{rest_shorter}
+use Rattle.link_capture_walks.proofs.Steps.{GoesInward, Same, Steps, by_step}
 use Rattle.link_capture_refusals.specs.RefusalTables.{Listing, row_in, whole}
 use Rattle.link_tables.specs.Tables.{family_table}
 use Rattle.link_capture_refusals.specs.RowRules.{following, is_accepted}
 use Rattle.link_capture_refusals.specs.Refusals.{ListRefusal, attribute_refusal, found_at, list_rest, inside_refusal, link_refusal, list_refusal, named, next_refusal, or_else, refusal_within, row_refusal, whole_refusal}
 use Rattle.link_capture_refusals.specs.RefusalLaws.{ListsUnfoldByAttributes}
 use Rattle.link_capture_refusals.proofs.Continuing.{shorter_rest}
-
--- two functions agree on lists of at most n bytes
-abbrev Same : ListRefusal → ListRefusal → ℕ → Type 0
-Same f g k = (l : Listing) (offset : ℕ) (bytes : List ℕ) → length bytes ≤ k → f l offset bytes ≡ g l offset bytes
 
 module _ (f g : ListRefusal) (k : ℕ) (i : Same f g k) where
   same_whole : (l : Listing) (attribute_offset : ℕ) (p : List ℕ) → length p ≤ k → whole_refusal f l attribute_offset p ≡ whole_refusal g l attribute_offset p
@@ -55,23 +52,26 @@ module _ (w : FirstIsWithin) where
       ap (λ o. or_else o (f (following l x.0) after_it (list_rest l.table.form x.1))) (same_attribute f g k i l offset x.0 (omega (arith, a, p)))
       ∙ ap (or_else (attribute_refusal g l offset x.0)) (i (following l x.0) after_it (list_rest l.table.form x.1) (omega (arith, shorter_rest l.table.form x.1, r, p)))
 
-  pub enough : (m n : ℕ) (l : Listing) (offset : ℕ) (bytes : List ℕ) → length bytes ≤ m → length bytes ≤ n → refusal_within m l offset bytes ≡ refusal_within n l offset bytes
-  unfolding refusal_within
-  enough zero zero l offset bytes p q = refl
-  enough zero (suc n) l offset [] p q = refl
-  enough zero (suc n) l offset (b ∷ bytes) p q = absurd (omega (arith, p))
-  enough (suc m) zero l offset [] p q = refl
-  enough (suc m) zero l offset (b ∷ bytes) p q = absurd (omega (arith, q))
-  enough (suc m) (suc n) l offset [] p q = refl
-  enough (suc m) (suc n) l offset (b ∷ bytes) p q =
-      same_next (λ l q d. refusal_within m l q d) (λ l q d. refusal_within n l q d) (length bytes)
-      (λ l' r d h. enough m n l' r d (omega (arith, h, p)) (omega (arith, h, q))) l offset (b ∷ bytes) (omega arith) (first_attribute (b ∷ bytes)) refl
+  step : ListRefusal → ListRefusal
+  step f l offset [] = None
+  step f l offset (b ∷ bytes) = next_refusal f l offset (b ∷ bytes) (first_attribute (b ∷ bytes))
+
+  inward : GoesInward step
+  unfolding step
+  inward f g k i l offset [] h = refl
+  inward f g k i l offset (b ∷ bytes) h = same_next f g k i l offset (b ∷ bytes) h (first_attribute (b ∷ bytes)) refl
+
+  by_steps : Steps step refusal_within
+  unfolding refusal_within step
+  by_steps = record { next = each; none = λ n l offset. refl }
+    where
+      each : (n : ℕ) (l : Listing) (offset : ℕ) (bytes : List ℕ) → refusal_within (suc n) l offset bytes ≡ step (refusal_within n) l offset bytes
+      each n l offset [] = refl
+      each n l offset (b ∷ bytes) = refl
 
   pub next : (l : Listing) (offset b : ℕ) (bytes : List ℕ) → list_refusal l offset (b ∷ bytes) ≡ next_refusal list_refusal l offset (b ∷ bytes) (first_attribute (b ∷ bytes))
-  unfolding list_refusal refusal_within
-  next l offset b bytes =
-      same_next (λ l q d. refusal_within (length bytes) l q d) (λ l q d. refusal_within (length d) l q d) (length bytes)
-      (λ l q d h. enough (length bytes) (length d) l q d h (omega arith)) l offset (b ∷ bytes) (omega arith) (first_attribute (b ∷ bytes)) refl
+  unfolding list_refusal step
+  next l offset b bytes = by_step step refusal_within by_steps inward l offset (b ∷ bytes)
 
 pub none : (l : Listing) (offset : ℕ) → list_refusal l offset [] ≡ None
 unfolding list_refusal refusal_within

@@ -1,5 +1,5 @@
 -- Rows in code, and their values.
-use Rattle.std.proofs.Common.{◌≡◌, ℕ, zero, suc, ◌+◌, ◌-◌, ◌<◌, ◌≤◌, length, Bool, true, false, cond, List, [], ◌∷◌, get_or, Bor, Option, Some, None, refl, sym, ap, ◌∙◌, subst, zero-add, arith}
+use Rattle.std.proofs.Common.{◌≡◌, ℕ, zero, suc, ◌+◌, ◌-◌, ◌<◌, ◌≤◌, Bool, true, false, cond, List, [], ◌∷◌, get_or, Bor, Option, Some, None, refl, sym, ap, ◌∙◌, subst, zero-add, arith}
 use Rattle.std.specs.Prelude.{◌==◌, ◌&&◌, nat_lt, not, option_map}
 use Rattle.std.specs.List.{list_all}
 use Rattle.std.specs.Str.{IsAscii, IsUtf8}

@@ -1,5 +1,4 @@
 -- The laws, from those of the crates below.
-use Rattle.netlink_packet_core_grammar.proofs.Numbers.{u16_at-append, u32_at-append}
 use Rattle.netlink_packet_core_grammar.proofs.Together.{first_is_within}
 use Rattle.attribute_tables_grammar.proofs.LookUps.{rule-rows, list-rows, list-one, named-payload}
 use Rattle.attribute_tables_grammar.proofs.MeasureSteps.{measures_unfold, measures_determine_rules}
@@ -35,4 +34,4 @@ refused_frames_are_whole = captures.frames (captures_unfold_by_frames link_body)
 pub refused_bodies_have_refusals : RefusedBodiesHaveRefusals
 refused_bodies_have_refusals = captures.refused_body_has_refusal (captures_unfold_by_frames link_body) first_is_within links_are_accepted
 
-pub ruleset laws = (rows_are_the_tables, links_are_tables, steps, first_is_within, lists_are_accepted, links_are_accepted, refused_bodies_have_refusals, independent, u16_at-append, u32_at-append)
+pub ruleset laws = (rows_are_the_tables, links_are_tables, steps, first_is_within, lists_are_accepted, links_are_accepted, refused_frames_are_whole, refused_bodies_have_refusals, independent)

@@ -23,6 +23,7 @@ use Rattle.link_capture_refusals.specs.RefusalTables.{Listing, row_in, whole}
 use Rattle.link_tables.specs.Tables.{family_table}
 use Rattle.link_capture_refusals.specs.ReasonTexts.{shape_reason}
 use Rattle.link_capture_refusals.specs.RowRules.{following, is_accepted}
+pub use Rattle.link_capture_walks.specs.Walks.{or_else}
 
 -- A refusal: the names of the attribute and of those around it, outermost first, its offset in bytes from the capture's
 -- start, and the reason.
@@ -38,11 +39,6 @@ found_at offset reason = record { path = []; offset = Some offset; reason = reas
 -- The same refusal inside an attribute with a name.
 abbrev pub named : List ℕ → Found → Found
 named name f = record { path = name ∷ f.path; offset = f.offset; reason = f.reason }
-
--- The first of two refusals, if there is one, else the second.
-abbrev pub or_else : Option Found → Option Found → Option Found
-or_else None o = o
-or_else (Some f) o = Some f
 
 -- The reason why bytes don't begin with an attribute.
 abbrev pub no_attribute : List ℕ → Reason

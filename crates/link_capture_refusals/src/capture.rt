@@ -1,6 +1,6 @@
 //! Why the body of a capture's first faulty frame is refused.
 
-ghost use Rattle.std.specs.Prelude.{◌≡◌, ◌≤◌, ◌<◌, ◌+◌, ◌^◌, drop, length};
+ghost use Rattle.std.specs.Prelude.{◌≡◌, ◌<◌, ◌+◌, ◌^◌, length};
 ghost use Rattle.netlink_packet_core.specs.Frames.{IsFrame};
 ghost use Rattle.link_capture_refusals.specs.Refusals.{frame_refusal, refusal};
 ghost use Rattle.link_capture_refusals.specs.RefusalViews.{all_found};
@@ -14,15 +14,8 @@ use link_capture_checks::{check, frame_body};
 use link_capture_grammar::fault::{CaptureFault, FaultKind};
 use link_capture_grammar::laws::faults_are_at_frames;
 use link_capture_grammar::link_types::is_link_type;
+use link_capture_walks::following;
 use netlink_packet_core::{NETLINK_HEADER_LEN, NetlinkBuffer};
-
-/// Returns the bytes after the first `skipped`.
-fn following(bytes: &[u8], skipped: u64) -> &[u8]
-    requires { skipped ≤ length bytes.now }
-    ensures { result.now ≡ drop skipped bytes.now }
-{
-    &bytes[skipped as usize..]
-}
 
 /// Returns the reason why the first frame of `frame`, whose fault is a refused body, is refused.
 /// `offset` is the frame's offset in the capture, in bytes. Bytes after the frame change nothing
@@ -58,7 +51,7 @@ pub fn why(bytes: &[u8], limit: u32) -> Option<Refusal>
         return None;
     };
     match kind {
-        FaultKind::Refused => why_frame(following(bytes, offset), offset),
+        FaultKind::Refused => why_frame(following(bytes, offset as usize), offset),
         _ => None,
     }
 }

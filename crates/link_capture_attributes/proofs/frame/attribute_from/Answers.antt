@@ -1,4 +1,4 @@
-use Rattle.std.proofs.Common.{◌≡◌, ◌+◌, ◌<◌, true, cond, drop, length, List, [], None, sym, ap, ◌∙◌, arith, rules}
+use Rattle.std.proofs.Common.{◌≡◌, ◌+◌, true, cond, drop, length, [], None, sym, ap, ◌∙◌, arith, rules}
 use Rattle.std.proofs.lemmas.List.{drop_all}
 use Rattle.netlink_packet_core_grammar.specs.Frames.{frame_body, frame_type}
 use Rattle.link_capture_grammar.specs.Bodies.{is_link_type}

@@ -1,5 +1,4 @@
-use Rattle.std.proofs.Common.{◌≡◌, ◌+◌, ◌<◌, true, false, length, List, Option, Some, None, sym, ap, ◌∙◌, refl, arith, rules, option_map}
-use Rattle.std.specs.Prelude.{nat_le}
+use Rattle.std.proofs.Common.{◌≡◌, ◌+◌, length, Some, None, sym, ap, ◌∙◌, arith, rules, option_map}
 use Rattle.std.proofs.lemmas.Bool.{le-leb, lt-leb}
 use Rattle.netlink_packet_core_grammar.specs.Attributes.{Attribute, attribute_length, nla_align}
 use Rattle.link_interpreter.specs.Sameness.{attribute_of}
@@ -8,8 +7,9 @@ use Rattle.link_capture_refusals.proofs.Continuing.{shorter_rest}
 use Rattle.link_capture_refusals.specs.RefusalTables.{Listing}
 use Rattle.link_capture_refusals.specs.Refusals.{list_rest}
 use Rattle.link_capture_refusals.specs.RowRules.{following}
-use Rattle.link_capture_attributes.specs.Attributes.{Level, after, first_from, inside, inside_attributes, list_attributes}
-use Rattle.link_capture_attributes.specs.AttributeViews.{all_found, level_of}
+use Rattle.link_capture_walks.specs.Walks.{collected_inside}
+use Rattle.link_capture_attributes.specs.Attributes.{Level, after, first_from, inside, list_attributes}
+use Rattle.link_capture_attributes.specs.AttributeViews.{level_of}
 use Rattle.link_capture_attributes.proofs.Walking.{found_after, found_inside, here, plain_after}
 use Rattle.link_capture_attributes.proofs.walk.+attribute_in.Goals as goal
 use Rattle.link_capture_attributes.proofs.walk.+attribute_in.Goals.{in-Some-inside+else-is_some, in_default-inside}
@@ -31,7 +31,7 @@ returns-then-is_some-clause-found t c =
     found_inside c.lists_unfold_by_attributes.ensures c.args.position (level_of l.level) l.offset l.rest.now e c.in-Some.after.now c.in-Some.ensures.first (lt-leb c.args.position l.offset (omega (arith, c.if-offset-position.false))) c.attribute_in-found.result
     (c.attribute_in-found.ensures.found
     ∙ ap (λ b. first_from c.args.position (list_attributes below (l.offset + 4 + size) b)) c.following.ensures
-    ∙ ap (λ o. first_from c.args.position (inside_attributes list_attributes (l.offset + 4) o e.payload)) entered)
+    ∙ ap (λ o. first_from c.args.position (collected_inside list_attributes (l.offset + 4) o e.payload)) entered)
     (sym c.is_some.ensures ∙ c.if-is_some.true)
     ∙ l.invariant.so_far
 
@@ -56,7 +56,7 @@ attributes-preserved t c =
           found_after c.lists_unfold_by_attributes.ensures c.args.position (level_of l.level) l.offset rest e c.in-Some.after.now c.in-Some.ensures.first passed w.attribute_in-found.result
           (w.attribute_in-found.ensures.found
           ∙ ap (λ b. first_from c.args.position (list_attributes (level_of w.in-Some-inside.below) (l.offset + 4 + w.in-Some-inside.header_size) b)) w.following.ensures
-          ∙ ap (λ o. first_from c.args.position (inside_attributes list_attributes (l.offset + 4) o e.payload)) entered)
+          ∙ ap (λ o. first_from c.args.position (collected_inside list_attributes (l.offset + 4) o e.payload)) entered)
           (sym w.is_some.ensures ∙ w.if-is_some.false)
       | in_default-inside w ↦
           let nothing : c.enter.result.1 ≡ None = search rules in

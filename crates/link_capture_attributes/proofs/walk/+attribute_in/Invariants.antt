@@ -1,6 +1,6 @@
 use Rattle.std.proofs.Common.{◌≡◌, ◌<◌, ◌≤◌, ◌+◌, ◌^◌, length}
 use Rattle.link_capture_attributes.specs.Attributes.{first_from, list_attributes}
-use Rattle.link_capture_attributes.specs.AttributeViews.{IsShallow, level_of}
+use Rattle.link_capture_attributes.specs.AttributeViews.{level_of}
 use Rattle.link_capture_attributes.proofs.walk.+attribute_in.Given as goal
 
 -- the payload of an attribute is shorter than its list

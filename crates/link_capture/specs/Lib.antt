@@ -35,8 +35,8 @@ pub use Rattle.link_capture_quirks.specs.QuirkLaws
 pub use Rattle.link_capture_quirks.specs.TextLaws
 pub use Rattle.link_capture_numbers.specs.Cleared
 pub use Rattle.link_capture_refusals.specs.ReasonTexts
-pub use Rattle.link_capture_refusals.specs.RefusalTables
-pub use Rattle.link_capture_refusals.specs.RowRules
+pub use Rattle.link_capture_lists.specs.ListTables
+pub use Rattle.link_capture_lists.specs.RowRules
 pub use Rattle.link_capture_refusals.specs.Refusals
 pub use Rattle.link_capture_refusals.specs.RefusalLaws
 pub use Rattle.link_capture_refusals.specs.RefusalViews

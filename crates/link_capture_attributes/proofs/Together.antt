@@ -1,7 +1,7 @@
 -- The laws, from those of the crates below.
 use Rattle.netlink_packet_core_grammar.proofs.Together.{first_is_within}
 use Rattle.link_capture_walks.proofs.Steps.{unfolds_by_attributes}
-use Rattle.link_capture_refusals.proofs.Continuing.{shorter_rest}
+use Rattle.link_capture_lists.proofs.Lookups.{shorter_rest}
 use Rattle.link_capture_attributes.specs.Attributes.{attribute_walk, list_attributes}
 use Rattle.link_capture_attributes.specs.AttributeLaws.{AttributesAreApart, AttributesAreWhereTheySay, ListsUnfoldByAttributes}
 use Rattle.link_capture_attributes.proofs.Places.{apart, next_from, there}

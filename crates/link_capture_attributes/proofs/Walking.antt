@@ -2,12 +2,12 @@
 use Rattle.std.proofs.Common.{◌≡◌, ℕ, ◌+◌, Bool, true, false, cond, List, [], ◌∷◌, ◌++◌, Option, Some, None, refl, sym, ap, ◌∙◌}
 use Rattle.std.specs.Prelude.{is_some, nat_le}
 use Rattle.netlink_packet_core_grammar.specs.Attributes.{Attribute, attribute_length, first_attribute, nla_align}
-use Rattle.link_capture_refusals.specs.Refusals.{list_rest}
 use Rattle.link_capture_walks.specs.Walks.{collected_inside, or_else}
 use Rattle.link_capture_walks.proofs.Choices.{none_taken, some_taken}
 use Rattle.link_capture_attributes.specs.Attributes.{Found, Level, after, first_from, found_in, inside, list_attributes}
 use Rattle.link_capture_attributes.specs.AttributeLaws.{ListsUnfoldByAttributes}
 use Rattle.link_capture_attributes.specs.AttributeViews.{all_found, found}
+use Rattle.link_capture_lists.specs.ListTables.{list_rest}
 use Rattle.link_capture_attributes.specs.declared.attribute_at.AttributeAt.{AttributeAt}
 
 first_of_both : (n : ℕ) (fs gs : List Found) → first_from n (fs ++ gs) ≡ or_else (first_from n fs) (first_from n gs)

@@ -2,7 +2,7 @@
 use Rattle.std.specs.Prelude.{◌+◌, ◌≤◌, Option, option_map}
 use Rattle.link_interpreter.specs.Sameness.{attribute_of}
 use Rattle.link_capture_checks.specs.Listings.{listing}
-use Rattle.link_capture_refusals.specs.RefusalTables.{depth}
+use Rattle.link_capture_lists.specs.ListTables.{depth}
 use Rattle.link_capture_attributes.specs.Attributes.{Found, Level}
 use Rattle.link_capture_attributes.specs.declared.attribute_at.AttributeAt.{AttributeAt}
 use Rattle.link_capture_attributes.specs.declared.walk.Level.{Level as LevelInCode}

@@ -7,11 +7,10 @@ use Rattle.attribute_tables_grammar.specs.Lists.{Context}
 use Rattle.link_tables.specs.declared.rows.Form.TheVariants.{Any}
 use Rattle.link_tables.specs.Tables.{family_table, is_link_info}
 use Rattle.link_capture_grammar.specs.Bodies.{is_link_type}
-use Rattle.link_capture_refusals.specs.declared.tables.Inside.{Inside}
-use Rattle.link_capture_refusals.specs.declared.tables.Inside.TheVariants as I
-use Rattle.link_capture_refusals.specs.RefusalTables.{Listing, row_in, whole}
-use Rattle.link_capture_refusals.specs.Refusals.{list_rest}
-use Rattle.link_capture_refusals.specs.RowRules.{following}
+use Rattle.link_capture_lists.specs.declared.tables.Inside.{Inside}
+use Rattle.link_capture_lists.specs.declared.tables.Inside.TheVariants as I
+use Rattle.link_capture_lists.specs.ListTables.{Listing, list_rest, row_in, whole}
+use Rattle.link_capture_lists.specs.RowRules.{following}
 use Rattle.link_capture_walks.specs.Walks.{OfLists, Walk, collected}
 
 -- An attribute with its context: the offset of its header in bytes from the capture's start, its kind and payload, how

@@ -10,7 +10,7 @@ use crate::laws::lists_unfold_by_attributes;
 use crate::walk::{Level, attribute_in};
 use link_capture_checks::frame_body;
 use link_capture_grammar::link_types::is_link_type;
-use link_capture_refusals::whole;
+use link_capture_lists::whole;
 use link_capture_walks::following;
 use link_tables::{Form, LINK_HEADER_LEN, family_table};
 use netlink_packet_core::{NETLINK_HEADER_LEN, NetlinkBuffer};

@@ -2,7 +2,7 @@
 
 ghost use Rattle.std.specs.Prelude.{◌≡◌, ◌≤◌, ◌<◌, ◌+◌, ◌^◌, length, option_map, IfSome};
 ghost use Rattle.link_interpreter.specs.Sameness.{attribute_of};
-ghost use Rattle.link_capture_refusals.specs.RefusalTables.{IsLower};
+ghost use Rattle.link_capture_lists.specs.ListTables.{IsLower};
 ghost use Rattle.link_capture_attributes.specs.Attributes.{found_in, first_from, inside, level_by_row, link_kind_of};
 ghost use Rattle.link_capture_attributes.specs.Attributes.{list_attributes};
 ghost use Rattle.link_capture_attributes.specs.AttributeViews.{IsShallow, all_found, found, level_of};
@@ -10,7 +10,7 @@ ghost use Rattle.link_capture_attributes.specs.AttributeViews.{IsShallow, all_fo
 use crate::attribute_at::AttributeAt;
 use crate::laws::lists_unfold_by_attributes;
 use link_capture_checks::Listed;
-use link_capture_refusals::{Inside, ListTable, list_rest, next_list, row_in, whole};
+use link_capture_lists::{Inside, ListTable, list_rest, next_list, row_in, whole};
 use link_capture_walks::following;
 use link_interpreter::{Attribute, KIND_BOUND, first_attribute};
 use link_tables::{

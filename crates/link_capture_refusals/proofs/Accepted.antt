@@ -11,14 +11,14 @@ use Rattle.link_tables.specs.Rows.{form_of}
 use Rattle.link_tables.specs.declared.rows.Form.{Form}
 use Rattle.link_tables.specs.declared.rows.Form.TheVariants.{Any, OfKindOne, FirstOnly}
 use Rattle.link_message_grammar.specs.Body.{body_rule, family, list_rule_of}
-use Rattle.link_capture_refusals.specs.declared.tables.Inside.{Inside}
-use Rattle.link_capture_refusals.specs.declared.tables.Inside.TheVariants as I
+use Rattle.link_capture_lists.specs.declared.tables.Inside.{Inside}
+use Rattle.link_capture_lists.specs.declared.tables.Inside.TheVariants as I
 use Rattle.link_tables.specs.declared.table.Table.{Table}
 use Rattle.link_capture_refusals.specs.declared.reason.Reason.TheVariants as R
-use Rattle.link_capture_refusals.specs.RefusalTables.{Listing, list_table, row_in, whole}
+use Rattle.link_capture_lists.specs.ListTables.{Listing, list_rest, list_table, row_in, whole}
 use Rattle.link_tables.specs.Tables.{family_table}
-use Rattle.link_capture_refusals.specs.RowRules.{LinksAreTables, RowsAreTheTables, following, grammar_at, is_accepted, peer_of, row_rule}
-use Rattle.link_capture_refusals.specs.Refusals.{Found, ListRefusal, attribute_refusal, found_at, list_rest, inside_refusal, link_refusal, list_refusal, named, next_refusal, or_else, refusal_within, row_refusal, whole_refusal}
+use Rattle.link_capture_lists.specs.RowRules.{LinksAreTables, RowsAreTheTables, following, grammar_at, is_accepted, peer_of, row_rule}
+use Rattle.link_capture_refusals.specs.Refusals.{Found, ListRefusal, attribute_refusal, found_at, inside_refusal, link_refusal, list_refusal, named, next_refusal, or_else, refusal_within, row_refusal, whole_refusal}
 use Rattle.link_capture_refusals.specs.RefusalLaws.{LinksAreAccepted, ListsAreAccepted}
 use Rattle.std.proofs.lemmas.Bool.{ltb-true, ltb-false, le-leb, lt-leb}
 use Rattle.link_capture_checks.proofs.Listings.{rest_shorter}

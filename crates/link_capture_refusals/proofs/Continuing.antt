@@ -1,15 +1,13 @@
 -- A walk continues after an attribute without a refusal.
-use Rattle.std.proofs.Common.{◌≡◌, ℕ, ◌+◌, ◌<◌, ◌≤◌, true, false, List, [], ◌∷◌, length, Option, Some, None, sym, ap, ◌∙◌, arith}
+use Rattle.std.proofs.Common.{◌≡◌, ℕ, ◌+◌, ◌<◌, true, false, List, [], ◌∷◌, length, Option, Some, None, sym, ap, ◌∙◌, arith}
 use Rattle.std.specs.Prelude.{is_some}
 use Rattle.netlink_packet_core_grammar.specs.Attributes.{Attribute, attribute_length, first_attribute, nla_align}
-use Rattle.link_tables.specs.declared.rows.Form.{Form}
-use Rattle.link_tables.specs.declared.rows.Form.TheVariants.{FirstOnly}
-use Rattle.link_capture_refusals.specs.RefusalTables.{Listing}
-use Rattle.link_capture_refusals.specs.RowRules.{following}
+use Rattle.link_capture_lists.specs.ListTables.{Listing, list_rest}
+use Rattle.link_capture_lists.specs.RowRules.{following}
 use Rattle.link_capture_refusals.specs.declared.refusal.Refusal.{Refusal}
 use Rattle.link_capture_refusals.specs.RefusalLaws.{ListsUnfoldByAttributes}
 use Rattle.link_capture_refusals.specs.RefusalViews.{all_found, found}
-use Rattle.link_capture_refusals.specs.Refusals.{Found, attribute_refusal, found_at, list_rest, list_refusal, next_refusal, no_attribute, or_else}
+use Rattle.link_capture_refusals.specs.Refusals.{Found, attribute_refusal, found_at, list_refusal, next_refusal, no_attribute, or_else}
 use Rattle.link_capture_walks.proofs.Choices.{none_taken, some_taken}
 
 unfolds_next : ListsUnfoldByAttributes → (l : Listing) (offset : ℕ) (rest : List ℕ) → 0 < length rest → list_refusal l offset rest ≡ next_refusal list_refusal l offset rest (first_attribute rest)
@@ -34,7 +32,3 @@ module _ (s : ListsUnfoldByAttributes) (l : Listing) (offset : ℕ) (rest : List
 
   pub passed : is_some o ≡ false → more ≡ list_refusal l offset rest
   passed i = sym (none_taken found o more i) ∙ sym by_first
-
-pub shorter_rest : (f : Form) (after : List ℕ) → length (list_rest f after) ≤ length after
-shorter_rest FirstOnly after = omega arith
-shorter_rest f after = omega arith

@@ -1,5 +1,3 @@
-pub mod Built
-pub mod Lookups
 pub mod ListUnfolding
 pub mod Accepted
 pub mod Continuing

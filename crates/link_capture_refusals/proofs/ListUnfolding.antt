@@ -6,17 +6,17 @@ use Rattle.netlink_packet_core_grammar.specs.Laws.{FirstIsWithin}
 use Rattle.link_tables.specs.declared.rows.Form.TheVariants.{Any}
 use Rattle.attribute_tables_grammar.specs.Peers.{bytes_peer}
 use Rattle.link_message_grammar.specs.Body.{body_rule}
-use Rattle.link_capture_refusals.specs.declared.tables.Inside.{Inside}
-use Rattle.link_capture_refusals.specs.declared.tables.Inside.TheVariants as I
+use Rattle.link_capture_lists.specs.declared.tables.Inside.{Inside}
+use Rattle.link_capture_lists.specs.declared.tables.Inside.TheVariants as I
 use Rattle.link_capture_refusals.specs.declared.reason.Reason.TheVariants as R
 use Rattle.link_capture_checks.proofs.Listings.{rest_shorter}
 use Rattle.link_capture_walks.proofs.Steps.{GoesInward, Same, Steps, by_step}
-use Rattle.link_capture_refusals.specs.RefusalTables.{Listing, row_in, whole}
+use Rattle.link_capture_lists.specs.ListTables.{Listing, list_rest, row_in, whole}
 use Rattle.link_tables.specs.Tables.{family_table}
-use Rattle.link_capture_refusals.specs.RowRules.{following, is_accepted}
-use Rattle.link_capture_refusals.specs.Refusals.{ListRefusal, attribute_refusal, found_at, list_rest, inside_refusal, link_refusal, list_refusal, named, next_refusal, or_else, refusal_within, row_refusal, whole_refusal}
+use Rattle.link_capture_lists.specs.RowRules.{following, is_accepted}
+use Rattle.link_capture_refusals.specs.Refusals.{ListRefusal, attribute_refusal, found_at, inside_refusal, link_refusal, list_refusal, named, next_refusal, or_else, refusal_within, row_refusal, whole_refusal}
 use Rattle.link_capture_refusals.specs.RefusalLaws.{ListsUnfoldByAttributes}
-use Rattle.link_capture_refusals.proofs.Continuing.{shorter_rest}
+use Rattle.link_capture_lists.proofs.Lookups.{shorter_rest}
 
 module _ (f g : ListRefusal) (k : ℕ) (i : Same f g k) where
   same_whole : (l : Listing) (attribute_offset : ℕ) (p : List ℕ) → length p ≤ k → whole_refusal f l attribute_offset p ≡ whole_refusal g l attribute_offset p

@@ -6,15 +6,15 @@ use Rattle.netlink_packet_core_grammar.specs.Attributes.{Attribute, nla_align, a
 use Rattle.netlink_packet_core_grammar.specs.Laws.{FirstIsWithin}
 use Rattle.link_tables.specs.declared.rows.Form.{Form}
 use Rattle.link_tables.specs.declared.rows.Form.TheVariants.{Any, OfKindOne}
-use Rattle.link_capture_refusals.specs.declared.tables.Inside.{Inside}
-use Rattle.link_capture_refusals.specs.declared.tables.Inside.TheVariants as I
+use Rattle.link_capture_lists.specs.declared.tables.Inside.{Inside}
+use Rattle.link_capture_lists.specs.declared.tables.Inside.TheVariants as I
 use Rattle.link_capture_refusals.specs.declared.reason.Reason.TheVariants as R
-use Rattle.link_capture_refusals.specs.RefusalTables.{Listing, list_table, row_in, whole}
+use Rattle.link_capture_lists.specs.ListTables.{Listing, list_rest, list_table, row_in, whole}
 use Rattle.link_tables.specs.Tables.{family_table}
-use Rattle.link_capture_refusals.specs.RowRules.{following, is_accepted}
+use Rattle.link_capture_lists.specs.RowRules.{following, is_accepted}
 use Rattle.link_capture_refusals.specs.RefusalLaws.{IsBetween}
-use Rattle.link_capture_refusals.specs.Refusals.{Found, ListRefusal, attribute_refusal, found_at, list_rest, inside_refusal, link_refusal, list_refusal, named, next_refusal, or_else, refusal_within, row_refusal, whole_refusal}
-use Rattle.link_capture_refusals.proofs.Continuing.{shorter_rest}
+use Rattle.link_capture_refusals.specs.Refusals.{Found, ListRefusal, attribute_refusal, found_at, inside_refusal, link_refusal, list_refusal, named, next_refusal, or_else, refusal_within, row_refusal, whole_refusal}
+use Rattle.link_capture_lists.proofs.Lookups.{shorter_rest}
 use Rattle.link_capture_checks.proofs.Listings.{rest_shorter}
 
 -- the offset of a refusal, if there is one, is between two offsets

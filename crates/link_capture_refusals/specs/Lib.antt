@@ -1,6 +1,4 @@
 pub mod ReasonTexts
-pub mod RefusalTables
-pub mod RowRules
 pub mod Refusals
 pub mod RefusalTexts
 pub mod RefusalViews

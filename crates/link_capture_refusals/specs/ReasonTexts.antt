@@ -1,8 +1,10 @@
--- The texts of reasons, and the reason why a shape refuses a value.
+-- The texts of reasons, and the reasons why a shape refuses a value and why data are refused.
 use Rattle.std.specs.Prelude.{ℕ, List, ◌++◌, codes}
 use Rattle.std.specs.Fmt.{decimal}
 use Rattle.link_tables.specs.declared.rows.Shape.{Shape}
 use Rattle.link_tables.specs.declared.rows.Shape.TheVariants.{Text, Never}
+use Rattle.link_capture_lists.specs.declared.tables.MissingKind.{MissingKind}
+use Rattle.link_capture_lists.specs.declared.tables.MissingKind.TheVariants.{Link, Port}
 use Rattle.link_capture_refusals.specs.declared.reason.Reason.{Reason}
 use Rattle.link_capture_refusals.specs.declared.reason.Reason.TheVariants.{PayloadSize, NotUtf8, EmptyList, NoKind}
 use Rattle.link_capture_refusals.specs.declared.reason.Reason.TheVariants.{NoPortKind, NoPayload, CutHeader}
@@ -27,6 +29,11 @@ words (CutLink n) = counted (codes "a header of ") n (codes " bytes")
 words EmptyPorts = codes "ports of which nothing is kept"
 words Unfit = codes "an attribute of the text is over 65535 bytes"
 words (CutCode n) = counted (codes "a body of ") n (codes " bytes")
+
+-- The reason why data are refused while a kind isn't in force.
+abbrev pub missing_reason : MissingKind → Reason
+missing_reason Link = NoKind
+missing_reason Port = NoPortKind
 
 -- The reason why a payload of n bytes is refused by a shape.
 abbrev pub shape_reason : Shape → ℕ → Reason

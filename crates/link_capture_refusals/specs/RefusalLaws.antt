@@ -11,8 +11,8 @@ use Rattle.link_capture_grammar.specs.Captures.{first_fault}
 use Rattle.link_capture_grammar.specs.Bodies.{is_link_type}
 use Rattle.link_capture_grammar.specs.declared.fault.FaultKind.TheVariants.{Refused}
 use Rattle.link_tables.specs.declared.table.Table.{Table}
-use Rattle.link_capture_refusals.specs.RefusalTables.{Listing, whole}
-use Rattle.link_capture_refusals.specs.RowRules.{grammar_at, peer_of}
+use Rattle.link_capture_lists.specs.ListTables.{Listing, whole}
+use Rattle.link_capture_lists.specs.RowRules.{grammar_at, peer_of}
 use Rattle.link_capture_refusals.specs.Refusals.{Found, frame_refusal, link_refusal, list_refusal, next_refusal}
 use Rattle.link_capture_refusals.specs.Refusals.{refusal, whole_refusal}
 

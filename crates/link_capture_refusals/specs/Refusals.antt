@@ -17,12 +17,12 @@ use Rattle.link_capture_grammar.specs.declared.fault.FaultKind.{FaultKind}
 use Rattle.link_capture_grammar.specs.declared.fault.FaultKind.TheVariants.{Refused}
 use Rattle.link_capture_refusals.specs.declared.reason.Reason.{Reason}
 use Rattle.link_capture_refusals.specs.declared.reason.Reason.TheVariants as R
-use Rattle.link_capture_refusals.specs.declared.tables.Inside.{Inside}
-use Rattle.link_capture_refusals.specs.declared.tables.Inside.TheVariants as I
-use Rattle.link_capture_refusals.specs.RefusalTables.{Listing, row_in, whole}
+use Rattle.link_capture_lists.specs.declared.tables.Inside.{Inside}
+use Rattle.link_capture_lists.specs.declared.tables.Inside.TheVariants as I
+use Rattle.link_capture_lists.specs.ListTables.{Listing, list_rest, row_in, whole}
 use Rattle.link_tables.specs.Tables.{family_table}
-use Rattle.link_capture_refusals.specs.ReasonTexts.{shape_reason}
-use Rattle.link_capture_refusals.specs.RowRules.{following, is_accepted}
+use Rattle.link_capture_refusals.specs.ReasonTexts.{missing_reason, shape_reason}
+use Rattle.link_capture_lists.specs.RowRules.{following, is_accepted}
 pub use Rattle.link_capture_walks.specs.Walks.{or_else}
 
 -- A refusal: the names of the attribute and of those around it, outermost first, its offset in bytes from the capture's
@@ -81,7 +81,7 @@ abbrev pub inside_refusal : ListRefusal → Bool → Inside → ℕ → List ℕ
 inside_refusal list judged (I.Value s) attribute_offset p = Some (found_at attribute_offset (shape_reason s (length p)))
 inside_refusal list judged (I.List f t) attribute_offset p = whole_refusal list (whole f t judged) attribute_offset p
 inside_refusal list judged I.Peer attribute_offset p = peer_refusal list attribute_offset p
-inside_refusal list judged (I.Refused r) attribute_offset p = Some (found_at attribute_offset r)
+inside_refusal list judged (I.Refused k) attribute_offset p = Some (found_at attribute_offset (missing_reason k))
 
 -- The refusal of a payload that isn't accepted, by the name and the content of its attribute.
 abbrev pub row_refusal : ListRefusal → Bool → Option (List ℕ × Inside) → ℕ → List ℕ → Option Found
@@ -94,11 +94,6 @@ abbrev pub attribute_refusal : ListRefusal → Listing → ℕ → Attribute →
 attribute_refusal list l offset e =
     cond (is_accepted l e) None
     (row_refusal list l.judged (row_in l.table.rows l.context (proper_kind e.kind)) offset e.payload)
-
--- The bytes with which a list continues after an attribute.
-abbrev pub list_rest : Form → List ℕ → List ℕ
-list_rest FirstOnly after = []
-list_rest _ after = after
 
 -- The refusal of a list's first attribute, or else that of the bytes after it and its padding.
 abbrev pub next_refusal : ListRefusal → Listing → ℕ → List ℕ → Option (Attribute × List ℕ) → Option Found

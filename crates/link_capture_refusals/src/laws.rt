@@ -1,19 +1,8 @@
 //! Laws of the definitions. No function here makes a call.
 #![tactic(auto, using(crate::proofs::Together::laws))]
 
-ghost use Rattle.link_capture_refusals.specs.RowRules.{LinksAreTables, RowsAreTheTables};
 ghost use Rattle.link_capture_refusals.specs.RefusalLaws.{LinksAreAccepted, ListsAreAccepted, ListsUnfoldByAttributes};
 ghost use Rattle.link_capture_refusals.specs.RefusalLaws.{RefusedBodiesHaveRefusals, RefusedFramesAreWhole, RefusalsAreIndependent};
-
-/// The content of each row is that of the row in the grammar's table.
-pub fn rows_are_the_tables()
-    ensures { RowsAreTheTables }
-{}
-
-/// The attributes of a link of an address family are those of its table.
-pub fn links_are_tables()
-    ensures { LinksAreTables }
-{}
 
 /// The refusal of a list is that of its first attribute, or else that of the attributes after it.
 pub fn lists_unfold_by_attributes()

@@ -3,14 +3,10 @@
 
 mod capture;
 pub mod laws;
-mod names;
 mod reason;
 mod refusal;
-mod rows;
-mod tables;
 mod walk;
 
 pub use capture::{why, why_frame};
 pub use reason::Reason;
 pub use refusal::{Refusal, separator_after_name};
-pub use tables::{Inside, ListTable, list_rest, next_list, row_in, whole};

@@ -1,10 +1,11 @@
 //! Why something is refused.
 
 ghost use Rattle.std.specs.Prelude.{◌≡◌, ◌+◌, ◌≤◌, Some, length};
-ghost use Rattle.link_capture_refusals.specs.ReasonTexts.{counted, words, shape_reason};
+ghost use Rattle.link_capture_refusals.specs.ReasonTexts.{counted, missing_reason, words, shape_reason};
 
 use arrayvec::ArrayString;
 use itoa::Buffer;
+use link_capture_lists::MissingKind;
 use link_tables::Shape;
 use std::fmt;
 
@@ -47,6 +48,16 @@ pub fn shape_reason(shape: Shape, size: usize) -> Reason
         Shape::Text => Reason::NotUtf8,
         Shape::Never => Reason::NoPayload,
         _ => Reason::PayloadSize(size),
+    }
+}
+
+/// Returns the reason why data are refused while a kind isn't in force.
+pub fn missing_reason(missing: MissingKind) -> Reason
+    ensures { result ≡ missing_reason missing }
+{
+    match missing {
+        MissingKind::Link => Reason::NoKind,
+        MissingKind::Port => Reason::NoPortKind,
     }
 }
 

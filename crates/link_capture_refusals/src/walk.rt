@@ -6,20 +6,19 @@ ghost use Rattle.link_interpreter.specs.Sameness.{attribute_of};
 ghost use Rattle.attribute_tables_grammar.specs.Shapes.{accepts};
 ghost use Rattle.link_capture_refusals.specs.ReasonTexts.{shape_reason};
 ghost use Rattle.link_capture_checks.specs.Listings.{listing};
-ghost use Rattle.link_capture_refusals.specs.RefusalTables.{depth, inside_depth};
-ghost use Rattle.link_capture_refusals.specs.RowRules.{inside_rule, peer_of};
+ghost use Rattle.link_capture_lists.specs.ListTables.{depth, inside_depth};
+ghost use Rattle.link_capture_lists.specs.RowRules.{inside_rule, peer_of};
 ghost use Rattle.link_capture_refusals.specs.Refusals.{attribute_refusal, found_at, inside_refusal, link_refusal};
 ghost use Rattle.link_capture_refusals.specs.Refusals.{list_refusal, no_attribute, peer_refusal, whole_refusal};
 ghost use Rattle.link_capture_refusals.specs.RefusalViews.{all_found};
 
-use crate::laws::{
-    links_are_accepted, lists_are_accepted, lists_unfold_by_attributes, rows_are_the_tables,
-};
-use crate::reason::{Reason, shape_reason};
+use crate::laws::{links_are_accepted, lists_are_accepted, lists_unfold_by_attributes};
+use crate::reason::{Reason, missing_reason, shape_reason};
 use crate::refusal::Refusal;
-use crate::tables::{Inside, ListTable, is_kept, list_rest, next_list, row_in, whole};
 use attribute_tables_grammar::laws::measures_determine_rules;
 use link_capture_checks::Listed;
+use link_capture_lists::laws::rows_are_the_tables;
+use link_capture_lists::{Inside, ListTable, is_kept, list_rest, next_list, row_in, whole};
 use link_interpreter::{Attribute, KIND_BOUND, PeerSet, first_attribute, measure_shape};
 use link_message_checks::{LinkPeer, has_empty_ports};
 use link_tables::{Form, LINK_HEADER_LEN, Shape, family_table};
@@ -130,7 +129,7 @@ fn inside_refusal(
 {
     lists_are_accepted();
     match inside {
-        Inside::Refused(reason) => Some(Refusal::at(attribute_offset, reason)),
+        Inside::Refused(missing) => Some(Refusal::at(attribute_offset, missing_reason(missing))),
         Inside::Value(shape) => value_refusal(shape, attribute_offset, payload),
         Inside::List(form, table) => whole_refusal(
             whole(form, table, judged),

@@ -14,17 +14,17 @@ use Rattle.link_tables.specs.Tables.{family_table, is_link_info}
 use Rattle.link_capture_grammar.specs.Bodies.{is_link_type}
 use Rattle.link_capture_grammar.specs.declared.fault.FaultKind.{FaultKind}
 use Rattle.link_capture_grammar.specs.declared.fault.FaultKind.TheVariants.{Refused}
-use Rattle.link_capture_refusals.proofs.Lookups.{found}
+use Rattle.link_capture_lists.proofs.Lookups.{found}
 use Rattle.link_capture_refusals.specs.ReasonTexts.{counted, words}
-use Rattle.link_capture_refusals.specs.Refusals.{Found, ListRefusal, attribute_refusal, code_refusal, empty_refusal, found_at, frame_refusal, inside_refusal, link_refusal, list_refusal, list_rest, named, next_refusal, or_else, refusal_within, row_refusal, whole_refusal}
-use Rattle.link_capture_refusals.specs.RefusalTables.{Listing, NamedRow, data_rows, find, info_inside, info_name, message_rows, row_in, table_row, table_rows, whole}
+use Rattle.link_capture_refusals.specs.Refusals.{Found, ListRefusal, attribute_refusal, code_refusal, empty_refusal, found_at, frame_refusal, inside_refusal, link_refusal, list_refusal, named, next_refusal, or_else, refusal_within, row_refusal, whole_refusal}
+use Rattle.link_capture_lists.specs.ListTables.{Listing, NamedRow, data_rows, find, info_inside, info_name, list_rest, message_rows, row_in, table_row, table_rows, whole}
 use Rattle.link_tables.specs.InForce.{held_in_force}
 use Rattle.link_capture_refusals.specs.RefusalTexts.{path_text, separator_after_name}
-use Rattle.link_capture_refusals.specs.RowRules.{following, is_accepted}
+use Rattle.link_capture_lists.specs.RowRules.{following, is_accepted}
 use Rattle.link_capture_refusals.specs.declared.reason.Reason.{Reason}
 use Rattle.link_capture_refusals.specs.declared.reason.Reason.TheVariants as R
-use Rattle.link_capture_refusals.specs.declared.tables.Inside.{Inside}
-use Rattle.link_capture_refusals.specs.declared.tables.Inside.TheVariants as I
+use Rattle.link_capture_lists.specs.declared.tables.Inside.{Inside}
+use Rattle.link_capture_lists.specs.declared.tables.Inside.TheVariants as I
 use Rattle.link_lines_values.specs.Laws.{IsLine}
 use Rattle.link_lines_values.specs.Values.{is_line}
 use Rattle.link_lines_values.proofs.NumbersDetermined.{high}

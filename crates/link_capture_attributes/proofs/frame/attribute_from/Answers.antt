@@ -3,7 +3,7 @@ use Rattle.std.proofs.lemmas.List.{drop_all}
 use Rattle.netlink_packet_core_grammar.specs.Frames.{frame_body, frame_type}
 use Rattle.link_capture_grammar.specs.Bodies.{is_link_type}
 use Rattle.link_tables.specs.declared.rows.Form.TheVariants.{Any}
-use Rattle.link_capture_refusals.specs.RefusalTables.{whole}
+use Rattle.link_capture_lists.specs.ListTables.{whole}
 use Rattle.link_capture_attributes.specs.Attributes.{first_from, frame_attributes, link_level, list_attributes}
 use Rattle.link_capture_attributes.proofs.Places.{no_bytes}
 use Rattle.link_capture_attributes.proofs.frame.attribute_from.Goals as goal

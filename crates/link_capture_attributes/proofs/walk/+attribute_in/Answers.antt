@@ -3,10 +3,9 @@ use Rattle.std.proofs.lemmas.Bool.{le-leb, lt-leb}
 use Rattle.netlink_packet_core_grammar.specs.Attributes.{Attribute, attribute_length, nla_align}
 use Rattle.link_interpreter.specs.Sameness.{attribute_of}
 use Rattle.link_capture_checks.specs.Listings.{listing}
-use Rattle.link_capture_refusals.proofs.Continuing.{shorter_rest}
-use Rattle.link_capture_refusals.specs.RefusalTables.{Listing}
-use Rattle.link_capture_refusals.specs.Refusals.{list_rest}
-use Rattle.link_capture_refusals.specs.RowRules.{following}
+use Rattle.link_capture_lists.proofs.Lookups.{shorter_rest}
+use Rattle.link_capture_lists.specs.ListTables.{Listing, list_rest}
+use Rattle.link_capture_lists.specs.RowRules.{following}
 use Rattle.link_capture_walks.specs.Walks.{collected_inside}
 use Rattle.link_capture_attributes.specs.Attributes.{Level, after, first_from, inside, list_attributes}
 use Rattle.link_capture_attributes.specs.AttributeViews.{level_of}

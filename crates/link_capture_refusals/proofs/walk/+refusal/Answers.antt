@@ -1,12 +1,13 @@
 use Rattle.std.proofs.Common.{◌≡◌, ◌+◌, length, Some, sym, ap, ◌∙◌, arith}
 use Rattle.netlink_packet_core_grammar.specs.Attributes.{Attribute, attribute_length, nla_align}
 use Rattle.link_capture_checks.specs.Listings.{listing}
-use Rattle.link_capture_refusals.specs.RefusalTables.{Listing}
-use Rattle.link_capture_refusals.specs.RowRules.{following}
-use Rattle.link_capture_refusals.specs.Refusals.{found_at, list_rest, list_refusal}
+use Rattle.link_capture_lists.specs.ListTables.{Listing, list_rest}
+use Rattle.link_capture_lists.specs.RowRules.{following}
+use Rattle.link_capture_refusals.specs.Refusals.{found_at, list_refusal}
 use Rattle.link_interpreter.proofs.Loop.{some_bytes}
 use Rattle.link_interpreter.specs.Sameness.{attribute_of}
-use Rattle.link_capture_refusals.proofs.Continuing.{shorter_rest, here, passed, stopped}
+use Rattle.link_capture_refusals.proofs.Continuing.{here, passed, stopped}
+use Rattle.link_capture_lists.proofs.Lookups.{shorter_rest}
 use Rattle.link_capture_refusals.proofs.walk.+refusal.Goals as goal
 
 pub list_refusal-returns-in_default-clause-found : goal.list_refusal-returns-in_default-clause-found

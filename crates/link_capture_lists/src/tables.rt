@@ -7,13 +7,11 @@ ghost use Rattle.link_tables.specs.declared.kinds.TheConstants.{AMT};
 ghost use Rattle.link_tables.specs.InForce.{held_in_force, in_force};
 ghost use Rattle.link_tables.specs.Rows.{form_of};
 ghost use Rattle.link_capture_checks.specs.Listings.{listing};
-ghost use Rattle.link_capture_refusals.specs.RefusalTables.{IsLower, data_rows, find, info_inside, info_row, inside_of};
-ghost use Rattle.link_capture_refusals.specs.RefusalTables.{message_rows, row_in, table_row, table_rows, whole};
-ghost use Rattle.link_capture_refusals.specs.Refusals.{list_rest};
-ghost use Rattle.link_capture_refusals.specs.RowRules.{following};
+ghost use Rattle.link_capture_lists.specs.ListTables.{IsLower, data_rows, find, info_inside, info_row, inside_of};
+ghost use Rattle.link_capture_lists.specs.ListTables.{list_rest, message_rows, row_in, table_row, table_rows, whole};
+ghost use Rattle.link_capture_lists.specs.RowRules.{following};
 
 use crate::names::{find, rows_at, text_of};
-use crate::reason::Reason;
 use crate::rows::{DATA_ROWS, MESSAGE_ROWS, NamedRow};
 use link_capture_checks::Listed;
 use link_interpreter::KIND_BOUND;
@@ -24,6 +22,15 @@ use link_tables::{
     IFLA_INFO_XSTATS, InForce, Shape, Table, info_held,
 };
 
+/// The kind that isn't in force.
+#[derive(Clone, Copy)]
+pub enum MissingKind {
+    /// IFLA_INFO_KIND.
+    Link,
+    /// IFLA_INFO_SLAVE_KIND.
+    Port,
+}
+
 /// The content of an attribute's payload.
 #[derive(Clone, Copy)]
 pub enum Inside {
@@ -33,8 +40,8 @@ pub enum Inside {
     List(Form, Table),
     /// The other end of a link, as a link's body.
     Peer,
-    /// Any payload is refused, for this reason.
-    Refused(Reason),
+    /// Data or statistics, of which any payload is refused, as this kind isn't in force.
+    Refused(MissingKind),
 }
 
 /// Which list it is: its list kind, and the table of its attributes.
@@ -70,8 +77,8 @@ fn info_inside(force: InForce<'_>, kind: u16) -> Inside
 {
     match info_held(force, kind) {
         Some(content) => inside_of(content),
-        None if kind == IFLA_INFO_SLAVE_DATA => Inside::Refused(Reason::NoPortKind),
-        None => Inside::Refused(Reason::NoKind),
+        None if kind == IFLA_INFO_SLAVE_DATA => Inside::Refused(MissingKind::Port),
+        None => Inside::Refused(MissingKind::Link),
     }
 }
 
@@ -131,7 +138,7 @@ fn table_row(table: Table, kind: u16) -> Option<(&'static str, Inside)>
 }
 
 /// Returns the name of a kind without flag bits in a list, and the content of its payload.
-#[tactic(auto, unfolding(crate::specs::RefusalTables::row_in))]
+#[tactic(auto, unfolding(crate::specs::ListTables::row_in))]
 pub fn row_in(list: Listed<'_, ListTable>, kind: u16) -> Option<(&'static str, Inside)>
     ensures row { option_map (λ x. (x.0.now, x.1)) result
         ≡ row_in list.entry.table.rows (listing list.entry).context kind }

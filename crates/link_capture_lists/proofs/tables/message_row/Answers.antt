@@ -1,6 +1,6 @@
 use Rattle.std.proofs.Common.{ap, ◌∙◌}
-use Rattle.link_capture_refusals.specs.RefusalTables.{message_rows, find}
-use Rattle.link_capture_refusals.proofs.tables.message_row.Goals as goal
+use Rattle.link_capture_lists.specs.ListTables.{message_rows, find}
+use Rattle.link_capture_lists.proofs.tables.message_row.Goals as goal
 
 pub returns : goal.returns
 unfolding message_rows

@@ -12,9 +12,9 @@ use Rattle.link_message_grammar.specs.LinkMessage.{family_of}
 use Rattle.link_tables.specs.declared.table.Table.{Table}
 use Rattle.link_tables.specs.Rows.{form_of, shape_of}
 use Rattle.link_tables.specs.Tables.{family_table, is_link_info, table_of}
-use Rattle.link_capture_refusals.specs.declared.tables.Inside.{Inside}
-use Rattle.link_capture_refusals.specs.declared.tables.Inside.TheVariants as I
-use Rattle.link_capture_refusals.specs.RefusalTables.{Listing, row_in}
+use Rattle.link_capture_lists.specs.declared.tables.Inside.{Inside}
+use Rattle.link_capture_lists.specs.declared.tables.Inside.TheVariants as I
+use Rattle.link_capture_lists.specs.ListTables.{Listing, row_in}
 
 -- The rule of peers: links' bodies, inside which peers are bytes; or only bytes.
 abbrev pub peer_of : Bool → Peer

@@ -26,10 +26,10 @@ use Rattle.link_tables.specs.InForce.{data_under, port_data_under, statistics_un
 use Rattle.link_tables.specs.Names.{held_by_name}
 use Rattle.link_tables.specs.Rows.{form_of, payload_of}
 use Rattle.link_tables.specs.Tables.{all_tables, family_table, held_rule, info_payload, is_link_info, table_of}
-use Rattle.link_capture_refusals.proofs.Lookups.{found, has_rows, row_has_rows, rows_have_rows}
-use Rattle.link_capture_refusals.specs.RefusalTables as R
-use Rattle.link_capture_refusals.specs.RefusalTables.{NamedRow, find, info_inside, inside_of, row_in, table_rows}
-use Rattle.link_capture_refusals.specs.RowRules.{LinksAreTables, RowsAreTheTables, grammar_at, inside_rule, peer_of, row_rule}
+use Rattle.link_capture_lists.proofs.Lookups.{found, has_rows, row_has_rows, rows_have_rows}
+use Rattle.link_capture_lists.specs.ListTables as R
+use Rattle.link_capture_lists.specs.ListTables.{NamedRow, find, info_inside, inside_of, row_in, table_rows}
+use Rattle.link_capture_lists.specs.RowRules.{LinksAreTables, RowsAreTheTables, grammar_at, inside_rule, peer_of, row_rule}
 
 -- ---- kinds and the contents of their payloads
 

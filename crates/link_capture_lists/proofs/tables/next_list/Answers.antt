@@ -1,7 +1,7 @@
 use Rattle.std.proofs.Common.{sym, ◌∙◌}
 use Rattle.link_capture_checks.specs.Listings.{listing}
-use Rattle.link_capture_refusals.proofs.Lookups.{info_rest}
-use Rattle.link_capture_refusals.proofs.tables.next_list.Goals as goal
+use Rattle.link_capture_lists.proofs.Lookups.{info_rest}
+use Rattle.link_capture_lists.proofs.tables.next_list.Goals as goal
 
 pub returns : goal.returns
 returns c =

@@ -1,6 +1,6 @@
 use Rattle.std.proofs.Common.{ap, ◌∙◌}
-use Rattle.link_capture_refusals.specs.RefusalTables.{data_rows, find}
-use Rattle.link_capture_refusals.proofs.tables.data_row.Goals as goal
+use Rattle.link_capture_lists.specs.ListTables.{data_rows, find}
+use Rattle.link_capture_lists.proofs.tables.data_row.Goals as goal
 
 pub returns : goal.returns
 unfolding data_rows

@@ -1,7 +1,7 @@
 use Rattle.std.proofs.Common.{ap, ◌∙◌, arith}
-use Rattle.link_capture_refusals.specs.RefusalTables.{find}
-use Rattle.link_capture_refusals.proofs.Lookups.{data_at, message_at}
-use Rattle.link_capture_refusals.proofs.tables.named_row.Goals as goal
+use Rattle.link_capture_lists.specs.ListTables.{find}
+use Rattle.link_capture_lists.proofs.Lookups.{data_at, message_at}
+use Rattle.link_capture_lists.proofs.tables.named_row.Goals as goal
 
 pub returns-then-table : goal.returns-then-table
 returns-then-table c = c.message_row.ensures ∙ ap (find c.args.kind) (message_at c.args.table.0 (omega arith))

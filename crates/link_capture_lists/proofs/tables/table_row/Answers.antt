@@ -1,8 +1,8 @@
 use Rattle.std.proofs.Common.{Some, sym, ap, subst, ◌∙◌}
 use Rattle.std.specs.Prelude.{option_map}
-use Rattle.link_capture_refusals.specs.RefusalTables.{IsLower, table_row}
-use Rattle.link_capture_refusals.proofs.Lookups.{of_table, row}
-use Rattle.link_capture_refusals.proofs.tables.table_row.Goals as goal
+use Rattle.link_capture_lists.specs.ListTables.{IsLower, table_row}
+use Rattle.link_capture_lists.proofs.Lookups.{of_table, row}
+use Rattle.link_capture_lists.proofs.tables.table_row.Goals as goal
 
 pub text_of-requires : goal.text_of-requires
 text_of-requires c = (of_table c.args.table.0 c.args.kind _ (sym c.named_row.ensures ∙ ap (option_map row) c.in-Some.is)).name

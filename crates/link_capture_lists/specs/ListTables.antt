@@ -4,7 +4,7 @@ use Rattle.std.specs.Prelude.{get_or, map, Option, Some, None, option_map}
 use Rattle.std.specs.List.{list_all}
 use Rattle.attribute_tables_grammar.specs.Lists.{Context}
 use Rattle.link_tables.specs.declared.rows.Form.{Form}
-use Rattle.link_tables.specs.declared.rows.Form.TheVariants.{NonEmpty}
+use Rattle.link_tables.specs.declared.rows.Form.TheVariants.{FirstOnly, NonEmpty}
 use Rattle.link_tables.specs.declared.rows.Held.{Held}
 use Rattle.link_tables.specs.declared.rows.Held.TheVariants as H
 use Rattle.link_tables.specs.declared.table.Table.{Table}
@@ -14,11 +14,11 @@ use Rattle.link_tables.specs.declared.table.TheConstants.{VF_INFOS, VF_PORTS, VL
 use Rattle.link_tables.specs.InForce.{held_in_force}
 use Rattle.link_tables.specs.Tables.{is_link_info}
 use Rattle.link_capture_checks.specs.Listings.{Listing as ListingOf, whole as whole_of}
-use Rattle.link_capture_refusals.specs.declared.reason.Reason.TheVariants.{NoKind, NoPortKind}
-use Rattle.link_capture_refusals.specs.declared.rows.TheConstants.{DATA_ROWS, MESSAGE_ROWS}
-use Rattle.link_capture_refusals.specs.declared.tables.Inside.{Inside}
-use Rattle.link_capture_refusals.specs.declared.tables.Inside.TheVariants as I
-use Rattle.link_capture_refusals.specs.declared.tables.ListTable.{ListTable}
+use Rattle.link_capture_lists.specs.declared.rows.TheConstants.{DATA_ROWS, MESSAGE_ROWS}
+use Rattle.link_capture_lists.specs.declared.tables.Inside.{Inside}
+use Rattle.link_capture_lists.specs.declared.tables.Inside.TheVariants as I
+use Rattle.link_capture_lists.specs.declared.tables.ListTable.{ListTable}
+use Rattle.link_capture_lists.specs.declared.tables.MissingKind.TheVariants.{Link, Port}
 
 -- ---- rows
 
@@ -64,10 +64,10 @@ inside_of H.Peer = I.Peer
 inside_of (H.List f t) = I.List f t
 inside_of H.LinkInfo = I.List NonEmpty LINK_INFO
 
--- The content of an attribute of link info; if no kind that it depends on is in force, the reason why it is refused.
+-- The content of an attribute of link info; if the kind that it depends on isn't in force, any payload is refused.
 abbrev pub info_inside : ℕ → Option Held → Inside
 info_inside k (Some content) = inside_of content
-info_inside k None = I.Refused (cond (k == 5) NoPortKind NoKind)
+info_inside k None = I.Refused (cond (k == 5) Port Link)
 
 -- The name of a kind in link info.
 abbrev pub info_name : ℕ → Option (List ℕ)
@@ -104,6 +104,11 @@ list_table f t = record { form = f; rows = t }
 -- A list of the attributes of a table, from its first attribute on.
 abbrev pub whole : Form → Table → Bool → Listing
 whole f t judged = whole_of (list_table f t) judged
+
+-- The bytes with which a list continues after an attribute.
+abbrev pub list_rest : Form → List ℕ → List ℕ
+list_rest FirstOnly after = []
+list_rest _ after = after
 
 -- ---- how deeply attributes are nested, by the index of a table
 

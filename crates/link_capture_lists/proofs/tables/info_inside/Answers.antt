@@ -1,9 +1,9 @@
 use Rattle.std.proofs.Common.{sym, ap, subst, ◌∙◌}
 use Rattle.link_tables.specs.declared.table.TheConstants.{LINK_INFO}
 use Rattle.link_tables.specs.InForce.{in_force}
-use Rattle.link_capture_refusals.proofs.Lookups.{info_lower}
-use Rattle.link_capture_refusals.specs.RefusalTables.{IsLower, info_inside}
-use Rattle.link_capture_refusals.proofs.tables.info_inside.Goals as goal
+use Rattle.link_capture_lists.proofs.Lookups.{info_lower}
+use Rattle.link_capture_lists.specs.ListTables.{IsLower, info_inside}
+use Rattle.link_capture_lists.proofs.tables.info_inside.Goals as goal
 
 pub returns-in-Some-clause-lower : goal.returns-in-Some-clause-lower
 returns-in-Some-clause-lower c =

@@ -1,7 +1,7 @@
 //! Names and rows by kind.
 
 ghost use Rattle.std.specs.Prelude.{◌≡◌, true, [], get_or, option_map};
-ghost use Rattle.link_capture_refusals.specs.RefusalTables.{all_row_values, find, is_name, row_values};
+ghost use Rattle.link_capture_lists.specs.ListTables.{all_row_values, find, is_name, row_values};
 
 use crate::rows::NamedRow;
 

@@ -1,5 +1,5 @@
 -- Rows in code, and their values.
-use Rattle.std.proofs.Common.{◌≡◌, ℕ, zero, suc, ◌+◌, ◌-◌, ◌<◌, ◌≤◌, Bool, true, false, cond, List, [], ◌∷◌, get_or, Bor, Option, Some, None, refl, sym, ap, ◌∙◌, subst, zero-add, arith}
+use Rattle.std.proofs.Common.{◌≡◌, ℕ, zero, suc, ◌+◌, ◌-◌, ◌<◌, ◌≤◌, Bool, true, false, cond, List, [], ◌∷◌, length, get_or, Bor, Option, Some, None, refl, sym, ap, ◌∙◌, subst, zero-add, arith}
 use Rattle.std.specs.Prelude.{◌==◌, ◌&&◌, nat_lt, not, option_map}
 use Rattle.std.specs.List.{list_all}
 use Rattle.std.specs.Str.{IsAscii, IsUtf8}
@@ -13,6 +13,8 @@ use Rattle.attribute_tables_grammar.specs.Tables.{info_next}
 use Rattle.link_info_grammar.specs.LinkInfo.{info_grammar_under}
 use Rattle.link_tables.proofs.NameRows.{held_all}
 use Rattle.link_tables.specs.declared.kinds.TheConstants.{KINDS, PORT_KINDS}
+use Rattle.link_tables.specs.declared.rows.Form.{Form}
+use Rattle.link_tables.specs.declared.rows.Form.TheVariants.{FirstOnly}
 use Rattle.link_tables.specs.declared.rows.Held.{Held}
 use Rattle.link_tables.specs.declared.rows.Held.TheVariants as H
 use Rattle.link_tables.specs.declared.rows.Shape.TheVariants.{Raw, Text}
@@ -25,9 +27,9 @@ use Rattle.link_tables.specs.declared.table.Table.{Table}
 use Rattle.link_interpreter.specs.Measures.{rows_of}
 use Rattle.link_tables.specs.Tables.{is_link_info, table_of}
 use Rattle.attribute_tables_grammar.specs.Lists.{Context}
-use Rattle.link_capture_refusals.specs.declared.tables.Inside.{Inside}
-use Rattle.link_capture_refusals.specs.RowRules.{following, grammar_at, peer_of}
-use Rattle.link_capture_refusals.specs.RefusalTables.{IsLower, Listing, NamedRow, data_rows, depth, find, info_inside, inside_depth, inside_of, is_name, message_rows, row_values, table_rows}
+use Rattle.link_capture_lists.specs.declared.tables.Inside.{Inside}
+use Rattle.link_capture_lists.specs.RowRules.{following, grammar_at, peer_of}
+use Rattle.link_capture_lists.specs.ListTables.{IsLower, Listing, NamedRow, data_rows, depth, find, info_inside, inside_depth, inside_of, is_name, list_rest, message_rows, row_values, table_rows}
 
 -- a row in code, and its value
 abbrev pub Row : Type 0
@@ -110,7 +112,7 @@ of_table t k r e =
     let a = and_parts (is_name r.1) _ (found (passes t) k (get_or table_rows t []) r (each_passes t) e) in
     record { name = a.0; lower = lower_by t (inside_of r.2) (and_parts (row_has_rows r) _ a.1).1 }
 
--- a refusal in code
+-- the row that is found in code
 pub row_found : (k : ℕ) (o : Option Row) (rs : List Row) (us : List NamedRow) → option_map row o ≡ find k (rows rs) → rows rs ≡ us → find k us ≡ option_map row o
 row_found k o rs us h e = ap (find k) (sym e) ∙ sym h
 
@@ -161,6 +163,10 @@ unfolding grammar_at
 info_rest l e h k =
     ap (λ c. record l { context = c })
     (sym (next_in l.judged (is_link_info l.table.rows) l.table.rows l.context e h) ∙ ap (λ b. cond b ((grammar_at l.judged l.table.rows).next l.context e) l.context) (sym k))
+
+pub shorter_rest : (f : Form) (after : List ℕ) → length (list_rest f after) ≤ length after
+shorter_rest FirstOnly after = omega arith
+shorter_rest f after = omega arith
 
 -- ---- rows in two parts
 

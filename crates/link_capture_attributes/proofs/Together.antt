@@ -11,9 +11,9 @@ unfolding list_attributes
 lists = unfolds_by_attributes attribute_walk first_is_within (λ l bytes. shorter_rest l.list.table.form bytes)
 
 pub attributes_are_apart : AttributesAreApart
-attributes_are_apart = apart first_is_within
+attributes_are_apart = apart lists first_is_within
 
 pub attributes_are_where_they_say : AttributesAreWhereTheySay
-attributes_are_where_they_say = there first_is_within
+attributes_are_where_they_say = there lists first_is_within
 
 pub ruleset laws = (lists, attributes_are_apart, attributes_are_where_they_say, next_from)

@@ -15,7 +15,7 @@ use Rattle.link_capture_grammar.proofs.SameFrames.{no, yes}
 use Rattle.link_capture_grammar.specs.declared.fault.CaptureFault.{CaptureFault}
 use Rattle.link_capture_grammar.specs.declared.fault.FaultKind.{FaultKind}
 use Rattle.link_capture_grammar.specs.declared.fault.FaultKind.TheVariants.{Refused, TextOverLimit}
-use Rattle.link_capture_refusals.specs.RefusalLaws.{IsBetween, LinksAreAccepted, RefusedBodiesHaveRefusals, RefusedFramesAreWhole, IsInFrame}
+use Rattle.link_capture_refusals.specs.RefusalLaws.{IsBetween, LinksAreAccepted, ListsUnfoldByAttributes, RefusedBodiesHaveRefusals, RefusedFramesAreWhole, IsInFrame}
 use Rattle.link_capture_refusals.specs.Refusals.{Found, code_refusal, fault_refusal, frame_refusal, link_refusal, list_refusal, refusal, first_fault_refusal}
 use Rattle.link_capture_refusals.proofs.Offsets.{IsPlacedBetween, link_between}
 
@@ -68,7 +68,7 @@ some_of : (o : Option Found) → is_none o ≡ false → IsSome o
 some_of None h = absurd cc
 some_of (Some f) h = refl
 
-module _ (law : CapturesUnfoldByFrames link_body) (w : FirstIsWithin) (links : LinksAreAccepted) where
+module _ (law : CapturesUnfoldByFrames link_body) (lists : ListsUnfoldByAttributes) (w : FirstIsWithin) (links : LinksAreAccepted) where
   refused_frame_has_refusal : (offset : ℕ) (c : List ℕ) (l : Bool) → is_link_type (frame_type c) ≡ l → body_text (frame_type c) (frame_body c) ≡ Err refused →
       IsSome (cond l (link_refusal list_refusal true (offset + 16) (offset + 16) (frame_body c)) (Some (code_refusal (frame_body c))))
   refused_frame_has_refusal offset c true l h =
@@ -88,7 +88,7 @@ module _ (law : CapturesUnfoldByFrames link_body) (w : FirstIsWithin) (links : L
   in_frame offset c f true i e h =
       let b = frame_body c in
       let s = length-take (frame_length c - 16) (drop 16 c) in
-      let p : IsPlacedBetween (offset + 16) (offset + 16 + length b) (Some f) = subst (IsPlacedBetween (offset + 16) (offset + 16 + length b)) h (link_between w true (offset + 16) b) in
+      let p : IsPlacedBetween (offset + 16) (offset + 16 + length b) (Some f) = subst (IsPlacedBetween (offset + 16) (offset + 16 + length b)) h (link_between lists w true (offset + 16) b) in
       by_offset f.offset s p
     where
       by_offset : (o : Option ℕ) → length (take (frame_length c - 16) (drop 16 c)) ≡ min (frame_length c - 16) (length (drop 16 c)) → IsBetween (offset + 16) (offset + 16 + length (frame_body c)) o → IsBetween offset (offset + frame_length c) o

@@ -52,17 +52,16 @@ module _ (w : FirstIsWithin) where
       ap (λ o. or_else o (f (following l x.0) after_it (list_rest l.table.form x.1))) (same_attribute f g k i l offset x.0 (omega (arith, a, p)))
       ∙ ap (or_else (attribute_refusal g l offset x.0)) (i (following l x.0) after_it (list_rest l.table.form x.1) (omega (arith, shorter_rest l.table.form x.1, r, p)))
 
-  step : ListRefusal → ListRefusal
+  abbrev step : ListRefusal → ListRefusal
   step f l offset [] = None
   step f l offset (b ∷ bytes) = next_refusal f l offset (b ∷ bytes) (first_attribute (b ∷ bytes))
 
   inward : GoesInward step
-  unfolding step
   inward f g k i l offset [] h = refl
   inward f g k i l offset (b ∷ bytes) h = same_next f g k i l offset (b ∷ bytes) h (first_attribute (b ∷ bytes)) refl
 
   by_steps : Steps step refusal_within
-  unfolding refusal_within step
+  unfolding refusal_within
   by_steps = record { next = each; none = λ n l offset. refl }
     where
       each : (n : ℕ) (l : Listing) (offset : ℕ) (bytes : List ℕ) → refusal_within (suc n) l offset bytes ≡ step (refusal_within n) l offset bytes
@@ -70,7 +69,7 @@ module _ (w : FirstIsWithin) where
       each n l offset (b ∷ bytes) = refl
 
   pub next : (l : Listing) (offset b : ℕ) (bytes : List ℕ) → list_refusal l offset (b ∷ bytes) ≡ next_refusal list_refusal l offset (b ∷ bytes) (first_attribute (b ∷ bytes))
-  unfolding list_refusal step
+  unfolding list_refusal
   next l offset b bytes = by_step step refusal_within by_steps inward l offset (b ∷ bytes)
 
 pub none : (l : Listing) (offset : ℕ) → list_refusal l offset [] ≡ None

@@ -12,8 +12,8 @@ use Rattle.link_capture_refusals.specs.declared.reason.Reason.TheVariants as R
 use Rattle.link_capture_lists.specs.ListTables.{Listing, list_rest, list_table, row_in, whole}
 use Rattle.link_tables.specs.Tables.{family_table}
 use Rattle.link_capture_lists.specs.RowRules.{following, is_accepted}
-use Rattle.link_capture_refusals.specs.RefusalLaws.{IsBetween}
-use Rattle.link_capture_refusals.specs.Refusals.{Found, ListRefusal, attribute_refusal, found_at, inside_refusal, link_refusal, list_refusal, named, next_refusal, or_else, refusal_within, row_refusal, whole_refusal}
+use Rattle.link_capture_refusals.specs.RefusalLaws.{IsBetween, ListsUnfoldByAttributes}
+use Rattle.link_capture_refusals.specs.Refusals.{Found, attribute_refusal, found_at, inside_refusal, link_refusal, list_refusal, named, next_refusal, or_else, row_refusal, whole_refusal}
 use Rattle.link_capture_lists.proofs.Lookups.{shorter_rest}
 use Rattle.link_capture_checks.proofs.Listings.{rest_shorter}
 
@@ -42,80 +42,71 @@ between_if : (low high : ℕ) (b : Bool) (o : Option Found) → IsPlacedBetween 
 between_if low high true o h = tt
 between_if low high false o h = h
 
--- for lists of at most n bytes
-abbrev Within : ListRefusal → ℕ → Type 0
-Within f k = (l : Listing) (offset : ℕ) (bytes : List ℕ) → length bytes ≤ k → IsPlacedBetween offset (offset + length bytes) (f l offset bytes)
+-- for lists of at most k bytes
+abbrev Within : ℕ → Type 0
+Within k = (l : Listing) (offset : ℕ) (bytes : List ℕ) → length bytes ≤ k → IsPlacedBetween offset (offset + length bytes) (list_refusal l offset bytes)
 
-module _ (f : ListRefusal) (k : ℕ) (i : Within f k) where
-  between_whole : (l : Listing) (attribute_offset : ℕ) (p : List ℕ) → length p ≤ k → IsPlacedBetween attribute_offset (attribute_offset + 4 + length p) (whole_refusal f l attribute_offset p)
+module _ (k : ℕ) (i : Within k) where
+  between_whole : (l : Listing) (attribute_offset : ℕ) (p : List ℕ) → length p ≤ k → IsPlacedBetween attribute_offset (attribute_offset + 4 + length p) (whole_refusal list_refusal l attribute_offset p)
   between_whole l attribute_offset [] h = by_form l.table.form
     where
-      by_form : (form : Form) → IsPlacedBetween attribute_offset (attribute_offset + 4 + 0) (whole_refusal f (record l { table = list_table form l.table.rows }) attribute_offset [])
+      by_form : (form : Form) → IsPlacedBetween attribute_offset (attribute_offset + 4 + 0) (whole_refusal list_refusal (record l { table = list_table form l.table.rows }) attribute_offset [])
       by_form Any = tt
       by_form OfKindOne = tt
       by_form form = (omega arith, omega arith)
-  between_whole l attribute_offset (b ∷ p) h = wider (attribute_offset + 4) (attribute_offset + 4 + length (b ∷ p)) attribute_offset (attribute_offset + 4 + length (b ∷ p)) (f l (attribute_offset + 4) (b ∷ p)) (omega arith) (omega arith) (i l (attribute_offset + 4) (b ∷ p) h)
+  between_whole l attribute_offset (b ∷ p) h = wider (attribute_offset + 4) (attribute_offset + 4 + length (b ∷ p)) attribute_offset (attribute_offset + 4 + length (b ∷ p)) (list_refusal l (attribute_offset + 4) (b ∷ p)) (omega arith) (omega arith) (i l (attribute_offset + 4) (b ∷ p) h)
 
-  pub between_link : (judged : Bool) (attribute_offset offset : ℕ) (b : List ℕ) → attribute_offset ≤ offset → length b ≤ k → IsPlacedBetween attribute_offset (offset + length b) (link_refusal f judged attribute_offset offset b)
+  between_link : (judged : Bool) (attribute_offset offset : ℕ) (b : List ℕ) → attribute_offset ≤ offset → length b ≤ k → IsPlacedBetween attribute_offset (offset + length b) (link_refusal list_refusal judged attribute_offset offset b)
   between_link judged attribute_offset offset b w h = by_size (nat_lt (length b) 16) refl
     where
-      by_size : (short : Bool) → nat_lt (length b) 16 ≡ short → IsPlacedBetween attribute_offset (offset + length b) (cond short (Some (found_at attribute_offset (R.CutLink (length b)))) (f (whole Any (family_table (slice_index b 0)) judged) (offset + 16) (drop 16 b)))
+      by_size : (short : Bool) → nat_lt (length b) 16 ≡ short → IsPlacedBetween attribute_offset (offset + length b) (cond short (Some (found_at attribute_offset (R.CutLink (length b)))) (list_refusal (whole Any (family_table (slice_index b 0)) judged) (offset + 16) (drop 16 b)))
       by_size true e = (omega arith, omega (arith, w))
       by_size false e =
           let d = length-drop 16 b in
           let s = ltb-false (length b) 16 e in
-          wider (offset + 16) (offset + 16 + length (drop 16 b)) attribute_offset (offset + length b) (f (whole Any (family_table (slice_index b 0)) judged) (offset + 16) (drop 16 b)) (omega (arith, w)) (omega (arith, d, s))
+          wider (offset + 16) (offset + 16 + length (drop 16 b)) attribute_offset (offset + length b) (list_refusal (whole Any (family_table (slice_index b 0)) judged) (offset + 16) (drop 16 b)) (omega (arith, w)) (omega (arith, d, s))
           (i (whole Any (family_table (slice_index b 0)) judged) (offset + 16) (drop 16 b) (omega (arith, d, h)))
 
-  between_inside : (judged : Bool) (inside : Inside) (attribute_offset : ℕ) (p : List ℕ) → length p ≤ k → IsPlacedBetween attribute_offset (attribute_offset + 4 + length p) (inside_refusal f judged inside attribute_offset p)
+  between_inside : (judged : Bool) (inside : Inside) (attribute_offset : ℕ) (p : List ℕ) → length p ≤ k → IsPlacedBetween attribute_offset (attribute_offset + 4 + length p) (inside_refusal list_refusal judged inside attribute_offset p)
   between_inside judged (I.Value s) attribute_offset p h = (omega arith, omega arith)
   between_inside judged (I.List form t) attribute_offset p h = between_whole (whole form t judged) attribute_offset p h
-  between_inside judged I.Peer attribute_offset p h = between_else attribute_offset (attribute_offset + 4 + length p) (link_refusal f false attribute_offset (attribute_offset + 4) p) _ (between_link false attribute_offset (attribute_offset + 4) p (omega arith) h) (omega arith, omega arith)
+  between_inside judged I.Peer attribute_offset p h = between_else attribute_offset (attribute_offset + 4 + length p) (link_refusal list_refusal false attribute_offset (attribute_offset + 4) p) _ (between_link false attribute_offset (attribute_offset + 4) p (omega arith) h) (omega arith, omega arith)
   between_inside judged (I.Refused r) attribute_offset p h = (omega arith, omega arith)
 
-  between_row : (judged : Bool) (o : Option (List ℕ × Inside)) (attribute_offset : ℕ) (p : List ℕ) → length p ≤ k → IsPlacedBetween attribute_offset (attribute_offset + 4 + length p) (row_refusal f judged o attribute_offset p)
+  between_row : (judged : Bool) (o : Option (List ℕ × Inside)) (attribute_offset : ℕ) (p : List ℕ) → length p ≤ k → IsPlacedBetween attribute_offset (attribute_offset + 4 + length p) (row_refusal list_refusal judged o attribute_offset p)
   between_row judged None attribute_offset p h = tt
-  between_row judged (Some x) attribute_offset p h = between_named attribute_offset (attribute_offset + 4 + length p) x.0 (inside_refusal f judged x.1 attribute_offset p) (between_inside judged x.1 attribute_offset p h)
+  between_row judged (Some x) attribute_offset p h = between_named attribute_offset (attribute_offset + 4 + length p) x.0 (inside_refusal list_refusal judged x.1 attribute_offset p) (between_inside judged x.1 attribute_offset p h)
 
-  between_attribute : (l : Listing) (offset : ℕ) (e : Attribute) → length e.payload ≤ k → IsPlacedBetween offset (offset + 4 + length e.payload) (attribute_refusal f l offset e)
+  between_attribute : (l : Listing) (offset : ℕ) (e : Attribute) → length e.payload ≤ k → IsPlacedBetween offset (offset + 4 + length e.payload) (attribute_refusal list_refusal l offset e)
   between_attribute l offset e h =
-      let o = row_refusal f l.judged (row_in l.table.rows l.context (proper_kind e.kind)) offset e.payload in
+      let o = row_refusal list_refusal l.judged (row_in l.table.rows l.context (proper_kind e.kind)) offset e.payload in
       between_if offset (offset + 4 + length e.payload) (is_accepted l e) o (between_row l.judged (row_in l.table.rows l.context (proper_kind e.kind)) offset e.payload h)
 
--- no bytes have no refusal
-module _ (w : FirstIsWithin) (f : ListRefusal) (k : ℕ) (i : Within f k) (none : (l : Listing) (offset : ℕ) → f l offset [] ≡ None) where
-  between_rest : (l : Listing) (offset size high : ℕ) (rest : List ℕ) → length rest ≤ k → (0 < length rest → offset + size + length rest ≤ high) → IsPlacedBetween offset high (f l (offset + size) rest)
-  between_rest l offset size high [] h n = subst (IsPlacedBetween offset high) (sym (none l (offset + size))) tt
-  between_rest l offset size high (b ∷ rest) h n =
-      let m = n (omega arith) in
-      wider (offset + size) (offset + size + length (b ∷ rest)) offset high (f l (offset + size) (b ∷ rest)) (omega arith) m (i l (offset + size) (b ∷ rest) h)
+  module _ (s : ListsUnfoldByAttributes) (w : FirstIsWithin) where
+    -- no bytes have no refusal
+    between_rest : (l : Listing) (offset size high : ℕ) (rest : List ℕ) → length rest ≤ k → (0 < length rest → offset + size + length rest ≤ high) → IsPlacedBetween offset high (list_refusal l (offset + size) rest)
+    between_rest l offset size high [] h n = subst (IsPlacedBetween offset high) (sym (s.none l (offset + size))) tt
+    between_rest l offset size high (b ∷ rest) h n =
+        wider (offset + size) (offset + size + length (b ∷ rest)) offset high (list_refusal l (offset + size) (b ∷ rest)) (omega arith) (n (omega arith)) (i l (offset + size) (b ∷ rest) h)
 
-  between_next : (l : Listing) (offset : ℕ) (bytes : List ℕ) → length bytes ≤ suc k → (o : Option (Attribute × List ℕ)) → first_attribute bytes ≡ o → IsPlacedBetween offset (offset + length bytes) (next_refusal f l offset bytes o)
-  between_next l offset bytes p None h = (omega arith, omega arith)
-  between_next l offset bytes p (Some x) h =
-      let a = w.within bytes x.0 x.1 h in
-      let r = rest_shorter w bytes x.0 x.1 h in
-      let d = w.rest_length bytes x.0 x.1 h in
-      let g = shorter_rest l.table.form x.1 in
-      between_else offset (offset + length bytes) (attribute_refusal f l offset x.0) (f (following l x.0) (offset + nla_align (attribute_length x.0)) (list_rest l.table.form x.1))
-      (wider offset (offset + 4 + length x.0.payload) offset (offset + length bytes) (attribute_refusal f l offset x.0) (omega arith) (omega (arith, a)) (between_attribute f k i l offset x.0 (omega (arith, a, p))))
-      (between_rest (following l x.0) offset (nla_align (attribute_length x.0)) (offset + length bytes) (list_rest l.table.form x.1) (omega (arith, g, r, p)) (λ n. omega (arith, n, g, d)))
+    between_next : (l : Listing) (offset : ℕ) (bytes : List ℕ) → length bytes ≤ suc k → (o : Option (Attribute × List ℕ)) → first_attribute bytes ≡ o → IsPlacedBetween offset (offset + length bytes) (next_refusal list_refusal l offset bytes o)
+    between_next l offset bytes p None h = (omega arith, omega arith)
+    between_next l offset bytes p (Some x) h =
+        let a = w.within bytes x.0 x.1 h in
+        let r = rest_shorter w bytes x.0 x.1 h in
+        let d = w.rest_length bytes x.0 x.1 h in
+        let g = shorter_rest l.table.form x.1 in
+        between_else offset (offset + length bytes) (attribute_refusal list_refusal l offset x.0) (list_refusal (following l x.0) (offset + nla_align (attribute_length x.0)) (list_rest l.table.form x.1))
+        (wider offset (offset + 4 + length x.0.payload) offset (offset + length bytes) (attribute_refusal list_refusal l offset x.0) (omega arith) (omega (arith, a)) (between_attribute l offset x.0 (omega (arith, a, p))))
+        (between_rest (following l x.0) offset (nla_align (attribute_length x.0)) (offset + length bytes) (list_rest l.table.form x.1) (omega (arith, g, r, p)) (λ n. omega (arith, n, g, d)))
 
-module _ (w : FirstIsWithin) where
-  between_within : (n : ℕ) → Within (λ l q d. refusal_within n l q d) n
-  unfolding refusal_within
-  between_within zero l offset bytes h = tt
-  between_within (suc n) l offset [] h = tt
-  between_within (suc n) l offset (b ∷ bytes) h = between_next w (λ l q d. refusal_within n l q d) n (between_within n) (no_bytes n) l offset (b ∷ bytes) h (first_attribute (b ∷ bytes)) refl
-    where
-      no_bytes : (n : ℕ) (l : Listing) (offset : ℕ) → refusal_within n l offset [] ≡ None
-      no_bytes zero l offset = refl
-      no_bytes (suc n) l offset = refl
-
-  between_list : (l : Listing) (offset : ℕ) (bytes : List ℕ) → IsPlacedBetween offset (offset + length bytes) (list_refusal l offset bytes)
-  unfolding list_refusal
-  between_list l offset bytes = between_within (length bytes) l offset bytes (omega arith)
+module _ (s : ListsUnfoldByAttributes) (w : FirstIsWithin) where
+  between : (k : ℕ) → Within k
+  between k l offset [] h = subst (IsPlacedBetween offset (offset + 0)) (sym (s.none l offset)) tt
+  between zero l offset (b ∷ bytes) h = absurd (omega (arith, h))
+  between (suc k) l offset (b ∷ bytes) h =
+      subst (IsPlacedBetween offset (offset + length (b ∷ bytes))) (sym (s.next l offset b bytes)) (between_next k (between k) s w l offset (b ∷ bytes) h (first_attribute (b ∷ bytes)) refl)
 
   -- the refusal of a link
   pub link_between : (judged : Bool) (offset : ℕ) (b : List ℕ) → IsPlacedBetween offset (offset + length b) (link_refusal list_refusal judged offset offset b)
-  link_between judged offset b = between_link list_refusal (length b) (λ l q d h. between_list l q d) judged offset offset b (omega arith) (omega arith)
+  link_between judged offset b = between_link (length b) (between (length b)) judged offset offset b (omega arith) (omega arith)

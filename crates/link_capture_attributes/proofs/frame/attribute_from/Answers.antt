@@ -16,7 +16,7 @@ returns-then-body-lt-LINK_HEADER_LEN-clause-found c =
     let size = ap length c.frame_body-body.ensures in
     sym (ap (λ t. first_from c.args.position (cond t (list_attributes (link_level b) (c.args.offset + 16 + 16) (drop 16 b)) [])) link
     ∙ ap (λ d. first_from c.args.position (list_attributes (link_level b) (c.args.offset + 16 + 16) d)) (drop_all 16 b (omega (arith, size, c.if-body-lt-LINK_HEADER_LEN.true)))
-    ∙ ap (first_from c.args.position) (no_bytes (link_level b) (c.args.offset + 16 + 16)))
+    ∙ ap (first_from c.args.position) (no_bytes c.lists_unfold_by_attributes.ensures (link_level b) (c.args.offset + 16 + 16)))
 
 pub returns-clause-found : goal.returns-clause-found
 unfolding frame_attributes

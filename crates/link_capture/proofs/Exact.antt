@@ -1,9 +1,8 @@
 -- A message whose text is read as another message isn't readable.
-use Rattle.std.proofs.Common.{◌≡◌, ◌⊎◌, ℕ, List, Bool, true, false, Ok, refl, sym, ap, ◌∙◌, inl, inr}
-use Rattle.std.specs.Prelude.{◌&&◌, bytes_eq, slice_index}
+use Rattle.std.proofs.Common.{◌≡◌, ℕ, List, Bool, true, false, sym, ap, ◌∙◌, inl, inr}
+use Rattle.std.specs.Prelude.{◌&&◌, bytes_eq}
 use Rattle.std.proofs.lemmas.Bool.{and_parts, and_from}
 use Rattle.std.proofs.lemmas.Grind.{not_there}
-use Rattle.link_message_grammar.specs.Body.{link_body}
 use Rattle.link_message.specs.declared.message.LinkMessage.{LinkMessage}
 use Rattle.link_message.specs.LinkMessages.{link_message_text, link_message_fits}
 use Rattle.link_message.specs.contracts.message.LinkMessageEq.TheImpl.Laws.{laws-law}

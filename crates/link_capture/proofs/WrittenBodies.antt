@@ -1,6 +1,6 @@
 -- The core writes the canonical body of a frame that was read, and a frame whose body has a text is read.
-use Rattle.std.proofs.Common.{◌≡◌, ℕ, ltb, eqb, Bool, true, false, cond, List, length, Ok, Option, None, Some, refl, sym, ap, ◌∙◌, inl, inr}
-use Rattle.std.specs.Prelude.{◌⊎◌, ◌≢◌, option_map}
+use Rattle.std.proofs.Common.{◌≡◌, ℕ, ltb, eqb, true, false, cond, List, length, Ok, Option, None, Some, refl, sym, ap, ◌∙◌, inl, inr}
+use Rattle.std.specs.Prelude.{◌≢◌, option_map}
 use Rattle.std.specs.Option.{is_some}
 use Rattle.std.proofs.lemmas.Bool.{cases_Bool, eqb-true, le-leb}
 use Rattle.netlink_packet_core.specs.ControlMessages.{read_done, read_error}

@@ -1,5 +1,5 @@
 -- Messages of captures that are determined by their type and the bytes of their body.
-use Rattle.std.specs.Prelude.{◌≡◌, Bool, true, Some}
+use Rattle.std.specs.Prelude.{◌≡◌, true, Some}
 use Rattle.link_capture.specs.declared.route.RouteLink.{RouteLink}
 use Rattle.link_capture.specs.contracts.route.RouteLinkPartialEq.TheImpl as equality
 use Rattle.link_capture.specs.Routes.{route_entry, reads_route}

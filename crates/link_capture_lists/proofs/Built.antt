@@ -1,6 +1,7 @@
 -- The rows with names are those of the grammar's tables.
 use Rattle.std.proofs.Common.{◌≡◌, ℕ, zero, suc, Bool, true, false, cond, List, [], ◌∷◌, get_or, map, Option, Some, None, refl, sym, ap, ◌∙◌}
 use Rattle.std.proofs.Math.ListN.{get_or-map}
+use Rattle.std.specs.List.{list_all}
 use Rattle.std.specs.Prelude.{◌==◌, not, option_map}
 use Rattle.attribute_tables_grammar.specs.Laws.{RowsAreLookedUp, NamesAreLookedUp}
 use Rattle.attribute_tables_grammar.specs.Lists.{any, Context, list_rule}
@@ -8,7 +9,7 @@ use Rattle.attribute_tables_grammar.specs.LookUps.{line_at, Line, link_info_of, 
 use Rattle.attribute_tables_grammar.specs.Peers.{Peer}
 use Rattle.attribute_tables_grammar.specs.Rules.{shape_rule}
 use Rattle.attribute_tables_grammar.specs.Shapes as shapes
-use Rattle.attribute_tables_grammar.specs.Tables.{info_row as grammar_row, named, Payload, Table as Rows, Table.end, Table.row, row_in_force}
+use Rattle.attribute_tables_grammar.specs.Tables.{info_row as grammar_row, named, Names, Payload, Table as Rows, Table.end, Table.row, row_in_force}
 use Rattle.link_info_grammar.specs.Families.{kinds, port_kinds}
 use Rattle.link_info_grammar.specs.LinkInfo.{info_grammar_under}
 use Rattle.link_interpreter.specs.Measures.{rows_of}
@@ -23,7 +24,8 @@ use Rattle.link_tables.specs.declared.rows.Held.TheVariants as H
 use Rattle.link_tables.specs.declared.table.Table.{Table}
 use Rattle.link_tables.specs.declared.table.TheConstants.{LINK_BRIDGE, LINK_INET6, LINK_OTHER, LINK_UNSPEC}
 use Rattle.link_tables.specs.InForce.{data_under, port_data_under, statistics_under}
-use Rattle.link_tables.specs.Names.{held_by_name}
+use Rattle.link_tables.specs.Names.{held_by_name, names_of}
+use Rattle.link_tables.specs.declared.names.NameRow.{NameRow}
 use Rattle.link_tables.specs.Rows.{form_of, payload_of}
 use Rattle.link_tables.specs.Tables.{all_tables, family_table, held_rule, info_payload, is_link_info, table_of}
 use Rattle.link_capture_lists.proofs.Lookups.{found, has_rows, row_has_rows, rows_have_rows}
@@ -108,15 +110,21 @@ module _ (law : RowsAreLookedUp) (judged : Bool) where
   -- ---- link info
 
   module _ (names : NamesAreLookedUp) where
+    name_is : (rows : List NameRow) (built : Names) → names_of table_of info_payload rows ≡ built → list_all (λ r. has_rows r.2) rows ≡ true →
+        (n : List ℕ) → named p built n ≡ inside_rule judged (inside_of (held_by_name rows n))
+    name_is rows built e h n =
+        names p built n ∙ ap (λ ns. rule_or_raw p (payload_at ns n)) (sym e) ∙ sym (found_name p table_of info_payload rows n)
+        ∙ content_is (held_by_name rows n) (held_all has_rows refl rows n h)
+
     kind_is : (o : Option (List ℕ)) → (row_in_force o (named p kinds)).rule ≡ inside_rule judged (info_inside 2 (data_under o))
     unfolding data_under
     kind_is None = refl
-    kind_is (Some n) = names p kinds n ∙ ap (λ ns. rule_or_raw p (payload_at ns n)) (sym kinds_built) ∙ sym (found_name p table_of info_payload KINDS n) ∙ content_is (held_by_name KINDS n) (held_all has_rows refl KINDS n refl)
+    kind_is (Some n) = name_is KINDS kinds kinds_built refl n
 
     port_is : (o : Option (List ℕ)) → (row_in_force o (named p port_kinds)).rule ≡ inside_rule judged (info_inside 5 (port_data_under o))
     unfolding port_data_under
     port_is None = refl
-    port_is (Some n) = names p port_kinds n ∙ ap (λ ns. rule_or_raw p (payload_at ns n)) (sym port_kinds_built) ∙ sym (found_name p table_of info_payload PORT_KINDS n) ∙ content_is (held_by_name PORT_KINDS n) (held_all has_rows refl PORT_KINDS n refl)
+    port_is (Some n) = name_is PORT_KINDS port_kinds port_kinds_built refl n
 
     statistics_is : (o : Option (List ℕ)) → (row_in_force o (λ n. shape_rule shapes.raw)).rule ≡ inside_rule judged (info_inside 3 (statistics_under o))
     statistics_is None = refl

@@ -1,6 +1,6 @@
 -- Rows in code, and their values.
 use Rattle.std.proofs.Common.{◌≡◌, ℕ, zero, suc, ◌+◌, ◌-◌, ◌<◌, ◌≤◌, Bool, true, false, cond, List, [], ◌∷◌, length, get_or, Bor, Option, Some, None, refl, sym, ap, ◌∙◌, subst, zero-add, arith}
-use Rattle.std.specs.Prelude.{◌==◌, ◌&&◌, nat_lt, not, option_map}
+use Rattle.std.specs.Prelude.{◌==◌, ◌&&◌, nat_lt, not}
 use Rattle.std.specs.List.{list_all}
 use Rattle.std.specs.Str.{IsAscii, IsUtf8}
 use Rattle.std.proofs.lemmas.Bool.{and_parts, cond_both, ltb-true}
@@ -20,8 +20,9 @@ use Rattle.link_tables.specs.declared.rows.Held.TheVariants as H
 use Rattle.link_tables.specs.declared.rows.Shape.TheVariants.{Raw, Text}
 use Rattle.link_tables.specs.declared.table.TheConstants.{LINK_INFO}
 use Rattle.link_tables.specs.declared.kinds.TheConstants.{AMT}
-use Rattle.link_tables.specs.InForce.{data_under, held_in_force, port_data_under, statistics_under}
+use Rattle.link_tables.specs.InForce.{data_under, held_in_force, held_under, port_data_under, statistics_under}
 use Rattle.link_tables.specs.Names.{held_by_name}
+use Rattle.link_tables.specs.declared.names.NameRow.{NameRow}
 use Rattle.link_tables.specs.Rows.{form_of}
 use Rattle.link_tables.specs.declared.table.Table.{Table}
 use Rattle.link_interpreter.specs.Measures.{rows_of}
@@ -29,7 +30,7 @@ use Rattle.link_tables.specs.Tables.{is_link_info, table_of}
 use Rattle.attribute_tables_grammar.specs.Lists.{Context}
 use Rattle.link_capture_lists.specs.declared.tables.Inside.{Inside}
 use Rattle.link_capture_lists.specs.RowRules.{following, grammar_at, peer_of}
-use Rattle.link_capture_lists.specs.ListTables.{IsLower, Listing, NamedRow, data_rows, depth, find, info_inside, inside_depth, inside_of, is_name, list_rest, message_rows, row_values, table_rows}
+use Rattle.link_capture_lists.specs.ListTables.{IsLower, Listing, NamedRow, data_rows, depth, find, info_inside, inside_depth, inside_of, is_name, list_rest, message_rows, table_rows}
 
 -- a row in code, and its value
 abbrev pub Row : Type 0
@@ -37,9 +38,6 @@ Row = ℕ × Bor (List ℕ) × Held
 
 abbrev pub row : Row → NamedRow
 row r = (r.0, r.1.now, r.2)
-
-abbrev pub rows : List Row → List NamedRow
-rows rs = row_values (λ n. n.now) rs
 
 ascii : (n : List ℕ) → is_name n ≡ true → IsAscii n
 ascii [] h = IsAscii-nil
@@ -112,10 +110,6 @@ of_table t k r e =
     let a = and_parts (is_name r.1) _ (found (passes t) k (get_or table_rows t []) r (each_passes t) e) in
     record { name = a.0; lower = lower_by t (inside_of r.2) (and_parts (row_has_rows r) _ a.1).1 }
 
--- the row that is found in code
-pub row_found : (k : ℕ) (o : Option Row) (rs : List Row) (us : List NamedRow) → option_map row o ≡ find k (rows rs) → rows rs ≡ us → find k us ≡ option_map row o
-row_found k o rs us h e = ap (find k) (sym e) ∙ sym h
-
 -- ---- link info
 
 abbrev in_info : Held → Bool
@@ -127,15 +121,10 @@ refused_lower k = λ judged. elim judged as (λ b. 0 < depth b LINK_INFO.0) [ tr
 some_lower : (k : ℕ) (h : Held) → in_info h ≡ true → IsLower LINK_INFO.0 (info_inside k (Some h))
 some_lower k h e = lower_by LINK_INFO.0 (inside_of h) e
 
-data_lower : (k : ℕ) (o : Option (List ℕ)) → IsLower LINK_INFO.0 (info_inside k (data_under o))
-unfolding data_under
-data_lower k None = refused_lower k
-data_lower k (Some n) = some_lower k (held_by_name KINDS n) (held_all in_info refl KINDS n refl)
-
-port_lower : (k : ℕ) (o : Option (List ℕ)) → IsLower LINK_INFO.0 (info_inside k (port_data_under o))
-unfolding port_data_under
-port_lower k None = refused_lower k
-port_lower k (Some n) = some_lower k (held_by_name PORT_KINDS n) (held_all in_info refl PORT_KINDS n refl)
+held_lower : (rows : List NameRow) → list_all (λ r. in_info r.2) rows ≡ true → (k : ℕ) (o : Option (List ℕ)) →
+    IsLower LINK_INFO.0 (info_inside k (held_under rows o))
+held_lower rows h k None = refused_lower k
+held_lower rows h k (Some n) = some_lower k (held_by_name rows n) (held_all in_info refl rows n h)
 
 statistics_lower : (k : ℕ) (o : Option (List ℕ)) → IsLower LINK_INFO.0 (info_inside k (statistics_under o))
 statistics_lower k None = refused_lower k
@@ -143,12 +132,13 @@ statistics_lower k (Some n) = some_lower k (H.Plain Raw) refl
 
 -- for all kinds in force
 pub info_lower : (c : Context) (k : ℕ) → IsLower LINK_INFO.0 (info_inside k (held_in_force c k))
+unfolding data_under port_data_under
 info_lower c zero = some_lower 0 (H.Plain Raw) refl
 info_lower c (suc zero) = some_lower 1 (H.Plain Text) refl
-info_lower c (suc (suc zero)) = data_lower 2 c.kind
+info_lower c (suc (suc zero)) = held_lower KINDS refl 2 c.kind
 info_lower c (suc (suc (suc zero))) = statistics_lower 3 c.kind
 info_lower c (suc (suc (suc (suc zero)))) = some_lower 4 (H.Plain Text) refl
-info_lower c (suc (suc (suc (suc (suc zero))))) = port_lower 5 c.port_kind
+info_lower c (suc (suc (suc (suc (suc zero))))) = held_lower PORT_KINDS refl 5 c.port_kind
 info_lower c (suc (suc (suc (suc (suc (suc k)))))) = some_lower (suc (suc (suc (suc (suc (suc k)))))) (H.Plain Raw) refl
 
 -- ---- lists

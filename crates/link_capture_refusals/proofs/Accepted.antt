@@ -37,10 +37,6 @@ none_before : (o q : Option Found) → is_none o ≡ false → is_none (or_else 
 none_before None q h = absurd cc
 none_before (Some f) q h = refl
 
-none_nothing : (o q : Option Found) → is_none o ≡ true → or_else o q ≡ q
-none_nothing None q h = refl
-none_nothing (Some f) q h = absurd cc
-
 -- ---- measures
 
 measure_of : Rule → List ℕ → Measure

@@ -34,7 +34,7 @@ def attribute(kind, payload):
 
 def record(rng, name):
     """A record, whose padding is zero as a rule."""
-    parts = [bytes(size) if field == PADDING and rng.random() < 0.9 else some_bytes(rng, size) for field, size, *_ in RECORDS[name]]
+    parts = [bytes(size) if style == PADDING and rng.random() < 0.9 else some_bytes(rng, size) for _, size, style, _ in RECORDS[name]]
     return b"".join(parts)
 
 
@@ -50,6 +50,7 @@ def next_hops(rng, table, depth):
 BLOCKS = {
     "list": lambda rng, depth, table: attributes(rng, table, depth),
     "record_and_list": lambda rng, depth, name, table: record(rng, name) + attributes(rng, table, depth),
+    "record_and_records": lambda rng, depth, head, name: record(rng, head) + b"".join(record(rng, name) for _ in range(rng.randrange(3))),
     "records": lambda rng, depth, name: b"".join(record(rng, name) for _ in range(rng.randrange(3))),
     "next_hops": lambda rng, depth, table: next_hops(rng, table, depth),
 }
@@ -117,7 +118,8 @@ def other_message(rng):
     header = record(rng, record_name)
     header = bytes([rng.choice(families or [0, 2, 7, 10])]) + header[1:]
     body = header + (attributes(rng, table) if table in TABLE_ROWS else b"")
-    return message(rng.choice(types), flags, rng.choice([body, body, body, spoil(rng, body), body[:4]]))
+    general = record(rng, rng.choice(list(linkshow.GENERAL.values())))
+    return message(rng.choice(types), flags, rng.choice([body, body, body, spoil(rng, body), general]))
 
 
 def link_list(place, data):

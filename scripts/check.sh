@@ -185,10 +185,10 @@ expect "a next hop in a file of lines" 1 "" "$linkdiff" --without-numbers --only
 +++ weight
 @@ -4,5 +4,5 @@ RTM_NEWROUTE
    RTA_MULTIPATH
-     rtnexthop flags 0x0 hops 0 ifindex 0
+     rtnexthop flags 0x0 hops 0 (weight 1) ifindex 0
        RTA_GATEWAY 192.0.2.2
--    rtnexthop flags 0x0 hops 9 ifindex 0
-+    rtnexthop flags 0x0 hops 1 ifindex 0
+-    rtnexthop flags 0x0 hops 9 (weight 10) ifindex 0
++    rtnexthop flags 0x0 hops 1 (weight 2) ifindex 0
        RTA_GATEWAY 192.0.2.3
 END
 expect "no next hops" 0 "" "$linkdiff" --without numbers,RTA_MULTIPATH routes.lines weight < /dev/null
@@ -254,7 +254,7 @@ expect "JSON without numbers and an attribute" 0 "" "$linkjson" --without-number
 expect "JSON of a type" 0 "no messages" "$linkjson" --only newlink a < /dev/null
 expect "JSON of a link" 0 "no messages" "$linkjson" --link lo b < /dev/null
 expect "JSON of a route" 0 "" "$linkjson" --without-numbers --only newroute routes << 'END'
-{"type": "RTM_NEWROUTE", "flags": {"value": 1541, "flags": ["REQUEST", "ACK", "EXCL", "CREATE"]}, "header": {"struct": "rtmsg", "family": {"value": 2, "text": "AF_INET"}, "dst_len": 24, "src_len": 0, "tos": 0, "table": {"value": 254, "text": "main"}, "protocol": {"value": 3, "text": "boot"}, "scope": {"value": 0, "text": "universe"}, "type": {"value": 1, "text": "unicast"}, "flags": {"value": 0, "flags": []}}, "attributes": [{"name": "RTA_DST", "value": "198.51.100.0"}, {"name": "RTA_MULTIPATH", "nested": [{"struct": "rtnexthop", "fields": {"flags": {"value": 0, "flags": []}, "hops": 0, "ifindex": 0}, "nested": [{"name": "RTA_GATEWAY", "value": "192.0.2.2"}]}, {"struct": "rtnexthop", "fields": {"flags": {"value": 0, "flags": []}, "hops": 9, "ifindex": 0}, "nested": [{"name": "RTA_GATEWAY", "value": "192.0.2.3"}]}]}]}
+{"type": "RTM_NEWROUTE", "flags": {"value": 1541, "flags": ["REQUEST", "ACK", "EXCL", "CREATE"]}, "header": {"struct": "rtmsg", "family": {"value": 2, "text": "AF_INET"}, "dst_len": 24, "src_len": 0, "tos": 0, "table": {"value": 254, "text": "main"}, "protocol": {"value": 3, "text": "boot"}, "scope": {"value": 0, "text": "universe"}, "type": {"value": 1, "text": "unicast"}, "flags": {"value": 0, "flags": []}}, "attributes": [{"name": "RTA_DST", "value": "198.51.100.0"}, {"name": "RTA_MULTIPATH", "nested": [{"struct": "rtnexthop", "fields": {"flags": {"value": 0, "flags": []}, "hops": {"value": 0, "text": "weight 1"}, "ifindex": 0}, "nested": [{"name": "RTA_GATEWAY", "value": "192.0.2.2"}]}, {"struct": "rtnexthop", "fields": {"flags": {"value": 0, "flags": []}, "hops": {"value": 9, "text": "weight 10"}, "ifindex": 0}, "nested": [{"name": "RTA_GATEWAY", "value": "192.0.2.3"}]}]}]}
 END
 succeeds "JSON of headers without names, of linkshow" bash -c '"$0" --json "$2.bin" > json && "$1" "$2.lines" | cmp - json && "$0" "$2.bin" | cmp - "$2.lines"' \
     "$LINKSHOW" "$linkjson" "$top/scripts/tests/header_fields"

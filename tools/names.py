@@ -2,9 +2,9 @@
 """Writes the sets of attributes' names that are needed to read lines.
 
     tools/names.py            writes NAMES, COUNTERS and INDEXES of lines_filter.py, LINK_INDEXES of lines_record.py, and BYTES,
-                              NUMBER_LISTS and OBJECT_FIELDS of lines_json.py; and these, but for NAMES and LINK_INDEXES, in the
-                              crates link_lines_parts and link_lines_json, as code and in specs; and LINK_NAMES,
-                              HARDWARE_ADDRESSES and BRIDGE_IDS of lines_replace.py, also in Go
+                              NUMBER_LISTS, TEXT_FIELDS and OBJECT_FIELDS of lines_json.py; and these, but for NAMES and
+                              LINK_INDEXES, and the words of headers, in the crates link_lines_parts and link_lines_json, as code
+                              and in specs; and LINK_NAMES, HARDWARE_ADDRESSES and BRIDGE_IDS of lines_replace.py, also in Go
     tools/names.py --check    ends with status 1 if one of these differs from the tables
 
 The names, their groups and the formats of values are those of the independent implementation, tools/oracle/rows.tsv and
@@ -52,6 +52,7 @@ SETS = (
     (PACKAGE / "lines_json.py", "BYTES", BYTES),
     (PACKAGE / "lines_json.py", "NUMBER_LISTS", NUMBER_LISTS),
     (PACKAGE / "lines_json.py", "OBJECT_FIELDS", json_of_lines.OBJECT_FIELDS),
+    (PACKAGE / "lines_json.py", "TEXT_FIELDS", json_of_lines.TEXT_FIELDS),
     (PACKAGE / "lines_replace.py", "LINK_NAMES", LINK_NAMES),
     (PACKAGE / "lines_replace.py", "HARDWARE_ADDRESSES", HARDWARE_ADDRESSES),
     (PACKAGE / "lines_replace.py", "BRIDGE_IDS", BRIDGE_IDS),
@@ -60,13 +61,17 @@ SETS = (
     (GO / "names.go", "bridgeIDs", BRIDGE_IDS),
     (PARTS / "src/names.rt", "COUNTERS", linkshow.GROUPS["counters"]),
     (PARTS / "src/names.rt", "INDEXES", linkshow.GROUPS["indexes"]),
+    (PARTS / "src/names.rt", "HEADERS", linkshow.HEADERS),
     (PARTS / "specs/Names.antt", "counter_names", linkshow.GROUPS["counters"]),
     (PARTS / "specs/Names.antt", "index_names", linkshow.GROUPS["indexes"]),
+    (PARTS / "specs/Names.antt", "header_names", linkshow.HEADERS),
     (JSON / "src/names.rt", "BYTES", BYTES),
     (JSON / "src/names.rt", "NUMBER_LISTS", NUMBER_LISTS),
+    (JSON / "src/names.rt", "TEXT_FIELDS", json_of_lines.TEXT_FIELDS),
     (JSON / "src/names.rt", "OBJECT_FIELDS", json_of_lines.OBJECT_FIELDS),
     (JSON / "specs/Names.antt", "bytes_names", BYTES),
     (JSON / "specs/Names.antt", "number_list_names", NUMBER_LISTS),
+    (JSON / "specs/Names.antt", "text_fields", json_of_lines.TEXT_FIELDS),
     (JSON / "specs/Names.antt", "object_fields", json_of_lines.OBJECT_FIELDS),
     (JSON / "src/names.rt", "ends_as_bytes", BYTES),
     (JSON / "specs/Names.antt", "ends_as_bytes", BYTES),
@@ -90,8 +95,10 @@ def go_set(name, members):
 
 def rattle_constant(name, members):
     """The definition of a constant in Rattle, and a pattern of any such definition."""
+    one_line = "pub const %s: &[&[u8]] = &[%s];\n" % (name, ", ".join('b"%s"' % member for member in sorted(members)))
     lines = "".join('    b"%s",\n' % member for member in sorted(members))
-    return "pub const %s: &[&[u8]] = &[\n%s];\n" % (name, lines), r"^pub const %s: &\[&\[u8\]\] = &\[\n.*?\];\n" % name
+    written = one_line if len(one_line) <= 101 else "pub const %s: &[&[u8]] = &[\n%s];\n" % (name, lines)
+    return written, r"^pub const %s: &\[&\[u8\]\] = &\[.*?\];\n" % name
 
 
 def definition_in_specs(name, members):

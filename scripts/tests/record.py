@@ -55,7 +55,7 @@ LINES = (
     ("  br_vlan_msg family 7 (AF_BRIDGE) ifindex 3", '  br_vlan_msg family 7 (AF_BRIDGE) ifindex "va"'),
     ("  ifaddrlblmsg family 10 (AF_INET6) prefixlen 64 flags 0x0 index 3 seq 2",
      '  ifaddrlblmsg family 10 (AF_INET6) prefixlen 64 flags 0x0 index "va" seq 2'),
-    ("    rtnexthop flags 0x0 hops 3 ifindex 2", '    rtnexthop flags 0x0 hops 3 ifindex "br0"'),
+    ("    rtnexthop flags 0x0 hops 3 (weight 4) ifindex 2", '    rtnexthop flags 0x0 hops 3 (weight 4) ifindex "br0"'),
     ("      br_mdb_entry ifindex 3 state 1 (PERMANENT) flags 0x0 vid 2 addr 239.0.0.1",
      '      br_mdb_entry ifindex "va" state 1 (PERMANENT) flags 0x0 vid 2 addr 239.0.0.1'),
     ("  nhmsg family 2 (AF_INET) scope 0 (universe) protocol 3 (boot) flags 0x0",

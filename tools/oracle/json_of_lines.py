@@ -12,7 +12,7 @@ import sys
 HERE = os.path.dirname(os.path.abspath(__file__))
 sys.path.insert(0, HERE)
 from linkshow import HEADERS, RAW_ROWS, ROWS, level_of, line, word_of      # noqa: E402
-from values import RECORDS, quote      # noqa: E402
+from values import PADDING, RECORDS, quote      # noqa: E402
 
 WORDS = re.compile(r'[^\s"(]*"(?:[^"\\]|\\.)*"|\([^)]*\)|\S+')
 ESCAPES = re.compile(r"\\(?:x([0-9a-f]{2})|(.))")
@@ -24,7 +24,9 @@ for _name, _style in [*ROWS.values(), *RAW_ROWS.values()]:
 # those of records, of an ifinfomsg, and of a group_address; and the code
 OBJECT_FIELDS = {"family", "type", "flags", "change", "proto", "code"} | {
     field for name, fields in RECORDS.items() if word_of(name) in HEADERS
-    for field, _, style, type_name in fields if type_name or style.endswith("flags")}
+    for field, _, style, type_name in fields if type_name or style.endswith("flags") or style == "weight"}
+# The fields whose values are texts, also if they have digits alone: addresses, and padding
+TEXT_FIELDS = {"addr"} | {field for fields in RECORDS.values() for field, _, style, _ in fields if style == PADDING}
 SEVERAL_NUMBERS = {"numbers", "port_range"}
 DIGITS = {"bytes", "hardware_address", "bridge_id"}
 
@@ -59,7 +61,7 @@ def take_assignments(words):
     out = {}
     while words:
         name, _, words[0] = words[0].partition("=")
-        out[name] = plain(take_value(words))
+        out[name] = plain(take_value(words, name in TEXT_FIELDS))
     return out
 
 
@@ -68,7 +70,7 @@ def take_fields(words):
     out = {}
     while words:
         name = words.pop(0)
-        value = take_value(words, name == "addr")
+        value = take_value(words, name in TEXT_FIELDS)
         out[name] = value if name in OBJECT_FIELDS else plain(value)
     return out
 

@@ -59,15 +59,26 @@ def word_of(record_name):
     return record_name.partition("/")[0]
 
 
+def record_words(style):
+    """The words at the start of the lines of records that a format has below an attribute's line."""
+    name, *parameters = style.split()
+    return {"records": parameters, "record_and_list": parameters[:1], "record_and_records": parameters}.get(name, [])
+
+
+# The records that any request may be alone, by their size: the family (1 byte, or 4), or the header of links
+GENERAL = {1: "rtgen", 4: "rtgenmsg", 16: "ifinfomsg"}
+
+
 # Groups of what may be left out, each with the names of its attributes
 GROUPS = {"numbers": [], **{name: names.split() for name, names in DATA["group"]}}
 # The names of attributes
 NAMES = {row[0] for rows in (ROWS, RAW_ROWS) for row in rows.values()} - {"[]"}
 # The words at the start of lines of headers
-HEADERS = {"ifinfomsg", "rtgenmsg", "rtnexthop"} | {word_of(body[3]) for body in BODIES if body[3] != PEER} | {
-    style.split()[1] for style in (*(row[1] for row in RAW_ROWS.values()), *CHOICES.values())
-    if style.startswith(("records ", "record_and_list "))}
+HEADERS = {"rtnexthop", *GENERAL.values()} | {word_of(body[3]) for body in BODIES if body[3] != PEER} | {
+    word for style in (*(row[1] for row in RAW_ROWS.values()), *CHOICES.values()) for word in record_words(style)}
 INDEX_FIELDS = "index", "ifindex"
+# The fields that are left out of headers, by the name or group
+HIDDEN_FIELDS = {"indexes": " (?:if)?index [0-9]+", "padding": " padding [0-9a-f]+"}
 NAME_LINES = ("  IFLA_IFNAME %s\n", "  IFLA_ALT_IFNAME %s\n", "    IFLA_ALT_IFNAME %s\n", "  FRA_IIFNAME %s\n",
               "  FRA_OIFNAME %s\n")
 # The attributes with the index of the link that a message of another type than links' is about
@@ -159,6 +170,12 @@ def record_and_list_block(depth, p, record_name, table):
     return record_and_list(depth, record_name, table, p)
 
 
+def record_and_records_block(depth, p, first_name, record_name):
+    size = record_size(first_name)
+    header, below = record(first_name, p[:size], " "), records_block(depth, p[size:], record_name)
+    return None if header is None or below is None else [line(depth, first_name, header), *below]
+
+
 def records_block(depth, p, record_name):
     size = record_size(record_name)
     texts = [record(record_name, p[at:at + size], " ") for at in range(0, len(p), size)]
@@ -182,6 +199,7 @@ def next_hops_block(depth, p, table):
 BLOCKS = {
     "list": list_block,
     "record_and_list": record_and_list_block,
+    "record_and_records": record_and_records_block,
     "records": records_block,
     "next_hops": next_hops_block,
 }
@@ -221,9 +239,10 @@ def lines_of_row(row, kind, flags, body):
     record_name, table = row
     if record_name == PEER:
         return peer_lines(1, body, bool(flags & 1))
-    if kind % 4 == 2 and len(body) == 4 < record_size(record_name):
-        record_name, table = "rtgenmsg", "-"    # the shortest request of all objects
-    return record_and_list(1, record_name, table, body)
+    shown = record_and_list(1, record_name, table, body)
+    if shown is None and kind % 4 == 2 and len(body) in GENERAL:
+        return record_and_list(1, GENERAL[len(body)], "-", body)
+    return shown
 
 
 def other_body_lines(kind, flags, body):
@@ -429,7 +448,7 @@ def is_about_index(level, words, link):
 
 
 def leave_out(texts, omitted):
-    """A message's lines without the attributes of these names, and without indexes in headers if INDEXES is among them."""
+    """A message's lines without the attributes of these names, and without indexes and padding in headers if these are among them."""
     out, hidden = [], None
     for text in texts:
         level, first = level_of(text), text.split()[0]
@@ -437,8 +456,10 @@ def leave_out(texts, omitted):
             continue
         hidden = level if level and first in omitted else None
         if hidden is None:
-            drop_index = level and first in HEADERS and "indexes" in omitted
-            out.append(re.sub(r" (?:if)?index [0-9]+", "", text) if drop_index else text)
+            fields = HIDDEN_FIELDS if level and first in HEADERS else {}
+            for group, field in fields.items():
+                text = re.sub(field, "", text) if group in omitted else text
+            out.append(text)
     return out
 
 

@@ -31,7 +31,7 @@ OPTIONS = [
     (["--keep-going"], {"keep_going": True}),
     (["--offsets"], {"offsets": True}),
     (["--without-numbers"], {"numbers": False}),
-    (["--without", "counters"], {"omitted": linkshow.read_omitted("counters")}),
+    (["--without", "counters,padding"], {"omitted": linkshow.read_omitted("counters,padding")}),
     (["--without", "INDEXES,numbers,ifla_mtu"], {"omitted": linkshow.read_omitted("indexes,numbers,IFLA_MTU")}),
     (["--link", "2"], {"link": "2"}),
     (["--link", "lo"], {"link": "lo"}),

@@ -15,7 +15,7 @@ def fields(column):
 
 
 RECORDS = {name: fields(column) for name, column in DATA["record"]}
-PADDING = "-"       # the name of a field that isn't shown
+PADDING = "padding"     # the format of fields that are shown only if they aren't zero
 ALL_BITS = 0xffffffff
 
 
@@ -99,11 +99,19 @@ def group_address(p):
     return "%s proto %s" % (shown, number("big_endian", "EtherType", p[16:]))
 
 
+def weight(p):
+    """The weight of a next hop, which its field holds as one less."""
+    return "%d (weight %d)" % (p[0], p[0] + 1)
+
+
 FIELD_VALUES = {
+    PADDING: bytes.hex,
     "boolean": on_or_off,
     "group_address": group_address,
+    "ipv6": address,
     "padded_address": padded_address,
     "padded_text": lambda p: quote(p.rstrip(b"\0")),
+    "weight": weight,
 }
 
 
@@ -119,17 +127,15 @@ def record_size(name):
 
 
 def record(name, p, separator):
-    """Each field of a record as its name and value; None if the record has another size, or padding that isn't zero."""
+    """Each field of a record as its name and value, without padding that is zero; None if the record has another size."""
     if len(p) != record_size(name):
         return None
     out, at = [], 0
     for field_name, size, style, type_name in RECORDS[name]:
         part = p[at:at + size]
         at += size
-        if field_name != PADDING:
+        if style != PADDING or any(part):
             out.append(field_name + separator + field_value(style, type_name, part))
-        elif any(part):
-            return None
     return " ".join(out)
 
 

@@ -290,6 +290,7 @@ _GROUPS = {"numbers": frozenset({"numbers"}), "counters": COUNTERS, "padding": f
            "indexes": INDEXES | {"indexes", "IFLA_NET_NS_PID", "IFLA_NET_NS_FD"}}
 # An index, or what lines_record.py shows instead: a name, or a number in order of appearance.
 _INDEX = re.compile(r' (?:if)?index (?:-?[0-9]+|#[0-9]+|"(?:[^"\\]|\\.)*")(?= |$)')
+_PADDING = re.compile(r" padding [0-9a-f]+(?= |$)")
 _NO_STRUCT = {"kind", "code", "request", "rest", "body", "refused:", "padding"}
 
 
@@ -336,8 +337,8 @@ def _is_struct(line: str) -> bool:
 
 
 def without(lines: Iterable[str], names: Set[str]) -> List[str]:
-    """The lines without some attributes and what is nested in them. The names `numbers` and `indexes` also take these out of
-    headers."""
+    """The lines without some attributes and what is nested in them. The names `numbers`, `indexes` and `padding` also take these
+    out of headers."""
     result: List[str] = []
     dropped_level = None
     for line in lines:
@@ -346,15 +347,16 @@ def without(lines: Iterable[str], names: Set[str]) -> List[str]:
             continue
         dropped_level = level if level and _word(line) in names else None
         if dropped_level is None:
-            result.append(_without_numbers(line, level, names))
+            result.append(_without_fields(line, level, names))
     return result
 
 
-def _without_numbers(line: str, level: int, names: Set[str]) -> str:
+def _without_fields(line: str, level: int, names: Set[str]) -> str:
     if "numbers" in names and (level == 0 or _word(line) == "request"):
         return NUMBERS.sub("", line)
-    if "indexes" in names and _is_struct(line):
-        return _INDEX.sub("", line)
+    if _is_struct(line):
+        line = _INDEX.sub("", line) if "indexes" in names else line
+        line = _PADDING.sub("", line) if "padding" in names else line
     return line
 
 

@@ -24,24 +24,28 @@ BYTES = frozenset("""
     IFLA_NETKIT_PEER_INFO IFLA_PERM_ADDRESS IFLA_PHYS_PORT_ID IFLA_PHYS_SWITCH_ID IFLA_PORT_HOST_UUID
     IFLA_PORT_INSTANCE_UUID IFLA_PRIORITY IFLA_PROTINFO IFLA_WIRELESS IOAM6_IPTUNNEL_TRACE LWTUNNEL_IP6_PAD
     LWTUNNEL_IP_OPT_GENEVE_DATA LWTUNNEL_IP_PAD NDA_LLADDR NDTA_PAD NDTPA_PAD NHA_RES_BUCKET_PAD NHA_RES_GROUP_PAD
-    NLMSGERR_ATTR_COOKIE NL_POLICY_TYPE_ATTR_PAD RPL_IPTUNNEL_SRH RTA_MP_ALGO RTA_PAD RTA_PROTOINFO RTA_SESSION
-    SEG6_IPTUNNEL_SRH SEG6_LOCAL_CNT_PAD SEG6_LOCAL_SRH TCA_ACT_COOKIE TCA_ACT_PAD TCA_BPF_OPS TCA_BPF_POLICE TCA_BPF_TAG
-    TCA_FLOWER_KEY_ARP_SHA TCA_FLOWER_KEY_ARP_SHA_MASK TCA_FLOWER_KEY_ARP_THA TCA_FLOWER_KEY_ARP_THA_MASK
-    TCA_FLOWER_KEY_CT_LABELS TCA_FLOWER_KEY_CT_LABELS_MASK TCA_FLOWER_KEY_ENC_OPTS TCA_FLOWER_KEY_ENC_OPTS_MASK
-    TCA_FLOWER_KEY_ETH_DST TCA_FLOWER_KEY_ETH_DST_MASK TCA_FLOWER_KEY_ETH_SRC TCA_FLOWER_KEY_ETH_SRC_MASK
-    TCA_FLOWER_KEY_MPLS_OPTS TCA_GACT_PAD TCA_HTB_PAD TCA_MATCHALL_PAD TCA_MIRRED_PAD TCA_PAD TCA_STATS_APP TCA_STATS_PAD
-    TCA_TBF_PAD TCA_U32_PAD TCA_U32_PCNT TCA_U32_POLICE TCA_U32_SEL TCA_XSTATS VETH_INFO_PEER VNIFILTER_ENTRY_STATS_PAD
-    VXCAN_INFO_PEER padding""".split())
+    NLMSGERR_ATTR_COOKIE NL_POLICY_TYPE_ATTR_PAD RTA_MP_ALGO RTA_PAD RTA_PROTOINFO RTA_SESSION SEG6_LOCAL_CNT_PAD
+    TCA_ACT_COOKIE TCA_ACT_PAD TCA_BPF_OPS TCA_BPF_POLICE TCA_BPF_TAG TCA_FLOWER_KEY_ARP_SHA TCA_FLOWER_KEY_ARP_SHA_MASK
+    TCA_FLOWER_KEY_ARP_THA TCA_FLOWER_KEY_ARP_THA_MASK TCA_FLOWER_KEY_CT_LABELS TCA_FLOWER_KEY_CT_LABELS_MASK
+    TCA_FLOWER_KEY_ENC_OPTS TCA_FLOWER_KEY_ENC_OPTS_MASK TCA_FLOWER_KEY_ETH_DST TCA_FLOWER_KEY_ETH_DST_MASK
+    TCA_FLOWER_KEY_ETH_SRC TCA_FLOWER_KEY_ETH_SRC_MASK TCA_FLOWER_KEY_MPLS_OPTS TCA_GACT_PAD TCA_HTB_PAD TCA_MATCHALL_PAD
+    TCA_MIRRED_PAD TCA_PAD TCA_STATS_APP TCA_STATS_PAD TCA_TBF_PAD TCA_U32_PAD TCA_U32_PCNT TCA_U32_POLICE TCA_XSTATS
+    VETH_INFO_PEER VNIFILTER_ENTRY_STATS_PAD VXCAN_INFO_PEER padding""".split())
 
 # The attributes whose values are any number of numbers.
 NUMBER_LISTS = frozenset("""
     IFLA_CAN_BITRATE_CONST IFLA_CAN_DATA_BITRATE_CONST IFLA_CAN_TERMINATION_CONST IFLA_CAN_XL_DATA_BITRATE_CONST
     TCA_HTB_CTAB TCA_HTB_RTAB TCA_STAB_DATA TCA_TBF_PTAB TCA_TBF_RTAB""".split())
 
+# The fields whose values are texts, also if they have digits alone: addresses, and padding.
+TEXT_FIELDS = frozenset("""
+    addr pad3 padding""".split())
+
 # The fields that are objects in each header: sets of flags, and numbers that may have a name; and the code of an NLMSG_ERROR or
 # NLMSG_DONE.
 OBJECT_FIELDS = frozenset("""
-    action change code eaction family filter_mask flags handle parent proto protocol scope state table type""".split())
+    action change cmpr code eaction family filter_mask flags handle hmask hops mask mode offmask pad parent proto protocol
+    reserved scope state table type val""".split())
 
 _TOKEN = re.compile(r'[^\s"(]*"(?:[^"\\]|\\.)*"|\([^)]*\)|[^\s"]+')
 _NUMBER = re.compile(r"-?[0-9]+")
@@ -116,7 +120,7 @@ def _fields(tokens: _Tokens) -> Json:
     fields = {}
     while tokens.peek():
         name = tokens.take()
-        value = _value(tokens, name == "addr")
+        value = _value(tokens, name in TEXT_FIELDS)
         fields[name] = value if name in OBJECT_FIELDS else _short(value)
     return fields
 
@@ -127,7 +131,7 @@ def _assignments(tokens: _Tokens) -> Json:
     while tokens.peek():
         name, _, word = tokens.take().partition("=")
         names = [tokens.take()] if tokens.peek().startswith("(") else []
-        fields[name] = _short(_value(_Tokens([word, *names])))
+        fields[name] = _short(_value(_Tokens([word, *names]), name in TEXT_FIELDS))
     return fields
 
 

@@ -27,7 +27,7 @@ use Rattle.link_message.specs.LinkMessages.{link_message_text}
 use Rattle.link_message.specs.declared.message.LinkMessage.{LinkMessage}
 use Rattle.link_message.specs.LinkHeader.{LinkHeader}
 use Rattle.link_capture.specs.CaptureFault.{CaptureFault}
-use Rattle.link_capture.specs.Bodies.{body_text, body_text_under, ruled_text}
+use Rattle.link_capture.specs.Bodies.{body_text, body_text_under}
 use Rattle.link_capture.specs.Captures.{first_fault, shifted, texts}
 use Rattle.link_capture.specs.Laws.{CapturesAreCounted, FramesAreJudged}
 use Rattle.link_capture.specs.Routes.{route_entry}

@@ -1,6 +1,7 @@
 -- The first word of a text, as a loop cuts it off.
 use Rattle.std.proofs.Common.{◌≡◌, ◌+◌, ◌≤◌, Bool, ℕ, zero, suc, true, false, not, cond, refl, sym, ap, ◌∙◌, List, [], ◌∷◌, Some, None, take, drop, length, map, arith}
 use Rattle.std.specs.List.{prefix_len}
+use Rattle.link_lines_parts.proofs.FirstParts.{prefix_within}
 use Rattle.link_lines_parts.specs.Lines.{with_byte}
 use Rattle.link_lines_json.specs.Tokens.{begins_in_brackets, ends_word, is_in_brackets, next_region, terms_of, tokens, without_last, without_space, word_size, words_in}
 use Rattle.link_lines_json.specs.Runs.{is_simple}
@@ -55,6 +56,9 @@ simple_part (c ∷ t) =
       | true ↦ (λ e. let p = simple_goes_on c e in simple_step c n t p.0 p.1 (simple_part t))
       | false ↦ (λ e. omega arith)
     ] refl
+
+-- What shows where the first word of a text ends.
+pub ruleset first_word = (prefix_within, word_within, simple_part)
 
 -- ---- words that aren't in brackets
 

@@ -8,7 +8,7 @@ use Rattle.std.proofs.lemmas.List.{drop-drop}
 use Rattle.link_lines_json.specs.Runs.{is_simple}
 use Rattle.link_lines_json.specs.Strings.{escaped}
 use Rattle.link_lines_json.specs.Tokens.{begins_in_brackets, ends_term, terms, terms_of, tokens, word_size}
-use Rattle.link_lines_json.specs.Values.{assignment_json, begins_with_equals_sign, is_in_key, is_number, key, key_size, number_field, number_field_json, value_json, word_json}
+use Rattle.link_lines_json.specs.Values.{assignment_json, begins_with_equals_sign, is_in_key, is_number, is_text_field, key, key_size, number_field, number_field_json, value_json, word_json}
 use Rattle.link_lines_json.specs.declared.tokens.Region.TheVariants.{Word}
 use Rattle.link_lines_json.proofs.FirstTokens.{alone, simple_part, tokens_next}
 use Rattle.link_lines_json.proofs.PlainText.{simple_alone}
@@ -72,13 +72,14 @@ number_alone : (number : List ℕ) → is_number number ≡ true → value_json 
 unfolding value_json word_json
 number_alone number h = grind arith
 
-pub field_json : (name number : List ℕ) → list_all is_simple name ≡ true → is_number number ≡ true → assignment_json (number_field name number) ≡ number_field_json name number
+pub field_json : (name number : List ℕ) → list_all is_simple name ≡ true → is_text_field name ≡ false → is_number number ≡ true → assignment_json (number_field name number) ≡ number_field_json name number
 unfolding assignment_json key
-field_json name number simple h =
+field_json name number simple plain h =
     let word = name ++ 61 ∷ number in
     let front : take (key_size word) word ≡ name = ap (λ k. take k word) (key_size_of name number simple) ∙ take-append_seam name (61 ∷ number) in
     let back : drop (key_size word) word ≡ 61 ∷ number = ap (λ k. drop k word) (key_size_of name number simple) ∙ drop-append_seam name (61 ∷ number) in
-    ap₂ (λ n v. key n ++ value_json false (drop 1 v, None)) front back
+    ap₂ (λ n v. key n ++ value_json (is_text_field n) (drop 1 v, None)) front back
+    ∙ ap (λ b. key name ++ value_json b (number, None)) plain
     ∙ ap₂ (λ n v. ((34 ∷ (n ++ 34 ∷ [])) ++ codes ": ") ++ v) (escaped_alone name simple) (number_alone number h)
     ∙ ap (λ t. 34 ∷ (t ++ number)) (append_assoc name (34 ∷ []) (codes ": "))
     ∙ ap (λ t. 34 ∷ t) (append_assoc name (codes "\": ") number)

@@ -57,14 +57,11 @@ bytes_names =
     codes "NHA_RES_GROUP_PAD" ∷
     codes "NLMSGERR_ATTR_COOKIE" ∷
     codes "NL_POLICY_TYPE_ATTR_PAD" ∷
-    codes "RPL_IPTUNNEL_SRH" ∷
     codes "RTA_MP_ALGO" ∷
     codes "RTA_PAD" ∷
     codes "RTA_PROTOINFO" ∷
     codes "RTA_SESSION" ∷
-    codes "SEG6_IPTUNNEL_SRH" ∷
     codes "SEG6_LOCAL_CNT_PAD" ∷
-    codes "SEG6_LOCAL_SRH" ∷
     codes "TCA_ACT_COOKIE" ∷
     codes "TCA_ACT_PAD" ∷
     codes "TCA_BPF_OPS" ∷
@@ -94,7 +91,6 @@ bytes_names =
     codes "TCA_U32_PAD" ∷
     codes "TCA_U32_PCNT" ∷
     codes "TCA_U32_POLICE" ∷
-    codes "TCA_U32_SEL" ∷
     codes "TCA_XSTATS" ∷
     codes "VETH_INFO_PEER" ∷
     codes "VNIFILTER_ENTRY_STATS_PAD" ∷
@@ -108,7 +104,7 @@ ends_as_bytes before last =
     cond (before == 65) ((last == 67) || ((last == 68) || (last == 71)))
     (cond (before == 67) (last == 69)
     (cond (before == 68) ((last == 50) || ((last == 51) || ((last == 52) || ((last == 53) || (last == 82)))))
-    (cond (before == 69) ((last == 67) || ((last == 76) || ((last == 77) || (last == 82))))
+    (cond (before == 69) ((last == 67) || ((last == 77) || (last == 82)))
     (cond (before == 70) (last == 79)
     (cond (before == 71) (last == 79)
     (cond (before == 72) (last == 65)
@@ -117,7 +113,7 @@ ends_as_bytes before last =
     (cond (before == 78) (last == 84)
     (cond (before == 79) (last == 78)
     (cond (before == 80) ((last == 80) || (last == 83))
-    (cond (before == 82) ((last == 67) || (last == 72))
+    (cond (before == 82) (last == 67)
     (cond (before == 83) ((last == 75) || ((last == 83) || (last == 84)))
     (cond (before == 84) ((last == 65) || ((last == 83) || (last == 89)))
     (cond (before == 110) (last == 103) false)))))))))))))))
@@ -141,31 +137,48 @@ number_list_names =
     codes "TCA_TBF_RTAB" ∷
     []
 
+-- The fields whose values are texts, also if they have digits alone: addresses, and padding.
+unfoldable pub text_fields : List (List ℕ)
+text_fields =
+    codes "addr" ∷
+    codes "pad3" ∷
+    codes "padding" ∷
+    []
+
 -- The fields whose values are objects in each header: sets of flags, and numbers that may have a name; and the code of an
 -- NLMSG_ERROR or NLMSG_DONE.
 unfoldable pub object_fields : List (List ℕ)
 object_fields =
     codes "action" ∷
     codes "change" ∷
+    codes "cmpr" ∷
     codes "code" ∷
     codes "eaction" ∷
     codes "family" ∷
     codes "filter_mask" ∷
     codes "flags" ∷
     codes "handle" ∷
+    codes "hmask" ∷
+    codes "hops" ∷
+    codes "mask" ∷
+    codes "mode" ∷
+    codes "offmask" ∷
+    codes "pad" ∷
     codes "parent" ∷
     codes "proto" ∷
     codes "protocol" ∷
+    codes "reserved" ∷
     codes "scope" ∷
     codes "state" ∷
     codes "table" ∷
     codes "type" ∷
+    codes "val" ∷
     []
 
 -- Whether some of these names have this letter before their last one.
 abbrev pub is_letter_of_object : ℕ → Bool
 is_letter_of_object c =
-    (c == 100) || ((c == 103) || ((c == 108) || ((c == 110) || ((c == 111) || ((c == 112) || ((c == 115) || (c == 116)))))))
+    (c == 97) || ((c == 100) || ((c == 101) || ((c == 103) || ((c == 108) || ((c == 110) || ((c == 111) || ((c == 112) || ((c == 115) || (c == 116)))))))))
 
 -- Whether a name has the letter before its last one that some of these have.
 abbrev pub has_letter_of_object : List ℕ → Bool

@@ -4,7 +4,7 @@ use Rattle.std.specs.Prelude.{List, [], ◌∷◌, ◌++◌, codes, take, drop, 
 use Rattle.std.specs.Fmt.{decimal}
 use Rattle.std.specs.List.{prefix_len, list_all}
 use Rattle.link_lines_parts.specs.Lines.{words_of}
-use Rattle.link_lines_json.specs.Names.{object_fields}
+use Rattle.link_lines_json.specs.Names.{object_fields, text_fields}
 use Rattle.link_lines_parts.specs.Names.{is_among}
 use Rattle.link_lines_json.specs.Strings.{requoted, string}
 use Rattle.link_lines_json.specs.Tokens.{TermText}
@@ -124,9 +124,9 @@ value_json is_bytes term = cond (is_bare term) (word_json is_bytes term.0) (obje
 
 -- ---- fields
 
--- Whether the value of a field of this name is bytes.
-unfoldable pub is_address_field : List ℕ → Bool
-is_address_field name = bytes_eq name (codes "addr")
+-- Whether the value of a field of this name is a text, also if it has digits alone.
+abbrev pub is_text_field : List ℕ → Bool
+is_text_field name = is_among text_fields name
 
 -- Whether the value of a field of this name isn't an object: it has one member alone, and isn't an object in each header.
 abbrev pub is_bare_field : List ℕ → TermText → Bool
@@ -135,8 +135,8 @@ is_bare_field name value = is_bare value && not (is_among object_fields name)
 -- A field with a name and a value.
 unfoldable pub field_json : TermText → TermText → List ℕ
 field_json name value =
-    key name.0 ++ cond (is_bare_field name.0 value) (word_json (is_address_field name.0) value.0)
-    (object_json (is_address_field name.0) value)
+    key name.0 ++ cond (is_bare_field name.0 value) (word_json (is_text_field name.0) value.0)
+    (object_json (is_text_field name.0) value)
 
 -- Fields as headers have them, a name and a value each: `family 0 (AF_UNSPEC) index 2`.
 abbrev pub fields_json : Bool → List TermText → List ℕ
@@ -165,7 +165,8 @@ is_assignment word = nat_lt 0 (key_size word) && begins_with_equals_sign (drop (
 -- A field of a record.
 unfoldable pub assignment_json : TermText → List ℕ
 assignment_json (word, names) =
-    key (take (key_size word) word) ++ value_json false (drop 1 (drop (key_size word) word), names)
+    key (take (key_size word) word) ++
+    value_json (is_text_field (take (key_size word) word)) (drop 1 (drop (key_size word) word), names)
 
 -- Fields as records have them: `rx_packets=1 flags=0x1 (UP)`.
 abbrev pub assignments_json : Bool → List TermText → List ℕ

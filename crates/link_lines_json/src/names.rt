@@ -2,7 +2,7 @@
 
 ghost use Rattle.std.specs.Prelude.{◌≡◌};
 ghost use Rattle.link_lines_json.specs.Names.{bytes_names, ends_as_bytes, has_end_of_bytes, has_letter_of_object};
-ghost use Rattle.link_lines_json.specs.Names.{is_letter_of_object, number_list_names, object_fields};
+ghost use Rattle.link_lines_json.specs.Names.{is_letter_of_object, number_list_names, object_fields, text_fields};
 ghost use Rattle.link_lines_parts.specs.Names.{is_among};
 
 use link_lines_parts::is_among;
@@ -62,14 +62,11 @@ pub const BYTES: &[&[u8]] = &[
     b"NHA_RES_GROUP_PAD",
     b"NLMSGERR_ATTR_COOKIE",
     b"NL_POLICY_TYPE_ATTR_PAD",
-    b"RPL_IPTUNNEL_SRH",
     b"RTA_MP_ALGO",
     b"RTA_PAD",
     b"RTA_PROTOINFO",
     b"RTA_SESSION",
-    b"SEG6_IPTUNNEL_SRH",
     b"SEG6_LOCAL_CNT_PAD",
-    b"SEG6_LOCAL_SRH",
     b"TCA_ACT_COOKIE",
     b"TCA_ACT_PAD",
     b"TCA_BPF_OPS",
@@ -99,7 +96,6 @@ pub const BYTES: &[&[u8]] = &[
     b"TCA_U32_PAD",
     b"TCA_U32_PCNT",
     b"TCA_U32_POLICE",
-    b"TCA_U32_SEL",
     b"TCA_XSTATS",
     b"VETH_INFO_PEER",
     b"VNIFILTER_ENTRY_STATS_PAD",
@@ -120,24 +116,36 @@ pub const NUMBER_LISTS: &[&[u8]] = &[
     b"TCA_TBF_RTAB",
 ];
 
+/// The fields whose values are texts, also if they have digits alone: addresses, and padding.
+pub const TEXT_FIELDS: &[&[u8]] = &[b"addr", b"pad3", b"padding"];
+
 /// The fields whose values are objects in each header: sets of flags, and numbers that may have a
 /// name; and the code of an NLMSG_ERROR or NLMSG_DONE.
 pub const OBJECT_FIELDS: &[&[u8]] = &[
     b"action",
     b"change",
+    b"cmpr",
     b"code",
     b"eaction",
     b"family",
     b"filter_mask",
     b"flags",
     b"handle",
+    b"hmask",
+    b"hops",
+    b"mask",
+    b"mode",
+    b"offmask",
+    b"pad",
     b"parent",
     b"proto",
     b"protocol",
+    b"reserved",
     b"scope",
     b"state",
     b"table",
     b"type",
+    b"val",
 ];
 
 /// Returns whether some name of `BYTES` ends in these two letters (tools/names.py writes them).
@@ -148,7 +156,7 @@ fn ends_as_bytes(before: u8, last: u8) -> bool
         b'A' => matches!(last, b'C' | b'D' | b'G'),
         b'C' => last == b'E',
         b'D' => matches!(last, b'2' | b'3' | b'4' | b'5' | b'R'),
-        b'E' => matches!(last, b'C' | b'L' | b'M' | b'R'),
+        b'E' => matches!(last, b'C' | b'M' | b'R'),
         b'F' => last == b'O',
         b'G' => last == b'O',
         b'H' => last == b'A',
@@ -157,7 +165,7 @@ fn ends_as_bytes(before: u8, last: u8) -> bool
         b'N' => last == b'T',
         b'O' => last == b'N',
         b'P' => matches!(last, b'P' | b'S'),
-        b'R' => matches!(last, b'C' | b'H'),
+        b'R' => last == b'C',
         b'S' => matches!(last, b'K' | b'S' | b'T'),
         b'T' => matches!(last, b'A' | b'S' | b'Y'),
         b'n' => last == b'g',
@@ -182,6 +190,14 @@ pub(crate) fn is_bytes(name: &[u8]) -> bool
     has_end_of_bytes(name) && is_among(BYTES, name)
 }
 
+/// Returns whether the values of fields of this name are texts, also if they have digits alone.
+#[tactic(auto, unfolding(crate::specs::Names::text_fields))]
+pub(crate) fn is_text_field(name: &[u8]) -> bool
+    ensures { result ≡ is_among text_fields name.now }
+{
+    is_among(TEXT_FIELDS, name)
+}
+
 /// Returns whether the values of attributes with this name are lists of numbers.
 #[tactic(auto, unfolding(crate::specs::Names::number_list_names))]
 pub(crate) fn is_number_list(name: &[u8]) -> bool
@@ -197,7 +213,7 @@ fn is_letter_of_object(letter: u8) -> bool
 {
     matches!(
         letter,
-        b'd' | b'g' | b'l' | b'n' | b'o' | b'p' | b's' | b't'
+        b'a' | b'd' | b'e' | b'g' | b'l' | b'n' | b'o' | b'p' | b's' | b't'
     )
 }
 

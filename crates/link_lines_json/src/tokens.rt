@@ -81,7 +81,7 @@ fn size_by_regions(start: Region, text: &[u8]) -> usize
 
 /// Returns the number of bytes up to the end of the word that a text begins in. Most words have
 /// simple bytes alone.
-#[tactic(auto, using(link_lines_parts::proofs::FirstParts::prefix_within, crate::proofs::FirstTokens::word_within, crate::proofs::FirstTokens::simple_part))]
+#[tactic(auto, using(crate::proofs::FirstTokens::first_word))]
 fn word_size(start: Region, text: &[u8]) -> usize
     ensures { result ≡ word_size start text.now }
 {

@@ -6,14 +6,14 @@ ghost use Rattle.link_lines_parts.specs.Lines.{words_of};
 ghost use Rattle.link_lines_json.specs.Tokens.{term_text, terms};
 ghost use Rattle.link_lines_json.specs.Values.{are_numbers, assignment_json, assignments_json, begins_with_equals_sign};
 ghost use Rattle.link_lines_json.specs.Values.{elements_json, field_json, fields_json, first_assignment_json};
-ghost use Rattle.link_lines_json.specs.Values.{flag_json, flags_json, hex_after, hex_digit, hex_value, is_address_field};
+ghost use Rattle.link_lines_json.specs.Values.{flag_json, flags_json, hex_after, hex_digit, hex_value};
 ghost use Rattle.link_lines_json.specs.Values.{is_assignment, is_bare, is_bare_field, is_digit, is_hex, is_in_key, is_natural, is_number};
 ghost use Rattle.link_lines_json.specs.Values.{number_field, number_field_json, object_json};
 ghost use Rattle.link_lines_json.specs.Values.{is_plain_number, is_quoted, key, key_size, members_json, next_key, separator, set_json};
 ghost use Rattle.link_lines_json.specs.Values.{text_json, text_or_word, value_json, with_digit, without_sign, word_json};
 ghost use Rattle.std.specs.List.{list_all, prefix_len};
 
-use crate::names::is_object_field;
+use crate::names::{is_object_field, is_text_field};
 use crate::runs::simple_len;
 use crate::strings::{push_escaped_text, push_requoted, push_string};
 use crate::tokens::{Term, ends_term, split_term};
@@ -306,14 +306,6 @@ pub(crate) fn push_value(
     }
 }
 
-/// Returns whether the value of a field of this name is bytes.
-#[tactic(auto, unfolding(crate::specs::Values::is_address_field))]
-fn is_address_field(name: &[u8]) -> bool
-    ensures { result ≡ is_address_field name.now }
-{
-    name == b"addr".as_slice()
-}
-
 /// Returns whether the value of a field of this name isn't an object.
 fn is_bare_field(name: &[u8], value: Term<'_>) -> bool
     ensures { result ≡ is_bare_field name.now (term_text value.entry) }
@@ -331,7 +323,7 @@ pub(crate) fn push_field(
     ensures { Appends out.old out.new result (field_json (term_text name.entry) (term_text value.entry)) }
 {
     push_key(name.word, out)?;
-    let is_bytes = is_address_field(name.word);
+    let is_bytes = is_text_field(name.word);
     if is_bare_field(name.word, value) {
         push_word(is_bytes, value.word, out)
     } else {
@@ -399,7 +391,7 @@ fn push_assignment(term: Term<'_>, out: &mut Vec<u8>) -> Result<(), AllocError>
         word: without_first(rest),
         names: term.names,
     };
-    push_value(false, value, out)
+    push_value(is_text_field(key), value, out)
 }
 
 /// Returns the first field of a record, if its name has simple bytes alone and its value is a
@@ -417,7 +409,12 @@ fn split_number_field(text: &[u8]) -> Option<(NumberField<'_>, &[u8])>
     let (name, assigned) = words.split_at(simple_len(words));
     let value = without_first(assigned);
     let (number, rest) = value.split_at(simple_len(value));
-    if *space == b' ' && begins_with_equals_sign(assigned) && is_number(number) && ends_term(rest) {
+    if *space == b' '
+        && begins_with_equals_sign(assigned)
+        && !is_text_field(name)
+        && is_number(number)
+        && ends_term(rest)
+    {
         Some((NumberField { name, number }, rest))
     } else {
         None

@@ -127,6 +127,8 @@ header_names =
     codes "ifaddrlblmsg" ∷
     codes "ifaddrmsg" ∷
     codes "ifinfomsg" ∷
+    codes "ipv6_rpl_sr_hdr" ∷
+    codes "ipv6_sr_hdr" ∷
     codes "ndmsg" ∷
     codes "ndtmsg" ∷
     codes "netconfmsg" ∷
@@ -134,11 +136,16 @@ header_names =
     codes "nhmsg" ∷
     codes "prefixmsg" ∷
     codes "router_port" ∷
+    codes "rtgen" ∷
     codes "rtgenmsg" ∷
     codes "rtmsg" ∷
     codes "rtnexthop" ∷
+    codes "seg6_iptunnel_encap" ∷
+    codes "segment" ∷
     codes "tc_mirred" ∷
     codes "tc_prio_qopt" ∷
+    codes "tc_u32_key" ∷
+    codes "tc_u32_sel" ∷
     codes "tcamsg" ∷
     codes "tcmsg" ∷
     codes "timestamp" ∷

@@ -5,8 +5,8 @@ use Rattle.link_lines_parts.specs.declared.remaining.Without.{Without}
 use Rattle.link_lines_parts.specs.Lines.{first_word, level, lines_of, words_of}
 use Rattle.link_lines_parts.specs.Names.{counter_names, header_names, index_names, is_among}
 
--- What is left out: attributes with these names; sequence and port numbers; the attributes that count; and indexes of
--- links with numbers of namespaces.
+-- What is left out: attributes with these names; sequence numbers and netlink port IDs; the attributes that count; and
+-- indexes of links with numbers of namespaces.
 pub record Omitted : Type 0 where
   pub names : List (List ℕ)
   pub numbers : Bool
@@ -61,18 +61,27 @@ is_header line = nat_lt 0 (level line) && is_among header_names (first_word line
 abbrev pub is_index_field : List ℕ → Bool
 is_index_field word = bytes_eq word (codes " index") || bytes_eq word (codes " ifindex")
 
--- The text of words without the fields with an index, name and value; `after_name` says whether the first word is the
--- value of one.
-abbrev pub without_index_fields : Bool → List (List ℕ) → List ℕ
-without_index_fields after_name [] = []
-without_index_fields after_name (word ∷ words) =
-    cond (after_name || is_index_field word) [] word ++ without_index_fields (is_index_field word) words
+-- Whether padding is left out.
+abbrev pub omits_padding : Omitted → Bool
+omits_padding o = is_among o.names (codes "padding")
+
+-- Whether a word, with the space before it, is the name of a field that is left out.
+abbrev pub is_omitted_field : Omitted → List ℕ → Bool
+is_omitted_field o word = (o.indexes && is_index_field word) || (bytes_eq word (codes " padding") && omits_padding o)
+
+-- The text of words without the fields that are left out, name and value; `after_name` says whether the first word is
+-- the value of one.
+abbrev pub without_fields : Omitted → Bool → List (List ℕ) → List ℕ
+without_fields o after_name [] = []
+without_fields o after_name (word ∷ words) =
+    cond (after_name || is_omitted_field o word) [] word ++ without_fields o (is_omitted_field o word) words
 
 -- ---- lines
 
--- A line that isn't left out: of a header perhaps without its index.
+-- A line that isn't left out: of a header perhaps without its index and its padding.
 abbrev pub remaining_line : Omitted → List ℕ → List ℕ
-remaining_line o line = cond (o.indexes && is_header line) (without_index_fields false (words_of line)) line
+remaining_line o line =
+    cond ((o.indexes || omits_padding o) && is_header line) (without_fields o false (words_of line)) line
 
 -- What remains of a line, given the level of the omitted attribute that it belongs to, if there is one.
 abbrev pub line_text : Omitted → Option ℕ → List ℕ → List ℕ

@@ -112,7 +112,7 @@ pub const INDEXES: &[&[u8]] = &[
 ];
 
 /// The first words of headers: of messages, and of records inside attributes.
-const HEADERS: &[&[u8]] = &[
+pub const HEADERS: &[&[u8]] = &[
     b"br_mdb_entry",
     b"br_port_msg",
     b"br_vlan_msg",
@@ -121,6 +121,8 @@ const HEADERS: &[&[u8]] = &[
     b"ifaddrlblmsg",
     b"ifaddrmsg",
     b"ifinfomsg",
+    b"ipv6_rpl_sr_hdr",
+    b"ipv6_sr_hdr",
     b"ndmsg",
     b"ndtmsg",
     b"netconfmsg",
@@ -128,11 +130,16 @@ const HEADERS: &[&[u8]] = &[
     b"nhmsg",
     b"prefixmsg",
     b"router_port",
+    b"rtgen",
     b"rtgenmsg",
     b"rtmsg",
     b"rtnexthop",
+    b"seg6_iptunnel_encap",
+    b"segment",
     b"tc_mirred",
     b"tc_prio_qopt",
+    b"tc_u32_key",
+    b"tc_u32_sel",
     b"tcamsg",
     b"tcmsg",
     b"timestamp",

@@ -3,9 +3,9 @@
 ghost use Rattle.std.specs.Prelude.{◌≡◌, ◌↔◌, ◌++◌, false, IsTrue, OnOk};
 ghost use Rattle.link_lines_values.specs.Appends.{Appends};
 ghost use Rattle.link_lines_parts.specs.Lines.{words_of};
-ghost use Rattle.link_lines_parts.specs.Remaining.{is_header, is_index_field, is_omitted, is_omitted_name, line_text};
-ghost use Rattle.link_lines_parts.specs.Remaining.{nothing_omitted, numbers_omitted, omitted_level, omitted_of, remaining_line};
-ghost use Rattle.link_lines_parts.specs.Remaining.{remaining_lines, without_index_fields};
+ghost use Rattle.link_lines_parts.specs.Remaining.{is_header, is_index_field, is_omitted, is_omitted_field, is_omitted_name};
+ghost use Rattle.link_lines_parts.specs.Remaining.{line_text, nothing_omitted, numbers_omitted, omits_padding, omitted_level};
+ghost use Rattle.link_lines_parts.specs.Remaining.{omitted_of, remaining_line, remaining_lines, without_fields};
 
 use crate::cuts::{line_parts, split_line, split_word};
 use crate::names::{is_among, is_counter, is_header_word, is_index};
@@ -16,10 +16,10 @@ use std::alloc::AllocError;
 #[derive(Clone, Debug, PartialEq, Eq, Drop)]
 pub struct Without {
     /// The kernel's names of attributes that are left out, each with all deeper lines that follow
-    /// it directly.
+    /// it directly. `padding` is one: of its lines, and of the fields of this name in headers.
     pub names: ArrayVec<&'static [u8], 32>,
-    /// Whether sequence and port numbers are left out, which `push_remaining` keeps: they are
-    /// left out where a line is written.
+    /// Whether sequence numbers and netlink port IDs are left out, which `push_remaining` keeps:
+    /// they are left out where a line is written.
     pub numbers: bool,
     /// Whether the attributes that count are left out ([`COUNTERS`](crate::COUNTERS)): statistics,
     /// ages, timers.
@@ -104,14 +104,31 @@ pub fn is_index_field(word: &[u8]) -> bool
     word == b" index".as_slice() || word == b" ifindex".as_slice()
 }
 
-/// Appends a line without the fields with an index.
-fn push_without_index_fields(line: &[u8], out: &mut Vec<u8>) -> Result<(), AllocError>
-    ensures { Appends out.old out.new result (without_index_fields false (words_of line.now)) }
+/// Returns whether padding is left out.
+fn omits_padding(without: &Without) -> bool
+    ensures { result ≡ omits_padding (omitted_of without.now) }
+{
+    is_among(without.names.as_slice(), b"padding")
+}
+
+/// Returns whether a word, with the space before it, is the name of a field that is left out of
+/// headers.
+fn is_omitted_field(without: &Without, word: &[u8]) -> bool
+    ensures { result ≡ is_omitted_field (omitted_of without.now) word.now }
+{
+    (without.indexes && is_index_field(word))
+        || (word == b" padding".as_slice() && omits_padding(without))
+}
+
+/// Appends a line without the fields that are left out of headers.
+fn push_without_fields(without: &Without, line: &[u8], out: &mut Vec<u8>) -> Result<(), AllocError>
+    ensures { Appends out.old out.new result
+        (without_fields (omitted_of without.now) false (words_of line.now)) }
 {
     let mut rest = line;
     let mut after_name = false;
     while let Some((word, following)) = split_word(rest) {
-        let is_name = is_index_field(word);
+        let is_name = is_omitted_field(without, word);
         if !after_name && !is_name {
             out.extend_from_slice(word)?;
         }
@@ -121,12 +138,13 @@ fn push_without_index_fields(line: &[u8], out: &mut Vec<u8>) -> Result<(), Alloc
     Ok(())
 }
 
-/// Appends a line that isn't left out, if it is that of a header perhaps without its index.
+/// Appends a line that isn't left out, if it is that of a header perhaps without its index and its
+/// padding.
 fn push_remaining_line(without: &Without, line: &[u8], out: &mut Vec<u8>) -> Result<(), AllocError>
     ensures { Appends out.old out.new result (remaining_line (omitted_of without.now) line.now) }
 {
-    if without.indexes && is_header(line) {
-        return push_without_index_fields(line, out);
+    if (without.indexes || omits_padding(without)) && is_header(line) {
+        return push_without_fields(without, line, out);
     }
     out.extend_from_slice(line)
 }

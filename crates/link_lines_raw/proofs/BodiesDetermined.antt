@@ -1,8 +1,8 @@
 -- The lines of bodies determine them.
-use Rattle.std.proofs.Common.{◌≡◌, ℕ, zero, suc, ◌%◌, ◌<◌, ◌≤◌, Bool, true, false, cond, List, [], ◌∷◌, ◌++◌, length, take, drop, get_or, Option, Some, None, refl, sym, ap, subst, ◌∙◌, arith, append_assoc}
-use Rattle.std.specs.Prelude.{◌==◌, ◌&&◌, ◌||◌, not, nat_le, nat_lt, bytes_eq, codes}
+use Rattle.std.proofs.Common.{◌≡◌, ℕ, zero, suc, ◌%◌, ◌≤◌, ◌⊎◌, inl, inr, Bool, true, false, cond, List, [], ◌∷◌, ◌++◌, length, take, drop, get_or, Option, Some, None, refl, sym, ap, subst, ◌∙◌, arith, append_assoc}
+use Rattle.std.specs.Prelude.{⊤, ◌==◌, ◌&&◌, ◌||◌, not, nat_le, nat_lt, bytes_eq, codes}
 use Rattle.std.specs.List.{list_all}
-use Rattle.std.proofs.lemmas.Bool.{and_parts, eqb-true, leb-true, lt-ltb, ltb-true, not-true, true≢false}
+use Rattle.std.proofs.lemmas.Bool.{and_parts, cond_both, eqb-true, leb-true, ltb-true, not-true, true≢false}
 use Rattle.std.proofs.lemmas.Option.{same_Some}
 use Rattle.std.proofs.lemmas.Slice.Eq.{bytes_eq-Decides}
 use Rattle.netlink_packet_core_grammar.specs.Bytes.{AreBytes}
@@ -18,8 +18,9 @@ use Rattle.link_lines_raw.specs.declared.bodies.Header.TheVariants as H
 use Rattle.link_lines_raw.specs.declared.bodies.TheConstants.{BODIES}
 use Rattle.link_lines_raw.specs.declared.lists.ListedBy.TheVariants as L
 use Rattle.link_lines_raw.specs.declared.raw_tables.RawTable.{RawTable}
+use Rattle.link_lines_parts.specs.Whole.{is_whole_after}
 use Rattle.link_lines_raw.specs.Attributes.{record_words}
-use Rattle.link_lines_raw.specs.Bodies.{body_lines, first_fitting, fits_body, fits_family, fits_request, header_line, is_general, is_list_of, is_same, list_lines_of, record_and_list, row_lines}
+use Rattle.link_lines_raw.specs.Bodies.{alone_lines, body_lines, first_fitting, fits_body, fits_family, fits_request, general_header, general_lines, header_line, is_list_of, is_same, lines_or, list_lines_of, record_and_list, row_lines}
 use Rattle.link_lines_raw.specs.Coverage.{is_line_determined}
 use Rattle.link_lines_raw.specs.Laws.{BodiesAreDetermined}
 use Rattle.link_lines_raw.specs.Lines.{IsShallow, Line, lines_text}
@@ -27,6 +28,7 @@ use Rattle.link_lines_raw.specs.Rows.{RecordLine}
 use Rattle.link_lines_raw.proofs.ListLines.{listed_are_lines, words_are_line, words_end, words_start}
 use Rattle.link_lines_raw.proofs.ListsDetermined.{shorter_determined}
 use Rattle.link_lines_raw.proofs.Payloads.{words_determined}
+use Rattle.link_lines_raw.proofs.Unfolding.{nothing_listed}
 use Rattle.link_lines_raw.proofs.Spans.{AreDeep, AreLines, first_text, line_parts, listed_deep, texts_span}
 use Rattle.link_lines_raw.proofs.Words.{cut_word, message_label, space_ends}
 
@@ -35,37 +37,6 @@ ends_joined [] b h k = k
 ends_joined (c ∷ a) b h k = h
 
 -- ---- headers, by computation
-
--- Whether the line of a header determines its record, has a word other than `body`, and other than `rtgenmsg` if its
--- record is longer, and has a first byte.
-abbrev is_header_determined : RecordLine → Bool
-is_header_determined line =
-    is_line_determined line && (not (bytes_eq line.0 (codes "body")) && ((not (nat_lt 4 (total_size line.1)) || not (bytes_eq line.0 (header_line H.Rtgenmsg).0)) && nat_le 1 (total_size line.1)))
-
-headers_determined : (h : Header) → is_header_determined (header_line h) ≡ true
-unfolding header_line layout_fields number_texts
-headers_determined H.Timestamp = refl
-headers_determined h = refl
-
-record HeaderFacts (line : RecordLine) : Type 0 where
-  determined : is_line_determined line ≡ true
-  not_body : line.0 ≡ codes "body" → ⊥
-  not_general : 4 < total_size line.1 → line.0 ≡ (header_line H.Rtgenmsg).0 → ⊥
-  size : 1 ≤ total_size line.1
-
-differ : (a b : List ℕ) → not (bytes_eq a b) ≡ true → a ≡ b → ⊥
-differ a b h e = true≢false (sym ((bytes_eq-Decides a b).1 e) ∙ not-true (bytes_eq a b) h)
-
-longer_differs : (n : ℕ) (a b : List ℕ) → (not (nat_lt 4 n) || not (bytes_eq a b)) ≡ true → 4 < n → a ≡ b → ⊥
-longer_differs n a b h l = differ a b (ap (λ t. not t || not (bytes_eq a b)) (sym (lt-ltb 4 n l)) ∙ h)
-
-header_facts : (h : Header) → HeaderFacts (header_line h)
-header_facts h =
-    let line = header_line h in
-    let a = and_parts (is_line_determined line) _ (headers_determined h) in
-    let b = and_parts (not (bytes_eq line.0 (codes "body"))) _ a.1 in
-    let c = and_parts (not (nat_lt 4 (total_size line.1)) || not (bytes_eq line.0 (header_line H.Rtgenmsg).0)) _ b.1 in
-    record { determined = a.0; not_body = differ line.0 (codes "body") b.0; not_general = longer_differs (total_size line.1) line.0 (header_line H.Rtgenmsg).0 c.0; size = leb-true 1 (total_size line.1) c.1 }
 
 -- The index of a header, by which two are compared.
 abbrev header_index : Header → ℕ
@@ -82,15 +53,17 @@ header_index H.Ndtmsg = 9
 header_index H.Ifaddrlblmsg = 10
 header_index H.Netconfmsg = 11
 header_index H.BrPortMsg = 12
-header_index H.Rtgenmsg = 13
-header_index H.IfStatsMsg = 14
-header_index H.Nhmsg = 15
-header_index H.BrVlanMsg = 16
-header_index H.TunnelMsg = 17
+header_index H.Rtgen = 13
+header_index H.Rtgenmsg = 14
+header_index H.Ifinfomsg = 15
+header_index H.IfStatsMsg = 16
+header_index H.Nhmsg = 17
+header_index H.BrVlanMsg = 18
+header_index H.TunnelMsg = 19
 
 abbrev header_at : ℕ → Header
 header_at n =
-    get_or (H.Timestamp ∷ H.Ifaddrmsg ∷ H.Rtmsg ∷ H.Ndmsg ∷ H.FibRuleHdr ∷ H.Tcmsg ∷ H.TcmsgFilter ∷ H.Tcamsg ∷ H.Prefixmsg ∷ H.Ndtmsg ∷ H.Ifaddrlblmsg ∷ H.Netconfmsg ∷ H.BrPortMsg ∷ H.Rtgenmsg ∷ H.IfStatsMsg ∷ H.Nhmsg ∷ H.BrVlanMsg ∷ H.TunnelMsg ∷ []) n H.Timestamp
+    get_or (H.Timestamp ∷ H.Ifaddrmsg ∷ H.Rtmsg ∷ H.Ndmsg ∷ H.FibRuleHdr ∷ H.Tcmsg ∷ H.TcmsgFilter ∷ H.Tcamsg ∷ H.Prefixmsg ∷ H.Ndtmsg ∷ H.Ifaddrlblmsg ∷ H.Netconfmsg ∷ H.BrPortMsg ∷ H.Rtgen ∷ H.Rtgenmsg ∷ H.Ifinfomsg ∷ H.IfStatsMsg ∷ H.Nhmsg ∷ H.BrVlanMsg ∷ H.TunnelMsg ∷ []) n H.Timestamp
 
 header_again : (h : Header) → header_at (header_index h) ≡ h
 header_again H.Timestamp = refl
@@ -98,6 +71,58 @@ header_again h = refl
 
 same_header : (g h : Header) → (header_index g == header_index h) ≡ true → g ≡ h
 same_header g h e = sym (header_again g) ∙ ap header_at (eqb-true (header_index g) (header_index h) e) ∙ header_again h
+
+-- Whether a header is this one, or its line has another word.
+abbrev is_or_differs : Header → Header → Bool
+is_or_differs g h = (header_index h == header_index g) || not (bytes_eq (header_line h).0 (header_line g).0)
+
+-- Whether the line of a header determines its record, has a word other than `body`, and other than those of records that any
+-- request may be, unless it is one of these, and has a first byte.
+abbrev is_header_determined : Header → Bool
+is_header_determined h =
+    is_line_determined (header_line h) && (not (bytes_eq (header_line h).0 (codes "body")) && (nat_le 1 (total_size (header_line h).1)
+    && (is_or_differs H.Rtgen h && (is_or_differs H.Rtgenmsg h && is_or_differs H.Ifinfomsg h))))
+
+headers_determined : (h : Header) → is_header_determined h ≡ true
+unfolding header_line layout_fields number_texts
+headers_determined H.Timestamp = refl
+headers_determined h = refl
+
+-- A header is that of a record that any request may be.
+abbrev IsGeneral : Header → Type 0
+IsGeneral H.Rtgen = ⊤
+IsGeneral H.Rtgenmsg = ⊤
+IsGeneral H.Ifinfomsg = ⊤
+IsGeneral h = ⊥
+
+differ : (a b : List ℕ) → not (bytes_eq a b) ≡ true → a ≡ b → ⊥
+differ a b h e = true≢false (sym ((bytes_eq-Decides a b).1 e) ∙ not-true (bytes_eq a b) h)
+
+same_by_word : (g h : Header) (b : Bool) → (header_index h == header_index g) ≡ b → (b || not (bytes_eq (header_line h).0 (header_line g).0)) ≡ true → (header_line h).0 ≡ (header_line g).0 → h ≡ g
+same_by_word g h true i d e = same_header h g i
+same_by_word g h false i d e = absurd (differ (header_line h).0 (header_line g).0 d e)
+
+record HeaderFacts (h : Header) : Type 0 where
+  determined : is_line_determined (header_line h) ≡ true
+  not_body : (header_line h).0 ≡ codes "body" → ⊥
+  size : 1 ≤ total_size (header_line h).1
+  general : (g : Header) → IsGeneral g → (header_line h).0 ≡ (header_line g).0 → h ≡ g
+
+apart_from_general : (h g : Header) → is_or_differs H.Rtgen h ≡ true → is_or_differs H.Rtgenmsg h ≡ true → is_or_differs H.Ifinfomsg h ≡ true → IsGeneral g → (header_line h).0 ≡ (header_line g).0 → h ≡ g
+apart_from_general h H.Rtgen i j k general e = same_by_word H.Rtgen h _ refl i e
+apart_from_general h H.Rtgenmsg i j k general e = same_by_word H.Rtgenmsg h _ refl j e
+apart_from_general h H.Ifinfomsg i j k general e = same_by_word H.Ifinfomsg h _ refl k e
+apart_from_general h g i j k general e = absurd general
+
+header_facts : (h : Header) → HeaderFacts h
+header_facts h =
+    let line = header_line h in
+    let a = and_parts (is_line_determined line) _ (headers_determined h) in
+    let b = and_parts (not (bytes_eq line.0 (codes "body"))) _ a.1 in
+    let c = and_parts (nat_le 1 (total_size line.1)) _ b.1 in
+    let d = and_parts (is_or_differs H.Rtgen h) _ c.1 in
+    let e = and_parts (is_or_differs H.Rtgenmsg h) _ d.1 in
+    record { determined = a.0; not_body = differ line.0 (codes "body") b.0; size = leb-true 1 (total_size line.1) c.0; general = λ g. apart_from_general h g d.0 e.0 e.1 }
 
 -- ---- rows that fit one message have one header, by computation
 
@@ -247,26 +272,9 @@ bodies_same line table p q a d x y w v =
 
 -- ---- bodies
 
--- The lines of a body by its row.
-abbrev by_row : Bool → BodyRow → List ℕ → Option (List Line)
-by_row g x p = cond g (record_and_list (header_line H.Rtgenmsg) None p) (record_and_list (header_line x.4) x.5 p)
-
 -- The first words of two lines differ if the first words of records do.
 words_differ : (x y : RecordLine) (p q : List ℕ) → is_line_determined x ≡ true → is_line_determined y ≡ true → record_words x p ≡ record_words y q → x.0 ≡ y.0
 words_differ x y p q h i e = (cut_word x.0 y.0 (fields_text 32 false x.1 p) (fields_text 32 false y.1 q) (words_start x p h).0 (words_start y q i).0 (words_end x p) (words_end y q) e).0
-
-general_size : (t : ℕ) (line : RecordLine) (p : List ℕ) → is_general t line p ≡ true → 4 < total_size line.1
-general_size t line p h =
-    let a = and_parts (t % 4 == 2) _ h in
-    let b = and_parts (length p == 4) _ a.1 in
-    ltb-true 4 (total_size line.1) b.1
-
-general_differs : (t : ℕ) (x y : BodyRow) (p q : List ℕ) (a : List Line) → x.4 ≡ y.4 → is_general t (header_line x.4) p ≡ true → Whole (header_line H.Rtgenmsg) None p a → Whole (header_line y.4) y.5 q a → ⊥
-general_differs t x y p q a same g w v =
-    let f = header_facts y.4 in
-    f.not_general (subst (λ h. 4 < total_size (header_line h).1) same (general_size t (header_line x.4) p g))
-    (words_differ (header_line y.4) (header_line H.Rtgenmsg) (take (total_size (header_line y.4).1) q) (take (total_size (header_line H.Rtgenmsg).1) p) f.determined (header_facts H.Rtgenmsg).determined
-    (sym (words_of (header_line y.4) y.5 q a v) ∙ words_of (header_line H.Rtgenmsg) None p a w))
 
 plain_same : (t : ℕ) (r : Bool) (x y : BodyRow) (p q : List ℕ) (a : List Line) → AreBytes p → AreBytes q → first_fitting BODIES.now t r p ≡ Some x → first_fitting BODIES.now t r q ≡ Some y → Whole (header_line x.4) x.5 p a → Whole (header_line y.4) y.5 q a → p ≡ q
 plain_same t r x y p q a b c h i w v =
@@ -277,22 +285,83 @@ plain_same t r x y p q a b c h i w v =
     let row : x ≡ y = same_Some x y (sym h ∙ first_same BODIES.now t r (total_size line.1) p q f.size w.size own.size start ∙ i) in
     bodies_same line x.5 p q a f.determined b c w (subst (λ z. Whole line z q a) (ap (λ z. z.5) (sym row)) own)
 
-same_by : (t : ℕ) (r : Bool) (x y : BodyRow) (p q : List ℕ) (a : List Line) (g k : Bool) → AreBytes p → AreBytes q → first_fitting BODIES.now t r p ≡ Some x → first_fitting BODIES.now t r q ≡ Some y →
-    is_general t (header_line x.4) p ≡ g → is_general t (header_line y.4) q ≡ k → by_row g x p ≡ Some a → by_row k y q ≡ Some a → p ≡ q
-same_by t r x y p q a true true b c h i m n d e = bodies_same (header_line H.Rtgenmsg) None p q a (header_facts H.Rtgenmsg).determined b c (whole (header_line H.Rtgenmsg) None p a d) (whole (header_line H.Rtgenmsg) None q a e)
-same_by t r x y p q a true false b c h i m n d e = absurd (general_differs t x y p q a (headers_same t r p q x y h i) m (whole (header_line H.Rtgenmsg) None p a d) (whole (header_line y.4) y.5 q a e))
-same_by t r x y p q a false true b c h i m n d e = absurd (general_differs t y x q p a (sym (headers_same t r p q x y h i)) n (whole (header_line H.Rtgenmsg) None q a e) (whole (header_line x.4) x.5 p a d))
-same_by t r x y p q a false false b c h i m n d e = plain_same t r x y p q a b c h i (whole (header_line x.4) x.5 p a d) (whole (header_line y.4) y.5 q a e)
+-- No bytes are a whole list of any table, without lines.
+nothing_after : (table : Option RawTable) (p : List ℕ) → (length p == 0) ≡ true → (is_list_of table p ≡ true) × (list_lines_of table p ≡ [])
+unfolding is_whole_after
+nothing_after None p h = (h, refl)
+nothing_after (Some t) [] h = (refl, nothing_listed 1 (L.Attributes t []))
+nothing_after (Some t) (x ∷ p) h = absurd (let e = eqb-true (length (x ∷ p)) 0 h in omega (arith, e))
+
+-- A record alone is one with a list of any table after it.
+with_table : (line : RecordLine) (table : Option RawTable) (p : List ℕ) (a : List Line) → Whole line None p a → Whole line table p a
+with_table line table p a w =
+    let after = nothing_after table (drop (total_size line.1) p) w.list in
+    record { size = w.size; is = w.is; list = after.0; lines = w.lines ∙ ap (λ ls. (1, record_words line (take (total_size line.1) p)) ∷ ls) (sym after.1) }
+
+-- Lines are those of a record that any request may be.
+record IsAlone (p : List ℕ) (a : List Line) : Type 0 where
+  header : Header
+  general : IsGeneral header
+  whole : Whole (header_line header) None p a
+
+alone_by : (h : Header) (p : List ℕ) (a : List Line) → IsGeneral h → record_and_list (header_line h) None p ≡ Some a → IsAlone p a
+alone_by h p a g e = record { header = h; general = g; whole = whole (header_line h) None p a e }
+
+alone_of : (n : ℕ) (p : List ℕ) (a : List Line) → alone_lines (general_header n) p ≡ Some a → IsAlone p a
+alone_of n p a =
+    cond_both (n == 1) (Some H.Rtgen) _ (λ o. alone_lines o p ≡ Some a → IsAlone p a) (λ e. alone_by H.Rtgen p a (record {}))
+    (λ e. cond_both (n == 4) (Some H.Rtgenmsg) _ (λ o. alone_lines o p ≡ Some a → IsAlone p a) (λ f. alone_by H.Rtgenmsg p a (record {}))
+    (λ f. cond_both (n == 16) (Some H.Ifinfomsg) None (λ o. alone_lines o p ≡ Some a → IsAlone p a) (λ g. alone_by H.Ifinfomsg p a (record {})) (λ g h. absurd cc)))
+
+alone : (t : ℕ) (p : List ℕ) (a : List Line) → general_lines t p ≡ Some a → IsAlone p a
+alone t p a =
+    cond_both (t % 4 == 2) (alone_lines (general_header (length p)) p) None (λ o. o ≡ Some a → IsAlone p a) (λ e. alone_of (length p) p a) (λ e h. absurd cc)
+
+-- The lines of a body are those by its row, or those of a record that any request may be.
+abbrev AreFound : BodyRow → List ℕ → List Line → Type 0
+AreFound x p a = Whole (header_line x.4) x.5 p a ⊎ IsAlone p a
+
+found_by : (x : BodyRow) (t : ℕ) (p : List ℕ) (a : List Line) (o : Option (List Line)) → record_and_list (header_line x.4) x.5 p ≡ o → lines_or o (general_lines t p) ≡ Some a → AreFound x p a
+found_by x t p a (Some b) h e = inl (whole (header_line x.4) x.5 p a (h ∙ e))
+found_by x t p a None h e = inr (alone t p a e)
+
+-- A record that any request may be has the lines of no other body.
+alone_same : (h : Header) (table : Option RawTable) (p q : List ℕ) (a : List Line) → AreBytes p → AreBytes q → IsAlone p a → Whole (header_line h) table q a → p ≡ q
+alone_same h table p q a b c k v =
+    let g = k.header in
+    let words = sym (words_of (header_line h) table q a v) ∙ words_of (header_line g) None p a k.whole in
+    let word = words_differ (header_line h) (header_line g) (take (total_size (header_line h).1) q) (take (total_size (header_line g).1) p) (header_facts h).determined (header_facts g).determined words in
+    let same : h ≡ g = (header_facts h).general g k.general word in
+    bodies_same (header_line g) table p q a (header_facts g).determined b c (with_table (header_line g) table p a k.whole) (subst (λ z. Whole (header_line z) table q a) same v)
+
+same_by : (t : ℕ) (r : Bool) (x y : BodyRow) (p q : List ℕ) (a : List Line) → AreBytes p → AreBytes q → first_fitting BODIES.now t r p ≡ Some x → first_fitting BODIES.now t r q ≡ Some y → AreFound x p a → AreFound y q a → p ≡ q
+same_by t r x y p q a b c h i (inl w) (inl v) = plain_same t r x y p q a b c h i w v
+same_by t r x y p q a b c h i (inl w) (inr k) = sym (alone_same x.4 x.5 q p a c b k w)
+same_by t r x y p q a b c h i (inr k) (inl v) = alone_same y.4 y.5 p q a b c k v
+same_by t r x y p q a b c h i (inr k) (inr l) = alone_same l.header None p q a b c k l.whole
 
 rows_by : (t : ℕ) (r : Bool) (p q : List ℕ) (a : List Line) (o w : Option BodyRow) → AreBytes p → AreBytes q → first_fitting BODIES.now t r p ≡ o → first_fitting BODIES.now t r q ≡ w → row_lines o t p ≡ Some a → row_lines w t q ≡ Some a → p ≡ q
 rows_by t r p q a None w b c h i d e = absurd cc
 rows_by t r p q a (Some x) None b c h i d e = absurd cc
-rows_by t r p q a (Some x) (Some y) b c h i d e = same_by t r x y p q a (is_general t (header_line x.4) p) (is_general t (header_line y.4) q) b c h i refl refl d e
+rows_by t r p q a (Some x) (Some y) b c h i d e =
+    same_by t r x y p q a b c h i (found_by x t p a (record_and_list (header_line x.4) x.5 p) refl d) (found_by y t q a (record_and_list (header_line y.4) y.5 q) refl e)
 
 -- Bodies with equal lines are equal.
 bodies_with_lines : (t : ℕ) (r : Bool) (p q : List ℕ) (a : List Line) → AreBytes p → AreBytes q → body_lines t r p ≡ Some a → body_lines t r q ≡ Some a → p ≡ q
 unfolding body_lines
 bodies_with_lines t r p q a b c d e = rows_by t r p q a (first_fitting BODIES.now t r p) (first_fitting BODIES.now t r q) b c refl refl d e
+
+either_holds : (P : Option (List Line) → Type 0) (a b : Option (List Line)) → P a → P b → P (lines_or a b)
+either_holds P None b h k = k
+either_holds P (Some a) b h k = h
+
+-- What holds for the lines of records with attributes after them, and for none, holds for the lines of a body.
+pub row_holds : (P : Option (List Line) → Type 0) (t : ℕ) (p : List ℕ) → ((h : Header) (table : Option RawTable) → P (record_and_list (header_line h) table p)) → P None → (o : Option BodyRow) → P (row_lines o t p)
+row_holds P t p each none None = none
+row_holds P t p each none (Some x) =
+    let alone_holds : (o : Option Header) → P (alone_lines o p) = λ o. elim o as (λ o. P (alone_lines o p)) [ None ↦ none | Some h ↦ each h None ] in
+    let general : P (general_lines t p) = cond_both (t % 4 == 2) (alone_lines (general_header (length p)) p) None P (λ e. alone_holds (general_header (length p))) (λ e. none) in
+    either_holds P (record_and_list (header_line x.4) x.5 p) (general_lines t p) (each x.4 x.5) general
 
 -- ---- the text of a body's lines
 
@@ -318,17 +387,10 @@ header_lines h table p a w =
     let n = total_size (header_line h).1 in
     record { header = h; start = take n p; more = list_lines_of table (drop n p); is = w.lines; deep = list_deep table (drop n p); lines = list_lines table (drop n p) }
 
-lines_by : (x : BodyRow) (p : List ℕ) (a : List Line) (g : Bool) → by_row g x p ≡ Some a → BodyLines a
-lines_by x p a true d = header_lines H.Rtgenmsg None p a (whole (header_line H.Rtgenmsg) None p a d)
-lines_by x p a false d = header_lines x.4 x.5 p a (whole (header_line x.4) x.5 p a d)
-
-row_body_lines : (t : ℕ) (p : List ℕ) (a : List Line) (o : Option BodyRow) → row_lines o t p ≡ Some a → BodyLines a
-row_body_lines t p a None d = absurd cc
-row_body_lines t p a (Some x) d = lines_by x p a (is_general t (header_line x.4) p) d
-
 lines_of_body : (t : ℕ) (r : Bool) (p : List ℕ) (a : List Line) → body_lines t r p ≡ Some a → BodyLines a
 unfolding body_lines
-lines_of_body t r p a d = row_body_lines t p a (first_fitting BODIES.now t r p) d
+lines_of_body t r p a =
+    row_holds (λ o. o ≡ Some a → BodyLines a) t p (λ h table d. header_lines h table p a (whole (header_line h) table p a d)) (λ e. absurd cc) (first_fitting BODIES.now t r p)
 
 body_deep : (a : List Line) → BodyLines a → AreDeep 1 a
 body_deep a b = subst (AreDeep 1) (sym b.is) (omega arith, b.deep)

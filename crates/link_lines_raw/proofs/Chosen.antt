@@ -1,6 +1,6 @@
 -- What another attribute of a list chooses, attribute by attribute.
-use Rattle.std.proofs.Common.{◌≡◌, ℕ, zero, suc, ◌-◌, ◌%◌, ◌≤◌, Bool, true, false, cond, List, [], ◌∷◌, length, drop, Option, Some, None, refl, sym, ap, ◌∙◌, arith}
-use Rattle.std.specs.Prelude.{◌==◌, ◌&&◌, not, bytes_eq, option_map}
+use Rattle.std.proofs.Common.{◌≡◌, ℕ, zero, suc, ◌-◌, ◌≤◌, Bool, true, false, cond, List, [], ◌∷◌, drop, Option, Some, None, refl, sym, ap, ◌∙◌, arith}
+use Rattle.std.specs.Prelude.{bytes_eq}
 use Rattle.std.specs.List.{list_all}
 use Rattle.std.proofs.lemmas.Bool.{and_parts}
 use Rattle.std.proofs.lemmas.Option.{same_Some}
@@ -9,7 +9,7 @@ use Rattle.netlink_packet_core_grammar.proofs.Attributes.{sized}
 use Rattle.link_lines_raw.specs.declared.rows.Choice.{Choice}
 use Rattle.link_lines_raw.specs.declared.rows.Choice.TheVariants as C
 use Rattle.link_lines_raw.specs.declared.rows.RawBy.TheVariants as R
-use Rattle.link_lines_raw.specs.Attributes.{has_byte_order_bit, padded_length}
+use Rattle.link_lines_raw.specs.Attributes.{padded_length}
 use Rattle.link_lines_raw.specs.Choices.{ChoiceRow, choices_of, chosen_for, chosen_in, is_of_kind, payload_after, payload_or, raw_or, resolved}
 use Rattle.link_lines_raw.specs.Coverage.{in_each_choice}
 use Rattle.link_lines_raw.specs.Rows.{Raw}
@@ -97,5 +97,6 @@ resolved_holds f (R.Chosen choice kind) list h k = chosen_or_holds f (R.Chosen c
 resolved_holds f (R.Value shown) list h k = k
 resolved_holds f (R.List table) list h k = k
 resolved_holds f (R.Head line table) list h k = k
+resolved_holds f (R.HeadAndRecords head line) list h k = k
 resolved_holds f (R.Hops table) list h k = k
 resolved_holds f (R.Records line) list h k = k

@@ -17,7 +17,7 @@ use Rattle.link_lines_raw.specs.Attributes.{after_name, has_nested_bit, is_shown
 use Rattle.link_lines_raw.specs.Choices.{resolved}
 use Rattle.link_lines_raw.specs.Coverage.{determines_raw, is_line_determined, is_line_word}
 use Rattle.link_lines_raw.specs.Lines.{Line}
-use Rattle.link_lines_raw.specs.Lists.{Listed, first_part, head_line, head_of, inside_lines, lines_inside, lines_within, listed_in, listed_lines, named_head, named_list, next_lines, padding_text, padding_words, part_head, part_list, part_padding, part_text, shown_head, shown_list}
+use Rattle.link_lines_raw.specs.Lists.{Listed, first_part, head_line, head_of, inside_lines, lines_inside, lines_within, listed_in, listed_lines, named_head, named_list, next_lines, padding_words, part_head, part_list, part_padding, part_text, shown_head, shown_list}
 use Rattle.link_lines_raw.specs.Names.{Named}
 use Rattle.link_lines_raw.specs.Rows.{Raw, RecordLine}
 use Rattle.link_lines_raw.proofs.Payloads.{line_facts, name_line}
@@ -83,6 +83,7 @@ listed_determined (R.Value shown) p h = record {}
 listed_determined (R.List table) p h = record {}
 listed_determined (R.Chosen choice kind) p h = record {}
 listed_determined (R.Head line table) p h = record {}
+listed_determined (R.HeadAndRecords head line) p h = (and_parts (is_line_determined line) _ (and_parts (is_line_determined head) _ h).1).0
 listed_determined (R.Hops table) p h = record {}
 listed_determined (R.Records line) p h = (and_parts (is_line_determined line) _ h).0
 
@@ -107,6 +108,9 @@ head_line_of (R.Value shown) p h = record {}
 head_line_of (R.List table) p h = record {}
 head_line_of (R.Chosen choice kind) p h = record {}
 head_line_of (R.Head line table) p h = (words_are_line line (take (total_size line.1) p) h, (words_start line (take (total_size line.1) p) h).1)
+head_line_of (R.HeadAndRecords head line) p h =
+    let d = (and_parts (is_line_determined head) _ h).0 in
+    (words_are_line head (take (total_size head.1) p) d, (words_start head (take (total_size head.1) p) d).1)
 head_line_of (R.Hops table) p h = record {}
 head_line_of (R.Records line) p h = record {}
 

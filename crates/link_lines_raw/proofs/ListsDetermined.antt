@@ -260,6 +260,7 @@ same_held t p q xs ys a b h l x (R.Value shown) row same = refl
 same_held t p q xs ys a b h l x (R.List table) row same = refl
 same_held t p q xs ys a b h l x (R.Chosen choice k) row same = same_choice choice k p q xs ys a b (same_payload t k (choosing_row t l choice k x row same) xs ys h)
 same_held t p q xs ys a b h l x (R.Head line table) row same = refl
+same_held t p q xs ys a b h l x (R.HeadAndRecords head line) row same = refl
 same_held t p q xs ys a b h l x (R.Hops table) row same = refl
 same_held t p q xs ys a b h l x (R.Records line) row same = refl
 

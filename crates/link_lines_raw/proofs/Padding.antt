@@ -1,7 +1,7 @@
 -- Lines of padding are determined, and no other line is one.
-use Rattle.std.proofs.Common.{◌≡◌, ℕ, ◌+◌, ◌≤◌, ◌<◌, Bool, true, false, cond, List, [], ◌∷◌, ◌++◌, drop, get_or, Option, Some, None, refl, sym, ap, subst, ◌∙◌, arith}
+use Rattle.std.proofs.Common.{◌≡◌, ℕ, ◌+◌, Bool, true, false, cond, List, [], ◌∷◌, ◌++◌, drop, get_or, Option, Some, None, refl, sym, ap, subst, ◌∙◌, arith}
 use Rattle.std.specs.Prelude.{⊤, codes}
-use Rattle.std.proofs.lemmas.Bool.{true≢false}
+use Rattle.std.proofs.lemmas.Bool.{and_parts, true≢false}
 use Rattle.std.proofs.lemmas.Slice.Eq.{bytes_eq-Decides}
 use Rattle.netlink_packet_core_grammar.specs.Attributes.{Attribute}
 use Rattle.link_lines_values.specs.Bytes.{bytes_text}
@@ -15,7 +15,7 @@ use Rattle.link_lines_raw.specs.Attributes.{after_name, is_shown, named_text, ne
 use Rattle.link_lines_raw.specs.Coverage.{determines_raw, is_line_determined}
 use Rattle.link_lines_raw.specs.Choices.{resolved}
 use Rattle.link_lines_raw.specs.Lines.{Line}
-use Rattle.link_lines_raw.specs.Lists.{Listed, first_part, head_line, head_of, inside_lines, listed_lines, named_head, named_list, padding_text, padding_words, part_text, shown_head}
+use Rattle.link_lines_raw.specs.Lists.{Listed, first_part, head_line, head_of, inside_lines, listed_lines, named_head, named_list, padding_text, padding_words, part_text}
 use Rattle.link_lines_raw.specs.Names.{Named}
 use Rattle.link_lines_raw.specs.Rows.{Raw, RecordLine}
 use Rattle.link_lines_raw.proofs.ListLines.{AreDetermined, IsDetermined, named_determined, next_hop_determined, words_end, words_start}
@@ -77,6 +77,7 @@ begins_by level None (Some x) h d = listed_by level x.0 x.1 (first_part x.0 x.1)
 
 head_apart : (raw : Raw) (p : List ℕ) → determines_raw raw ≡ true → IsHeadApart (head_of raw p)
 head_apart (R.Head line table) p d = words_apart line _ d
+head_apart (R.HeadAndRecords head line) p d = words_apart head _ (and_parts (is_line_determined head) _ d).0
 head_apart raw p d = record {}
 
 either_apart : (b : Bool) (o : Option (List ℕ)) → IsHeadApart o → IsHeadApart (cond b o None)

@@ -1,5 +1,5 @@
 -- Facts of the rows of raw attributes, by computation: names are different words, and rows are determined.
-use Rattle.std.proofs.Common.{◌≡◌, ℕ, zero, suc, ◌%◌, ◌<◌, Bool, true, false, cond, List, [], ◌∷◌, ◌++◌, drop, get_or, Option, Some, None, refl, sym, ap, subst, ◌∙◌, arith}
+use Rattle.std.proofs.Common.{◌≡◌, ℕ, zero, suc, ◌/◌, ◌%◌, ◌<◌, Bool, true, false, cond, List, [], ◌∷◌, ◌++◌, drop, get_or, Option, Some, None, refl, sym, ap, subst, ◌∙◌, arith}
 use Rattle.std.specs.Prelude.{◌==◌, option_map}
 use Rattle.std.specs.Fmt.{decimal}
 use Rattle.std.specs.List.{list_all}
@@ -21,9 +21,9 @@ use Rattle.link_lines_raw.specs.Choices.{choices_of, resolved}
 use Rattle.link_lines_raw.specs.Laws.{RawTablesAreDetermined}
 use Rattle.link_lines_raw.specs.Names.{Named, NameRowOf, all_named_rows, has_name, names_apart}
 use Rattle.link_lines_raw.specs.Rows.{Raw}
-use Rattle.link_lines_raw.specs.Tables.{bridge_rows, cfm_rows, kind_rows, link_rows, multicast_rows, neighbour_rows, option_rows, raw_rows_of, route_rows, traffic_rows}
+use Rattle.link_lines_raw.specs.Tables.{bridge_rows, cfm_rows, kind_rows, link_rows, multicast_rows, neighbour_rows, option_rows, raw_groups, raw_rows_of, route_rows, traffic_rows}
 use Rattle.link_lines_raw.proofs.Chosen.{resolved_holds}
-use Rattle.link_lines_raw.proofs.Named.{apart_in, chosen, first_holds, found_in, name_of, others_hold}
+use Rattle.link_lines_raw.proofs.Named.{apart_in, found_in, name_of}
 use Rattle.link_lines_raw.proofs.Words.{IsWord, Starts}
 
 -- ---- each table
@@ -32,14 +32,14 @@ pub tables_determined : RawTablesAreDetermined
 unfolding link_rows kind_rows bridge_rows cfm_rows route_rows neighbour_rows traffic_rows multicast_rows option_rows choices_of layout_fields number_texts
 tables_determined = (refl, refl)
 
-all_at : (f : List (NameRowOf Raw) → Bool) (n : ℕ) (ts : List (List (NameRowOf Raw))) → f [] ≡ true → list_all f ts ≡ true → f (get_or ts n []) ≡ true
-all_at f n [] e h = e
-all_at f zero (t ∷ ts) e h = (and_parts (f t) (list_all f ts) h).0
-all_at f (suc n) (t ∷ ts) e h = all_at f n ts e (and_parts (f t) (list_all f ts) h).1
+all_at : {A : Type 0} (f : A → Bool) (d : A) (n : ℕ) (ts : List A) → f d ≡ true → list_all f ts ≡ true → f (get_or ts n d) ≡ true
+all_at f d n [] e h = e
+all_at f d zero (t ∷ ts) e h = (and_parts (f t) (list_all f ts) h).0
+all_at f d (suc n) (t ∷ ts) e h = all_at f d n ts e (and_parts (f t) (list_all f ts) h).1
 
 pub in_table : (f : List (NameRowOf Raw) → Bool) (n : ℕ) → f [] ≡ true → in_each f ≡ true → f (raw_rows_of n) ≡ true
 unfolding raw_rows_of
-in_table f n e h = search (chosen f, all_at f, first_holds, others_hold) depth 20
+in_table f n e h = all_at f [] (n % 32) (get_or raw_groups (n / 32) []) e (all_at (λ rows. list_all f rows) [] (n / 32) raw_groups refl h)
 
 -- The tests of one table.
 record TableFacts (rows : List (NameRowOf Raw)) : Type 0 where

@@ -28,6 +28,7 @@ listed_within n (R.Value shown) p h = record {}
 listed_within n (R.List table) p h = h
 listed_within n (R.Chosen choice kind) p h = record {}
 listed_within n (R.Head line table) p h = omega (arith, h, length-drop (total_size line.1) p)
+listed_within n (R.HeadAndRecords head line) p h = omega (arith, h, length-drop (total_size head.1) p)
 listed_within n (R.Hops table) p h = h
 listed_within n (R.Records line) p h = h
 
@@ -196,6 +197,7 @@ listed_in_reach level (R.Value shown) p h = record {}
 listed_in_reach level (R.List table) p h = h
 listed_in_reach level (R.Chosen choice kind) p h = record {}
 listed_in_reach level (R.Head line table) p h = h
+listed_in_reach level (R.HeadAndRecords head line) p h = h
 listed_in_reach level (R.Hops table) p h = h
 listed_in_reach level (R.Records line) p h = h
 

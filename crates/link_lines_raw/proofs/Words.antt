@@ -2,8 +2,8 @@
 use Rattle.std.proofs.Common.{◌≡◌, ℕ, ◌<◌, ◌≤◌, true, List, [], ◌∷◌, ◌++◌, drop, refl, ap, ◌∙◌, append_assoc, arith}
 use Rattle.std.specs.Prelude.{get_or, nat_le}
 use Rattle.std.proofs.lemmas.Bool.{and_parts, leb-true}
-use Rattle.link_lines_values.specs.Laws.{Ends, BeginsWithSpace, IsLine}
-pub use Rattle.link_lines_values.proofs.NumbersDetermined.{Digits as IsWord, following, cut as cut_word}
+use Rattle.link_lines_values.specs.Laws.{IsLine}
+pub use Rattle.link_lines_values.proofs.NumbersDetermined.{Digits as IsWord, following, cut as cut_word, space_ends}
 pub use Rattle.link_lines_values.proofs.OneLine.{digits_line as word_line, lines_joined}
 use Rattle.link_lines_raw.specs.Names.{is_word}
 
@@ -20,11 +20,6 @@ cut_line (x ∷ a) (y ∷ b) s t h k e =
 pub message_label : (a : List ℕ) → is_word a ≡ true → IsWord a
 message_label [] h = record {}
 message_label (c ∷ a) h = let p = and_parts (nat_le 48 c) (is_word a) h in (leb-true 48 c p.0, message_label a p.1)
-
--- A space ends a word.
-pub space_ends : (s : List ℕ) → BeginsWithSpace s → Ends s
-space_ends [] h = record {}
-space_ends (c ∷ s) h = omega (arith, h)
 
 -- A text begins with an upper-case letter, or with a lower-case one.
 abbrev pub Starts : List ℕ → Type 0

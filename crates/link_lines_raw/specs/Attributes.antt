@@ -1,7 +1,7 @@
 -- Raw attributes: the row of a kind, whole lists, and what of a payload is shown.
-use Rattle.std.specs.Prelude.{ℕ, zero, suc, ◌+◌, ◌-◌, ◌%◌, ◌==◌, ◌&&◌, not, nat_le, Bool, true, false, cond, List}
+use Rattle.std.specs.Prelude.{ℕ, zero, suc, ◌+◌, ◌-◌, ◌%◌, ◌==◌, ◌&&◌, nat_le, Bool, true, false, cond, List}
 use Rattle.std.specs.Prelude.{[], ◌∷◌, ◌++◌, length, take, drop, Option, Some, None, codes, option_map}
-use Rattle.netlink_packet_core_grammar.specs.Attributes.{Attribute, first_attribute}
+use Rattle.netlink_packet_core_grammar.specs.Attributes.{Attribute}
 use Rattle.netlink_packet_core_grammar.specs.Numbers.{u16_at}
 use Rattle.link_lines_values.specs.declared.exact.ExactBy.TheVariants as X
 use Rattle.link_lines_values.specs.Bytes.{bytes_text}
@@ -87,11 +87,11 @@ are_records_after fields zero (b ∷ bytes) =
 
 -- ---- payloads
 
--- Whether bytes are a record, followed by a whole list.
-abbrev pub is_headed : RecordLine → List ℕ → Bool
-is_headed line bytes =
+-- Whether bytes are a record, and the test holds for what follows it.
+abbrev pub is_headed : (List ℕ → Bool) → RecordLine → List ℕ → Bool
+is_headed test line bytes =
     nat_le (total_size line.1) (length bytes) && (is_record line.1 (take (total_size line.1) bytes) &&
-    is_whole (drop (total_size line.1) bytes))
+    test (drop (total_size line.1) bytes))
 
 -- Whether a payload of a list, next hops or records is exactly that. What another attribute would have to choose isn't
 -- known here.
@@ -99,7 +99,8 @@ abbrev pub holds_lines : Raw → List ℕ → Bool
 holds_lines (R.Value shown) bytes = false
 holds_lines (R.List table) bytes = is_whole bytes
 holds_lines (R.Chosen choice kind) bytes = false
-holds_lines (R.Head line table) bytes = is_headed line bytes
+holds_lines (R.Head line table) bytes = is_headed is_whole line bytes
+holds_lines (R.HeadAndRecords head line) bytes = is_headed (are_records_after line.1 0) head bytes
 holds_lines (R.Hops table) bytes = are_next_hops_after 0 bytes
 holds_lines (R.Records line) bytes = are_records_after line.1 0 bytes
 

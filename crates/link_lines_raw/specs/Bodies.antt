@@ -1,5 +1,5 @@
 -- The lines of bodies of messages other than links: the record at their start, and attributes.
-use Rattle.std.specs.Prelude.{ℕ, ◌%◌, ◌==◌, ◌&&◌, nat_le, nat_lt, Bool, true, false, cond, List, [], ◌∷◌, length}
+use Rattle.std.specs.Prelude.{ℕ, ◌%◌, ◌==◌, ◌&&◌, nat_le, Bool, true, false, cond, List, [], ◌∷◌, length}
 use Rattle.std.specs.Prelude.{take, drop, Option, Some, None}
 use Rattle.link_lines_values.specs.Records.{is_record, total_size}
 use Rattle.link_lines_raw.specs.declared.bodies.BodyRow.{BodyRow}
@@ -12,7 +12,8 @@ use Rattle.link_lines_raw.specs.declared.records.TheConstants.{TIMESTAMP_LINE, I
 use Rattle.link_lines_raw.specs.declared.records.TheConstants.{FIB_RULE_HDR_LINE, TCMSG_LINE, TCMSG_FILTER_LINE}
 use Rattle.link_lines_raw.specs.declared.records.TheConstants.{TCAMSG_LINE, PREFIXMSG_LINE, NDTMSG_LINE}
 use Rattle.link_lines_raw.specs.declared.records.TheConstants.{IFADDRLBLMSG_LINE, NETCONFMSG_LINE, BR_PORT_MSG_LINE}
-use Rattle.link_lines_raw.specs.declared.records.TheConstants.{RTGENMSG_LINE, IF_STATS_MSG_LINE, NHMSG_LINE}
+use Rattle.link_lines_raw.specs.declared.records.TheConstants.{RTGEN_LINE, RTGENMSG_LINE, IFINFOMSG_LINE}
+use Rattle.link_lines_raw.specs.declared.records.TheConstants.{IF_STATS_MSG_LINE, NHMSG_LINE}
 use Rattle.link_lines_raw.specs.declared.records.TheConstants.{BR_VLAN_MSG_LINE, TUNNEL_MSG_LINE}
 use Rattle.link_lines_raw.specs.Attributes.{is_whole, record_words}
 use Rattle.link_lines_raw.specs.Lines.{Line, lines_text}
@@ -34,7 +35,9 @@ header_line H.Ndtmsg = record_line_of (λ n. n.now) NDTMSG_LINE
 header_line H.Ifaddrlblmsg = record_line_of (λ n. n.now) IFADDRLBLMSG_LINE
 header_line H.Netconfmsg = record_line_of (λ n. n.now) NETCONFMSG_LINE
 header_line H.BrPortMsg = record_line_of (λ n. n.now) BR_PORT_MSG_LINE
+header_line H.Rtgen = record_line_of (λ n. n.now) RTGEN_LINE
 header_line H.Rtgenmsg = record_line_of (λ n. n.now) RTGENMSG_LINE
+header_line H.Ifinfomsg = record_line_of (λ n. n.now) IFINFOMSG_LINE
 header_line H.IfStatsMsg = record_line_of (λ n. n.now) IF_STATS_MSG_LINE
 header_line H.Nhmsg = record_line_of (λ n. n.now) NHMSG_LINE
 header_line H.BrVlanMsg = record_line_of (λ n. n.now) BR_VLAN_MSG_LINE
@@ -69,12 +72,6 @@ first_fitting [] message_type is_request bytes = None
 first_fitting (row ∷ rows) message_type is_request bytes =
     cond (fits_body row message_type is_request bytes) (Some row) (first_fitting rows message_type is_request bytes)
 
--- Whether a body is only the general record, though its row has a longer one: 4 bytes, of a message type that asks for
--- objects.
-abbrev pub is_general : ℕ → RecordLine → List ℕ → Bool
-is_general message_type line bytes =
-    (message_type % 4 == 2) && ((length bytes == 4) && nat_lt 4 (total_size line.1))
-
 -- Whether bytes are attributes up to the end if there is a table of them, and otherwise empty.
 abbrev pub is_list_of : Option RawTable → List ℕ → Bool
 is_list_of None bytes = length bytes == 0
@@ -101,12 +98,33 @@ abbrev pub record_and_list : RecordLine → Option RawTable → List ℕ → Opt
 record_and_list line table bytes =
     cond (is_record_and_list line table bytes) (Some (record_and_list_lines line table bytes)) None
 
--- The lines of a body by its row, if the body is exactly what the row says.
+-- The record of this size that a request of any type may be alone: the address family in 1 byte or in 4, or the header of
+-- links.
+abbrev pub general_header : ℕ → Option Header
+general_header size =
+    cond (size == 1) (Some H.Rtgen) (cond (size == 4) (Some H.Rtgenmsg) (cond (size == 16) (Some H.Ifinfomsg) None))
+
+-- The lines of a record alone, if there is one.
+abbrev pub alone_lines : Option Header → List ℕ → Option (List Line)
+alone_lines None bytes = None
+alone_lines (Some header) bytes = record_and_list (header_line header) None bytes
+
+-- The lines of a body that is such a record alone, in a message type that asks for objects.
+abbrev pub general_lines : ℕ → List ℕ → Option (List Line)
+general_lines message_type bytes =
+    cond (message_type % 4 == 2) (alone_lines (general_header (length bytes)) bytes) None
+
+-- The first lines, if there are any, else the second.
+abbrev pub lines_or : Option (List Line) → Option (List Line) → Option (List Line)
+lines_or None others = others
+lines_or (Some lines) others = Some lines
+
+-- The lines of a body: by its row, if the body is exactly what the row says, and else as a record that any request may
+-- be.
 abbrev pub row_lines : Option BodyRow → ℕ → List ℕ → Option (List Line)
 row_lines None message_type bytes = None
 row_lines (Some row) message_type bytes =
-    cond (is_general message_type (header_line row.4) bytes) (record_and_list (header_line H.Rtgenmsg) None bytes)
-    (record_and_list (header_line row.4) row.5 bytes)
+    lines_or (record_and_list (header_line row.4) row.5 bytes) (general_lines message_type bytes)
 
 -- The lines of the body of a message, by its type and whether it is a request, if they determine the body.
 unfoldable pub body_lines : ℕ → Bool → List ℕ → Option (List Line)

@@ -3,15 +3,14 @@ use Rattle.std.specs.Prelude.{ℕ, ◌&&◌, not, nat_le, Bool, true, false, Lis
 use Rattle.std.specs.List.{list_all}
 use Rattle.link_lines_values.specs.DenseRows.{find}
 use Rattle.link_lines_values.specs.Exact.{determines_exact}
-use Rattle.link_lines_values.specs.Records.{has_no_booleans, sizes_known, total_size}
+use Rattle.link_lines_values.specs.Records.{fields_determine, has_no_booleans, total_size}
 use Rattle.link_lines_values.specs.Values.{are_fields_on_a_line}
 use Rattle.link_lines_raw.specs.declared.rows.Choice.TheVariants as C
 use Rattle.link_lines_raw.specs.declared.rows.RawBy.TheVariants as R
 use Rattle.link_lines_raw.specs.Choices.{choices_of}
 use Rattle.link_lines_raw.specs.Names.{Named, NameRowOf, all_named_rows, has_name, is_word, names_apart}
 use Rattle.link_lines_raw.specs.Rows.{Raw, RecordLine}
-use Rattle.link_lines_raw.specs.Tables.{bridge_rows, cfm_rows, kind_rows, link_rows, multicast_rows, neighbour_rows}
-use Rattle.link_lines_raw.specs.Tables.{option_rows, route_rows, traffic_rows}
+use Rattle.link_lines_raw.specs.Tables.{raw_groups}
 
 -- Whether a byte string is a word that begins with a byte from `A` on.
 abbrev pub is_line_word : List ℕ → Bool
@@ -21,8 +20,12 @@ is_line_word (c ∷ s) = nat_le 65 c && is_word s
 -- Whether the line of a record determines the record, is one line, and isn't a line of padding.
 abbrev pub is_line_determined : RecordLine → Bool
 is_line_determined line =
-    is_line_word line.0 && (sizes_known line.1 && (has_no_booleans line.1 && (are_fields_on_a_line line.1 &&
+    is_line_word line.0 && (fields_determine 32 line.1 && (has_no_booleans line.1 && (are_fields_on_a_line line.1 &&
     not (bytes_eq line.0 (codes "padding")))))
+
+-- Whether the lines of records, one after the other, determine them.
+abbrev pub are_lines_determined : RecordLine → Bool
+are_lines_determined line = is_line_determined line && nat_le 1 (total_size line.1)
 
 -- Whether the lines of what a row holds determine it.
 abbrev pub determines_raw : Raw → Bool
@@ -30,8 +33,9 @@ determines_raw (R.Value shown) = determines_exact shown
 determines_raw (R.List table) = true
 determines_raw (R.Chosen choice kind) = true
 determines_raw (R.Head line table) = is_line_determined line
+determines_raw (R.HeadAndRecords head line) = is_line_determined head && are_lines_determined line
 determines_raw (R.Hops table) = true
-determines_raw (R.Records line) = is_line_determined line && nat_le 1 (total_size line.1)
+determines_raw (R.Records line) = are_lines_determined line
 
 -- Whether the lines of what the row of a kind holds determine it.
 abbrev pub is_row_determined : ℕ → Named Raw → Bool
@@ -60,10 +64,7 @@ is_table_determined rows =
 
 -- Whether a property holds for each table.
 abbrev pub in_each : (List (NameRowOf Raw) → Bool) → Bool
-in_each f =
-    list_all f link_rows && (list_all f kind_rows && (list_all f bridge_rows && (list_all f cfm_rows &&
-    (list_all f route_rows && (list_all f neighbour_rows && (list_all f traffic_rows && (list_all f multicast_rows &&
-    list_all f option_rows)))))))
+in_each f = list_all (λ rows. list_all f rows) raw_groups
 
 -- Whether a property holds for what is chosen in each set of choices.
 abbrev pub in_each_choice : (Raw → Bool) → Bool

@@ -56,6 +56,7 @@ padding_words padding = option_map padding_text padding
 -- The text of the line that is below an attribute's line and before its list: that of the record at the start.
 abbrev pub head_of : Raw → List ℕ → Option (List ℕ)
 head_of (R.Head line table) bytes = Some (record_words line (take (total_size line.1) bytes))
+head_of (R.HeadAndRecords head line) bytes = Some (record_words head (take (total_size head.1) bytes))
 head_of raw bytes = None
 
 -- The head of a payload that is shown in lines, the first at this level.
@@ -82,6 +83,7 @@ listed_in (R.Value shown) bytes = None
 listed_in (R.List table) bytes = Some (attributes_in table bytes)
 listed_in (R.Chosen choice kind) bytes = None
 listed_in (R.Head line table) bytes = Some (attributes_in table (drop (total_size line.1) bytes))
+listed_in (R.HeadAndRecords head line) bytes = Some (L.Records line, drop (total_size head.1) bytes)
 listed_in (R.Hops table) bytes = Some (L.NextHops table, bytes)
 listed_in (R.Records line) bytes = Some (L.Records line, bytes)
 

@@ -24,6 +24,6 @@ abbrev pub named_below : {A : Type 0} → (ℕ → List (NameRowOf A)) → List 
 named_below rows w zero = None
 named_below rows w (suc n) = first_name (named_below rows w n) (named_in (λ name. name) w (rows n))
 
--- The name of a raw attribute, of any table, that the word is. The table of the index 255 has no rows.
+-- The name of a raw attribute, of any table, that the word is. The table of the index 511 has no rows.
 unfoldable pub raw_name : List ℕ → Option (List ℕ)
-raw_name w = named_below raw_rows_of w 255
+raw_name w = named_below raw_rows_of w 511

@@ -29,6 +29,7 @@ raw_of f (R.Value shown) = R.Value (exact_of shown)
 raw_of f (R.List table) = R.List table
 raw_of f (R.Chosen choice kind) = R.Chosen choice kind
 raw_of f (R.Head line table) = R.Head (record_line_of f line) table
+raw_of f (R.HeadAndRecords head line) = R.HeadAndRecords (record_line_of f head) (record_line_of f line)
 raw_of f (R.Hops table) = R.Hops table
 raw_of f (R.Records line) = R.Records (record_line_of f line)
 

@@ -1,5 +1,5 @@
 -- The tables of raw attributes, as the constants in code define them.
-use Rattle.std.specs.Prelude.{ℕ, ◌-◌, nat_lt, cond, List, [], ◌∷◌, get_or, map}
+use Rattle.std.specs.Prelude.{ℕ, ◌/◌, ◌%◌, List, [], ◌∷◌, get_or, map}
 use Rattle.link_lines_raw.specs.Names.{NameRowOf}
 use Rattle.link_lines_raw.specs.Rows.{Raw, raw_rows_in_code}
 use Rattle.link_lines_raw.specs.declared.link_rows.TheConstants.{LINK_ROWS, DEVLINK_PORT_ROWS, GRE_ROWS, GRE6_ROWS}
@@ -67,8 +67,6 @@ use Rattle.link_lines_raw.specs.declared.multicast_rows.TheConstants.{ACKNOWLEDG
 use Rattle.link_lines_raw.specs.declared.option_rows.TheConstants.{TBF_ROWS, HTB_ROWS, FQ_CODEL_ROWS, PRIO_ROWS}
 use Rattle.link_lines_raw.specs.declared.option_rows.TheConstants.{U32_FILTER_ROWS, FLOWER_ROWS, MATCHALL_ROWS}
 use Rattle.link_lines_raw.specs.declared.option_rows.TheConstants.{BPF_FILTER_ROWS, GACT_ROWS, MIRRED_ROWS}
-use Rattle.link_lines_raw.specs.declared.raw_tables.TheConstants.{VLAN, BRIDGE, CFM, ADDRESS, NEIGHBOUR}
-use Rattle.link_lines_raw.specs.declared.raw_tables.TheConstants.{TRAFFIC_CONTROL, MULTICAST, TBF}
 
 -- Rows of lists in link messages: each table's, in the order of their indexes.
 unfoldable pub link_rows : List (List (NameRowOf Raw))
@@ -149,15 +147,12 @@ option_rows =
     (TBF_ROWS ∷ HTB_ROWS ∷ FQ_CODEL_ROWS ∷ PRIO_ROWS ∷ U32_FILTER_ROWS ∷ FLOWER_ROWS ∷ MATCHALL_ROWS ∷
     BPF_FILTER_ROWS ∷ GACT_ROWS ∷ MIRRED_ROWS ∷ [])
 
+-- The tables by group: 32 indexes for each, of which the last ones may have no table.
+abbrev pub raw_groups : List (List (List (NameRowOf Raw)))
+raw_groups =
+    link_rows ∷ kind_rows ∷ bridge_rows ∷ cfm_rows ∷ route_rows ∷ neighbour_rows ∷ traffic_rows ∷ multicast_rows ∷
+    option_rows ∷ []
+
 -- The rows of the table with this index.
 unfoldable pub raw_rows_of : ℕ → List (NameRowOf Raw)
-raw_rows_of n =
-    cond (nat_lt n VLAN.0) (get_or link_rows n [])
-    (cond (nat_lt n BRIDGE.0) (get_or kind_rows (n - VLAN.0) [])
-    (cond (nat_lt n CFM.0) (get_or bridge_rows (n - BRIDGE.0) [])
-    (cond (nat_lt n ADDRESS.0) (get_or cfm_rows (n - CFM.0) [])
-    (cond (nat_lt n NEIGHBOUR.0) (get_or route_rows (n - ADDRESS.0) [])
-    (cond (nat_lt n TRAFFIC_CONTROL.0) (get_or neighbour_rows (n - NEIGHBOUR.0) [])
-    (cond (nat_lt n MULTICAST.0) (get_or traffic_rows (n - TRAFFIC_CONTROL.0) [])
-    (cond (nat_lt n TBF.0) (get_or multicast_rows (n - MULTICAST.0) [])
-    (get_or option_rows (n - TBF.0) []))))))))
+raw_rows_of n = get_or (get_or raw_groups (n / 32) []) (n % 32) []

@@ -3,7 +3,7 @@
 ghost use Rattle.std.specs.Prelude.{◌≡◌, ◌<◌, ◌+◌, ◌^◌, ◌++◌, true, length, option_map, IfOk, OnOk};
 ghost use Rattle.link_lines_values.specs.Appends.{Appends};
 ghost use Rattle.link_lines_raw.specs.Bodies.{body_lines, first_fitting, fits_body, fits_family};
-ghost use Rattle.link_lines_raw.specs.Bodies.{fits_request, has_lines, header_line, is_general, is_list_of};
+ghost use Rattle.link_lines_raw.specs.Bodies.{fits_request, general_header, general_lines, has_lines, header_line, is_list_of};
 ghost use Rattle.link_lines_raw.specs.Bodies.{is_record_and_list, list_lines_of, record_and_list, row_lines};
 ghost use Rattle.link_lines_raw.specs.Bodies.{text_or_none};
 ghost use Rattle.link_lines_raw.specs.Lines.{lines_text};
@@ -18,9 +18,9 @@ use crate::raw_tables::{
 };
 use crate::records::{
     BR_PORT_MSG_LINE, BR_VLAN_MSG_LINE, FIB_RULE_HDR_LINE, IF_STATS_MSG_LINE, IFADDRLBLMSG_LINE,
-    IFADDRMSG_LINE, NDMSG_LINE, NDTMSG_LINE, NETCONFMSG_LINE, NHMSG_LINE, PREFIXMSG_LINE,
-    RTGENMSG_LINE, RTMSG_LINE, TCAMSG_LINE, TCMSG_FILTER_LINE, TCMSG_LINE, TIMESTAMP_LINE,
-    TUNNEL_MSG_LINE,
+    IFADDRMSG_LINE, IFINFOMSG_LINE, NDMSG_LINE, NDTMSG_LINE, NETCONFMSG_LINE, NHMSG_LINE,
+    PREFIXMSG_LINE, RTGEN_LINE, RTGENMSG_LINE, RTMSG_LINE, TCAMSG_LINE, TCMSG_FILTER_LINE,
+    TCMSG_LINE, TIMESTAMP_LINE, TUNNEL_MSG_LINE,
 };
 use crate::rows::RecordLine;
 use link_lines_parts::is_whole;
@@ -43,7 +43,9 @@ pub enum Header {
     Ifaddrlblmsg,
     Netconfmsg,
     BrPortMsg,
+    Rtgen,
     Rtgenmsg,
+    Ifinfomsg,
     IfStatsMsg,
     Nhmsg,
     BrVlanMsg,
@@ -51,9 +53,9 @@ pub enum Header {
 }
 
 use Header::{
-    BrPortMsg, BrVlanMsg, FibRuleHdr, IfStatsMsg, Ifaddrlblmsg, Ifaddrmsg, Ndmsg, Ndtmsg,
-    Netconfmsg, Nhmsg, Prefixmsg, Rtgenmsg, Rtmsg, Tcamsg, Tcmsg, TcmsgFilter, Timestamp,
-    TunnelMsg,
+    BrPortMsg, BrVlanMsg, FibRuleHdr, IfStatsMsg, Ifaddrlblmsg, Ifaddrmsg, Ifinfomsg, Ndmsg,
+    Ndtmsg, Netconfmsg, Nhmsg, Prefixmsg, Rtgen, Rtgenmsg, Rtmsg, Tcamsg, Tcmsg, TcmsgFilter,
+    Timestamp, TunnelMsg,
 };
 
 /// A row of bodies: the first and the last message type; whether the messages are requests, if that
@@ -125,7 +127,9 @@ fn header_line(header: Header) -> RecordLine
         Ifaddrlblmsg => IFADDRLBLMSG_LINE,
         Netconfmsg => NETCONFMSG_LINE,
         BrPortMsg => BR_PORT_MSG_LINE,
+        Rtgen => RTGEN_LINE,
         Rtgenmsg => RTGENMSG_LINE,
+        Ifinfomsg => IFINFOMSG_LINE,
         IfStatsMsg => IF_STATS_MSG_LINE,
         Nhmsg => NHMSG_LINE,
         BrVlanMsg => BR_VLAN_MSG_LINE,
@@ -237,12 +241,32 @@ fn push_record_and_list(
     Ok(true)
 }
 
-/// Returns whether a body is only the general record, though its row has a longer one.
-fn is_general(message_type: u16, line: RecordLine, body: &[u8]) -> bool
-    ensures { result ≡ is_general message_type
-        (record_line_of (λ b. b.now) line.entry) body.now }
+/// Returns the record of this size that a request of any type may be alone: the address family in 1
+/// byte or in 4, or the header of links.
+fn general_header(size: usize) -> Option<Header>
+    ensures { result ≡ general_header size }
 {
-    message_type % 4 == 2 && body.len() == 4 && record_size(line.1.fields()) > 4
+    match size {
+        1 => Some(Rtgen),
+        4 => Some(Rtgenmsg),
+        16 => Some(Ifinfomsg),
+        _ => None,
+    }
+}
+
+/// Appends the lines of a body that is such a record alone, in a message type that asks for objects,
+/// and returns whether it is.
+fn push_general(message_type: u16, body: &[u8], out: &mut Vec<u8>) -> Result<bool, AllocError>
+    ensures appends { Appends out.old out.new result (text_or_none (general_lines message_type body.now)) }
+    ensures shown { IfOk result (λ is_shown. is_shown ≡ has_lines (general_lines message_type body.now)) }
+{
+    if message_type % 4 != 2 {
+        return Ok(false);
+    }
+    match general_header(body.len()) {
+        Some(header) => push_record_and_list(header_line(header), None, body, out),
+        None => Ok(false),
+    }
 }
 
 /// Appends the lines of the body of a message other than a link, if they determine every byte of it,
@@ -266,10 +290,8 @@ pub fn push_body(
     let Some(row) = first_fitting(BODIES, message_type, is_request, body) else {
         return Ok(false);
     };
-    let line = header_line(row.4);
-    if is_general(message_type, line, body) {
-        push_record_and_list(header_line(Rtgenmsg), None, body, out)
-    } else {
-        push_record_and_list(line, row.5, body, out)
+    if push_record_and_list(header_line(row.4), row.5, body, out)? {
+        return Ok(true);
     }
+    push_general(message_type, body, out)
 }

@@ -24,7 +24,7 @@ mod traffic_rows;
 
 pub use acknowledgements::{is_acknowledgement, push_acknowledgement};
 pub use bodies::push_body;
-pub use names::find_name;
-pub use raw::{push_held, push_raw};
+pub use names::{find_name, find_name_in};
+pub use raw::{push_held, push_plain_bytes, push_raw};
 pub use raw_tables::RawTable;
 pub use rows::{Raw, RawBy};

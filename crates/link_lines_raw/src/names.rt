@@ -6,13 +6,12 @@ ghost use Rattle.link_lines_raw.specs.Tables.{raw_rows_of};
 
 use crate::raw::raw_rows;
 use crate::raw_tables::{RawTable, UNNAMED};
-use crate::rows::{RawName, RawRow};
 
 /// The number of tables of raw attributes that may have rows.
-const TABLE_COUNT: u8 = UNNAMED.0;
+const TABLE_COUNT: u16 = UNNAMED.0;
 
 /// Returns the name of a row, if the word is that name. The case of ASCII letters doesn't count.
-fn name_if(row: &Option<RawName>, word: &[u8]) -> Option<&'static [u8]>
+fn name_if<A>(row: &Option<(&'static [u8], A)>, word: &[u8]) -> Option<&'static [u8]>
     ensures { option_map (λ name. name.now) result ≡ name_if (λ name. name.now) word.now row.now }
 {
     match row {
@@ -22,7 +21,10 @@ fn name_if(row: &Option<RawName>, word: &[u8]) -> Option<&'static [u8]>
 }
 
 /// Returns the first name in some rows that the word is. The case of ASCII letters doesn't count.
-fn find_name_in(rows: &[RawRow], word: &[u8]) -> Option<&'static [u8]>
+pub fn find_name_in<A>(
+    rows: &[(u16, Option<(&'static [u8], A)>)],
+    word: &[u8],
+) -> Option<&'static [u8]>
     ensures { option_map (λ name. name.now) result ≡ named_in (λ name. name.now) word.now rows.now }
 {
     for row in rows {
@@ -34,7 +36,7 @@ fn find_name_in(rows: &[RawRow], word: &[u8]) -> Option<&'static [u8]>
 }
 
 /// Returns the first name in the tables below an index that the word is.
-fn find_name_below(count: u8, word: &[u8]) -> Option<&'static [u8]>
+fn find_name_below(count: u16, word: &[u8]) -> Option<&'static [u8]>
     ensures { option_map (λ name. name.now) result ≡ named_below raw_rows_of word.now count }
 {
     for table in 0..count {

@@ -7,8 +7,8 @@ ghost use Rattle.link_lines_raw.specs.Tables.{option_rows};
 
 use crate::raw_rows_in;
 use crate::raw_tables::{INDEXED_ACTION, UNNAMED};
-use crate::records::TC_MIRRED_LINE;
-use crate::rows::RawBy::{List, Records, Value};
+use crate::records::{TC_MIRRED_LINE, TC_U32_KEY_LINE, TC_U32_SEL_LINE};
+use crate::rows::RawBy::{HeadAndRecords, List, Records, Value};
 use crate::rows::RawRow;
 use link_lines_values::ExactBy::{Bytes, Number, Numbers, Record, Sized, Text};
 use link_lines_values::ShownBy::{BigEndian, BigEndianFlags, Flags, NamedFlags, Presence};
@@ -70,7 +70,7 @@ pub const U32_FILTER_ROWS: &[RawRow] = &raw_rows_in! {
     2, b"TCA_U32_HASH", Value(Sized(4, Flags));
     3, b"TCA_U32_LINK", Value(Sized(4, Flags));
     4, b"TCA_U32_DIVISOR", Value(Number(4));
-    5, b"TCA_U32_SEL", Value(Bytes);
+    5, b"TCA_U32_SEL", HeadAndRecords(TC_U32_SEL_LINE, TC_U32_KEY_LINE);
     6, b"TCA_U32_POLICE", Value(Bytes);
     7, b"TCA_U32_ACT", List(INDEXED_ACTION);
     8, b"TCA_U32_INDEV", Value(Text);
@@ -230,7 +230,7 @@ pub const MIRRED_ROWS: &[RawRow] = &raw_rows_in! {
 
 /// Returns the rows of a table, by its index from that of the first table here on.
 #[tactic(auto, unfolding(crate::specs::Tables::option_rows))]
-pub(crate) fn rows(index: u8) -> &'static [RawRow]
+pub(crate) fn rows(index: u16) -> &'static [RawRow]
     ensures rows { raw_rows_in_code (λ b. b.now) result.now ≡ get_or option_rows index [] }
     ensures dense { are_dense result.now ≡ true }
 {

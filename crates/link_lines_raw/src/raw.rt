@@ -10,7 +10,8 @@ ghost use Rattle.link_lines_values.specs.Digits.{four_digits};
 ghost use Rattle.link_lines_values.specs.Indents.{indent};
 ghost use Rattle.link_lines_values.specs.Layouts.{layout_fields};
 ghost use Rattle.link_lines_values.specs.Records.{total_size};
-ghost use Rattle.link_lines_raw.specs.Attributes.{after_name, holds_lines, indexed_row, is_headed, is_shown, levels_below, plain_bytes};
+ghost use Rattle.link_lines_raw.specs.Attributes.{after_name, are_records_after, holds_lines, indexed_row, is_headed, is_shown};
+ghost use Rattle.link_lines_raw.specs.Attributes.{is_whole, levels_below, plain_bytes};
 ghost use Rattle.link_lines_raw.specs.Attributes.{proper_row, raw_row, raw_text, record_words, unnamed_text};
 ghost use Rattle.link_lines_raw.specs.Lines.{line_text, lines_text};
 ghost use Rattle.link_lines_raw.specs.Lists.{head_of, head_text, held_lines, is_part, levels_of, listed_in, listed_lines};
@@ -23,10 +24,7 @@ ghost use Rattle.link_lines_raw.specs.Views.{found_row, listed_of, listing};
 
 use crate::choices::resolved;
 use crate::lists::{Listed, ListedBy, NEXT_HOP_LEN, are_next_hops, are_records, first_part};
-use crate::raw_tables::{
-    ACTION, ADDRESS, BRIDGE, CFM, INDEXED_ACTION, INDEXED_IPV4, INDEXED_IPV6, MULTICAST, NEIGHBOUR,
-    RawTable, TBF, TRAFFIC_CONTROL, VLAN,
-};
+use crate::raw_tables::{ACTION, GROUP_SIZE, INDEXED_ACTION, INDEXED_IPV4, INDEXED_IPV6, RawTable};
 use crate::records::RTNEXTHOP_LINE;
 use crate::rows::{Raw, RawBy, RawName, RawRow, RecordLine};
 use crate::{
@@ -47,25 +45,18 @@ pub(crate) fn raw_rows(table: RawTable) -> &'static [RawRow]
     ensures rows { raw_rows_in_code (λ b. b.now) result.now ≡ raw_rows_of table.0 }
     ensures dense { are_dense result.now ≡ true }
 {
-    let index = table.0;
-    if index < VLAN.0 {
-        link_rows::rows(index)
-    } else if index < BRIDGE.0 {
-        kind_rows::rows(index - VLAN.0)
-    } else if index < CFM.0 {
-        bridge_rows::rows(index - BRIDGE.0)
-    } else if index < ADDRESS.0 {
-        cfm_rows::rows(index - CFM.0)
-    } else if index < NEIGHBOUR.0 {
-        route_rows::rows(index - ADDRESS.0)
-    } else if index < TRAFFIC_CONTROL.0 {
-        neighbour_rows::rows(index - NEIGHBOUR.0)
-    } else if index < MULTICAST.0 {
-        traffic_rows::rows(index - TRAFFIC_CONTROL.0)
-    } else if index < TBF.0 {
-        multicast_rows::rows(index - MULTICAST.0)
-    } else {
-        option_rows::rows(index - TBF.0)
+    let index = table.0 % GROUP_SIZE;
+    match table.0 / GROUP_SIZE {
+        0 => link_rows::rows(index),
+        1 => kind_rows::rows(index),
+        2 => bridge_rows::rows(index),
+        3 => cfm_rows::rows(index),
+        4 => route_rows::rows(index),
+        5 => neighbour_rows::rows(index),
+        6 => traffic_rows::rows(index),
+        7 => multicast_rows::rows(index),
+        8 => option_rows::rows(index),
+        _ => &[],
     }
 }
 
@@ -81,9 +72,9 @@ fn indexed_row(table: RawTable) -> Option<&'static Raw>
     ensures { option_map (λ raw. raw_of (λ b. b.now) raw.now) result
         ≡ indexed_row table }
 {
-    const IPV4: u8 = INDEXED_IPV4.0;
-    const IPV6: u8 = INDEXED_IPV6.0;
-    const ACTIONS: u8 = INDEXED_ACTION.0;
+    const IPV4: u16 = INDEXED_IPV4.0;
+    const IPV6: u16 = INDEXED_IPV6.0;
+    const ACTIONS: u16 = INDEXED_ACTION.0;
     match table.0 {
         IPV4 => Some(IPV4_ADDRESS),
         IPV6 => Some(IPV6_ADDRESS),
@@ -141,6 +132,7 @@ fn holds_lines(raw: &Raw, payload: &[u8]) -> bool
         RawBy::Value(_) | RawBy::Chosen(_, _) => false,
         RawBy::List(_) => is_whole(payload),
         RawBy::Head(line, _) => starts_with_record(line, payload),
+        RawBy::HeadAndRecords(head, line) => starts_with_records(head, line, payload),
         RawBy::Hops(_) => are_next_hops(payload),
         RawBy::Records(line) => are_records(line.1.fields(), payload),
     }
@@ -149,10 +141,21 @@ fn holds_lines(raw: &Raw, payload: &[u8]) -> bool
 /// Returns whether bytes are a record, followed by a whole list.
 fn starts_with_record(line: &RecordLine, bytes: &[u8]) -> bool
     ensures { result
-        ≡ is_headed (record_line_of (λ b. b.now) line.now) bytes.now }
+        ≡ is_headed is_whole (record_line_of (λ b. b.now) line.now) bytes.now }
 {
     let size = record_size(line.1.fields());
     size <= bytes.len() && is_record(line.1.fields(), &bytes[..size]) && is_whole(&bytes[size..])
+}
+
+/// Returns whether bytes are a record, followed by records of another kind up to the end.
+fn starts_with_records(head: &RecordLine, line: &RecordLine, bytes: &[u8]) -> bool
+    ensures { result ≡ is_headed (are_records_after (layout_fields line.now.1) 0)
+        (record_line_of (λ b. b.now) head.now) bytes.now }
+{
+    let size = record_size(head.1.fields());
+    size <= bytes.len()
+        && is_record(head.1.fields(), &bytes[..size])
+        && are_records(line.1.fields(), &bytes[size..])
 }
 
 /// Returns whether lines of what an attribute holds aren't too deep if the first has this level.
@@ -220,13 +223,23 @@ fn open_lines<'a>(
             push_record_line(level, *line, head, out)?;
             Ok(Some((ListedBy::Attributes(*table, rest), rest)))
         }
+        RawBy::HeadAndRecords(head, line) => {
+            let (first, rest) = payload.split_at(record_size(head.1.fields()));
+            push_record_line(level, *head, first, out)?;
+            Ok(Some((ListedBy::Records(*line), rest)))
+        }
         RawBy::Hops(table) => Ok(Some((ListedBy::NextHops(*table), payload))),
         RawBy::Records(line) => Ok(Some((ListedBy::Records(*line), payload))),
     }
 }
 
 /// Appends the word `bytes` and the bytes in hex.
-fn push_plain_bytes(bytes: &[u8], out: &mut Vec<u8>) -> Result<(), AllocError>
+///
+/// # Errors
+///
+/// `AllocError` if `out` lacked capacity for the text and can't grow; what it held stays, and a
+/// part of the text may follow.
+pub fn push_plain_bytes(bytes: &[u8], out: &mut Vec<u8>) -> Result<(), AllocError>
     ensures { Appends out.old out.new result (plain_bytes bytes.now) }
 {
     out.extend_from_slice(b" bytes")?;

@@ -3,10 +3,13 @@
 use crate::rows::{RecordLine, RecordLineOf};
 use link_lines_values::line_layouts::{
     BR_MDB_ENTRY, BR_PORT_MSG, BR_VLAN_MSG, FIB_RULE_HDR, IF_STATS_MSG, IFADDRLBLMSG, IFADDRMSG,
-    NDMSG, NDTMSG, NETCONFMSG, NEXTHOP_GRP, NHMSG, PREFIXMSG, ROUTER_PORT, RTGENMSG, RTMSG,
-    RTNEXTHOP, TCAMSG, TCMSG, TCMSG_FILTER, TIMESTAMP, TUNNEL_MSG,
+    IFINFOMSG, NDMSG, NDTMSG, NETCONFMSG, NEXTHOP_GRP, NHMSG, PREFIXMSG, ROUTER_PORT, RTGEN,
+    RTGENMSG, RTMSG, RTNEXTHOP, TCAMSG, TCMSG, TCMSG_FILTER, TIMESTAMP, TUNNEL_MSG,
 };
-use link_lines_values::traffic_layouts::{TC_MIRRED, TC_PRIO_QOPT};
+use link_lines_values::route_layouts::{
+    IPV6_RPL_SR_HDR, IPV6_SR_HDR, SEG6_IPTUNNEL_ENCAP, SEGMENT,
+};
+use link_lines_values::traffic_layouts::{TC_MIRRED, TC_PRIO_QOPT, TC_U32_KEY, TC_U32_SEL};
 
 /// A line of a `nexthop_grp`.
 pub const NEXTHOP_GRP_LINE: RecordLine = RecordLineOf(b"nexthop_grp", NEXTHOP_GRP);
@@ -59,6 +62,12 @@ pub const BR_PORT_MSG_LINE: RecordLine = RecordLineOf(b"br_port_msg", BR_PORT_MS
 /// A line of a `rtgenmsg`.
 pub const RTGENMSG_LINE: RecordLine = RecordLineOf(b"rtgenmsg", RTGENMSG);
 
+/// A line of the address family alone.
+pub const RTGEN_LINE: RecordLine = RecordLineOf(b"rtgen", RTGEN);
+
+/// A line of an `ifinfomsg` in a request for other objects than links.
+pub const IFINFOMSG_LINE: RecordLine = RecordLineOf(b"ifinfomsg", IFINFOMSG);
+
 /// A line of a `if_stats_msg`.
 pub const IF_STATS_MSG_LINE: RecordLine = RecordLineOf(b"if_stats_msg", IF_STATS_MSG);
 
@@ -79,3 +88,24 @@ pub const TC_PRIO_QOPT_LINE: RecordLine = RecordLineOf(b"tc_prio_qopt", TC_PRIO_
 
 /// A line of a `tc_mirred`.
 pub const TC_MIRRED_LINE: RecordLine = RecordLineOf(b"tc_mirred", TC_MIRRED);
+
+/// A line of a `tc_u32_sel`.
+pub const TC_U32_SEL_LINE: RecordLine = RecordLineOf(b"tc_u32_sel", TC_U32_SEL);
+
+/// A line of a `tc_u32_key`.
+pub const TC_U32_KEY_LINE: RecordLine = RecordLineOf(b"tc_u32_key", TC_U32_KEY);
+
+/// A line of a `seg6_iptunnel_encap`.
+pub const SEG6_IPTUNNEL_ENCAP_LINE: RecordLine = RecordLineOf(
+    b"seg6_iptunnel_encap",
+    SEG6_IPTUNNEL_ENCAP,
+);
+
+/// A line of an `ipv6_sr_hdr`.
+pub const IPV6_SR_HDR_LINE: RecordLine = RecordLineOf(b"ipv6_sr_hdr", IPV6_SR_HDR);
+
+/// A line of an `ipv6_rpl_sr_hdr`.
+pub const IPV6_RPL_SR_HDR_LINE: RecordLine = RecordLineOf(b"ipv6_rpl_sr_hdr", IPV6_RPL_SR_HDR);
+
+/// A line of a segment of a routing header.
+pub const SEGMENT_LINE: RecordLine = RecordLineOf(b"segment", SEGMENT);

@@ -10,7 +10,10 @@ use crate::raw_tables::{
     BPF_PROGRAM, ERSPAN_OPTION, GENEVE_OPTION, MPLS_ROUTE, MROUTE, ROUTE, ROUTE_METRICS,
     SEG6_LOCAL_BPF, SEG6_LOCAL_COUNTERS, SEG6_LOCAL_FLAVORS, TUNNEL_OPTIONS, VXLAN_OPTION,
 };
-use crate::rows::RawBy::{Chosen, Hops, List, Value};
+use crate::records::{
+    IPV6_RPL_SR_HDR_LINE, IPV6_SR_HDR_LINE, SEG6_IPTUNNEL_ENCAP_LINE, SEGMENT_LINE,
+};
+use crate::rows::RawBy::{Chosen, HeadAndRecords, Hops, List, Value};
 use crate::rows::{Choice, RawRow};
 use link_lines_values::ExactBy::{
     Address, Bytes, Counters, Labels, Number, Record, Sized, Text, Via,
@@ -151,7 +154,7 @@ pub const ENCAP_IP6_ROWS: &[RawRow] = &raw_rows_in! {
 
 /// Encap seg6 (seg6_iptunnel.h: SEG6_IPTUNNEL_*).
 pub const ENCAP_SEG6_ROWS: &[RawRow] = &raw_rows_in! {
-    1, b"SEG6_IPTUNNEL_SRH", Value(Bytes);
+    1, b"SEG6_IPTUNNEL_SRH", HeadAndRecords(SEG6_IPTUNNEL_ENCAP_LINE, SEGMENT_LINE);
     2, b"SEG6_IPTUNNEL_SRC", Value(Sized(16, ShownBy::Address));
     3, b"SEG6_IPTUNNEL_TABLE", Value(Number(4));
 };
@@ -167,7 +170,7 @@ pub const ENCAP_BPF_ROWS: &[RawRow] = &raw_rows_in! {
 /// Encap seg6 local (seg6_local.h: SEG6_LOCAL_*).
 pub const ENCAP_SEG6_LOCAL_ROWS: &[RawRow] = &raw_rows_in! {
     1, b"SEG6_LOCAL_ACTION", Value(Sized(4, ShownBy::Number(SEG6_LOCAL_ACTION)));
-    2, b"SEG6_LOCAL_SRH", Value(Bytes);
+    2, b"SEG6_LOCAL_SRH", HeadAndRecords(IPV6_SR_HDR_LINE, SEGMENT_LINE);
     3, b"SEG6_LOCAL_TABLE", Value(Number(4));
     4, b"SEG6_LOCAL_NH4", Value(Sized(4, ShownBy::Address));
     5, b"SEG6_LOCAL_NH6", Value(Sized(16, ShownBy::Address));
@@ -181,7 +184,7 @@ pub const ENCAP_SEG6_LOCAL_ROWS: &[RawRow] = &raw_rows_in! {
 
 /// Encap rpl (rpl_iptunnel.h: RPL_IPTUNNEL_SRH).
 pub const ENCAP_RPL_ROWS: &[RawRow] = &raw_rows_in! {
-    1, b"RPL_IPTUNNEL_SRH", Value(Bytes);
+    1, b"RPL_IPTUNNEL_SRH", HeadAndRecords(IPV6_RPL_SR_HDR_LINE, SEGMENT_LINE);
 };
 
 /// Encap ioam6 (ioam6_iptunnel.h: IOAM6_IPTUNNEL_*).
@@ -256,7 +259,7 @@ pub const SEG6_LOCAL_FLAVORS_ROWS: &[RawRow] = &raw_rows_in! {
 
 /// Returns the rows of a table, by its index from that of the first table here on.
 #[tactic(auto, unfolding(crate::specs::Tables::route_rows))]
-pub(crate) fn rows(index: u8) -> &'static [RawRow]
+pub(crate) fn rows(index: u16) -> &'static [RawRow]
     ensures rows { raw_rows_in_code (λ b. b.now) result.now ≡ get_or route_rows index [] }
     ensures dense { are_dense result.now ≡ true }
 {

@@ -34,6 +34,8 @@ pub enum RawBy<X, L> {
     Chosen(Choice, u16),
     /// A record, followed by attributes of that table.
     Head(L, RawTable),
+    /// A record, followed by records of another kind.
+    HeadAndRecords(L, L),
     /// Next hops, each with attributes of that table (rtnetlink.h: struct rtnexthop).
     Hops(RawTable),
     /// Records, one after the other.

@@ -178,7 +178,7 @@ pub const MPLS_STATS_ROWS: &[RawRow] = &raw_rows_in! {
 
 /// Returns the rows of a table, by its index from that of the first table here on.
 #[tactic(auto, unfolding(crate::specs::Tables::traffic_rows))]
-pub(crate) fn rows(index: u8) -> &'static [RawRow]
+pub(crate) fn rows(index: u16) -> &'static [RawRow]
     ensures rows { raw_rows_in_code (λ b. b.now) result.now ≡ get_or traffic_rows index [] }
     ensures dense { are_dense result.now ≡ true }
 {

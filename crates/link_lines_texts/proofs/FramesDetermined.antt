@@ -25,15 +25,13 @@ use Rattle.link_lines_texts.specs.Format.{is_canonical_peer}
 use Rattle.link_lines_texts.specs.Links.{link_numbers}
 use Rattle.link_lines_texts.specs.Lists.{in_peer}
 use Rattle.link_lines_texts.specs.declared.format.Scope.{Scope}
-use Rattle.link_lines_raw.specs.declared.bodies.BodyRow.{BodyRow}
-use Rattle.link_lines_raw.specs.declared.bodies.Header.TheVariants as H
 use Rattle.link_lines_raw.specs.declared.bodies.TheConstants.{BODIES}
 use Rattle.link_lines_raw.specs.Acknowledgements.{acknowledgement_lines, is_acknowledgement}
 use Rattle.link_lines_raw.specs.Attributes.{record_words}
-use Rattle.link_lines_raw.specs.Bodies.{body_lines as raw_body_lines, first_fitting, header_line as body_header, is_general, record_and_list, row_lines}
+use Rattle.link_lines_raw.specs.Bodies.{body_lines as raw_body_lines, first_fitting, header_line as body_header, record_and_list}
 use Rattle.link_lines_raw.specs.Lines.{IsShallow, Line, lines_text}
 use Rattle.link_lines_raw.proofs.AcknowledgementsDetermined.{acknowledgements_determined}
-use Rattle.link_lines_raw.proofs.BodiesDetermined.{bodies_determined as bodies_are_determined}
+use Rattle.link_lines_raw.proofs.BodiesDetermined.{bodies_determined as bodies_are_determined, row_holds}
 use Rattle.std.proofs.lemmas.Option.{same_Some}
 use Rattle.link_lines_texts.specs.Determination.{AreKnown, FramesAreDetermined, IsCanonicalFrame, NumbersAreKnown, StartsFrame}
 use Rattle.link_lines_texts.proofs.LineCuts.{following, cut_line}
@@ -346,16 +344,11 @@ unfolding lines_text
 record_by true line more lines e = subst (λ z. BeginsWithIndent (lines_text z)) (same_Some ((1, line.1) ∷ more) lines e) (_, refl)
 record_by false line more lines e = absurd cc
 
-row_by : (o : Option BodyRow) (n : ℕ) (p : List ℕ) (lines : List Line) → row_lines o n p ≡ Some lines → BeginsWithIndent (lines_text lines)
-row_by None n p lines e = absurd cc
-row_by (Some row) n p lines e =
-    cond_both (is_general n (body_header row.4) p) (record_and_list (body_header H.Rtgenmsg) None p) (record_and_list (body_header row.4) row.5 p)
-    (λ z. z ≡ Some lines → BeginsWithIndent (lines_text lines)) (λ i. record_by _ (1, record_words (body_header H.Rtgenmsg) _) _ lines) (λ i. record_by _ (1, record_words (body_header row.4) _) _ lines) e
-
 -- The lines of a body begin with a space.
 begin : (n : ℕ) (request : Bool) (p : List ℕ) (lines : List Line) → raw_body_lines n request p ≡ Some lines → BeginsWithIndent (lines_text lines)
 unfolding raw_body_lines
-begin n request p lines = row_by (first_fitting BODIES.now n request p) n p lines
+begin n request p lines =
+    row_holds (λ o. o ≡ Some lines → BeginsWithIndent (lines_text lines)) n p (λ h table. record_by _ (1, record_words (body_header h) _) _ lines) (λ e. absurd cc) (first_fitting BODIES.now n request p)
 
 -- The lines of a body are not a line of its bytes, nor the start of what follows a frame's lines.
 lines_differ : (n : ℕ) (request : Bool) (p q s t : List ℕ) (lines : List Line) → raw_body_lines n request p ≡ Some lines → StartsFrame t → lines_text lines ++ s ≡ bytes_line (codes "body") q ++ t → ⊥

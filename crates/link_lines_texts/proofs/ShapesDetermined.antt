@@ -13,13 +13,13 @@ use Rattle.link_lines_values.specs.declared.values.ShownBy.TheVariants as V
 use Rattle.link_lines_values.specs.Bytes.{address_text, is_zero}
 use Rattle.link_lines_values.specs.Digits.{is_signed_size}
 use Rattle.link_lines_values.specs.Laws.{AllKnown, HoldsFields, IsKnown}
-use Rattle.link_lines_values.specs.Records.{Field, FieldShown, fields_determine, is_padding, record_text, total_size}
+use Rattle.link_lines_values.specs.Records.{Field, FieldShown, fields_determine, has_no_booleans, is_no_boolean, record_text, total_size}
 use Rattle.link_lines_values.proofs.BytesDetermined.{bytes_determined}
 use Rattle.link_lines_values.proofs.NumbersDetermined.{numbers_determined}
-use Rattle.link_lines_values.proofs.RecordsDetermined.{records_determined}
+use Rattle.link_lines_values.proofs.RecordsDetermined.{all_known, known_field, records_determined}
 use Rattle.link_lines_values.proofs.SizesDetermined.{sizes_determined}
 use Rattle.link_lines_values.proofs.ValuesDetermined.{addresses_determined, settings_determined}
-use Rattle.link_lines_texts.specs.Coverage.{canonical_size, is_sized, is_size, is_boolean, is_presence, is_string, is_optional, is_address, is_shown_number, are_shown_numbers, is_setting, has_fields}
+use Rattle.link_lines_texts.specs.Coverage.{canonical_size, is_sized, is_size, is_boolean, is_presence, is_string, is_optional, is_address, is_setting, has_fields}
 use Rattle.link_lines_texts.specs.Determination.{IsCanonical, ShapesAreDetermined}
 
 abbrev CanonicalPayload : Shape → List ℕ → Type 0
@@ -99,32 +99,21 @@ boolean_sized s h = absurd cc
 
 -- ---- records
 
-never_boolean : (v : FieldShown) (p : List ℕ) → is_shown_number v ≡ true → IsKnown v p
-never_boolean F.Boolean p h = absurd cc
-never_boolean F.Padding p h = absurd cc
-never_boolean v p h = record {}
-
-no_booleans : (fs : List Field) (p : List ℕ) → are_shown_numbers fs ≡ true → AllKnown fs p
-no_booleans [] p h = record {}
-no_booleans (f ∷ fs) p h =
-    let both = and_parts (is_shown_number f.2) (are_shown_numbers fs) h in
-    (never_boolean f.2 (take f.1 p) both.0, no_booleans fs (drop f.1 p) both.1)
-
 zeros_are : (n : ℕ) → is_zero (zeros n) ≡ true
 zeros_are zero = refl
 zeros_are (suc n) = zeros_are n
 
 -- A payload that has just the size of its fields.
-whole_record : (s : Shape) (held : List Field) (p : List ℕ) → CanonicalPayload s p → length p ≡ total_size held → are_shown_numbers held ≡ true → HoldsFields held p
+whole_record : (s : Shape) (held : List Field) (p : List ℕ) → CanonicalPayload s p → length p ≡ total_size held → has_no_booleans held ≡ true → HoldsFields held p
 whole_record s held p o l h = record {
   bytes = o.bytes;
   whole = omega (arith, l);
   zeros = ap is_zero (drop_all (total_size held) p (omega (arith, l)));
-  known = no_booleans held (take (total_size held) p) h;
+  known = all_known held (take (total_size held) p) h;
 }
 
 -- A payload in which zeros follow the fields.
-filled_record : (m n : ℕ) (held : List Field) (p : List ℕ) → CanonicalPayload (fixed_record m n) p → total_size held ≡ m → are_shown_numbers held ≡ true → HoldsFields held p
+filled_record : (m n : ℕ) (held : List Field) (p : List ℕ) → CanonicalPayload (fixed_record m n) p → total_size held ≡ m → has_no_booleans held ≡ true → HoldsFields held p
 filled_record m n held p o l h =
     let long = leb-true m (length p) o.accepted in
     let prefix : length (take m p) ≡ m = omega (arith, length-take m p, long) in
@@ -133,32 +122,30 @@ filled_record m n held p o l h =
       bytes = o.bytes;
       whole = omega (arith, l, long);
       zeros = ap (λ k. is_zero (drop k p)) l ∙ ap is_zero rest ∙ zeros_are (n - m);
-      known = no_booleans held (take (total_size held) p) h;
+      known = all_known held (take (total_size held) p) h;
     }
 
-either_record : (m n : ℕ) (held : List Field) (p : List ℕ) (t : Bool) → (total_size held == n) ≡ t → CanonicalPayload (fixed_record m n) p → m ≤ n → (t || (total_size held == m)) ≡ true → are_shown_numbers held ≡ true → HoldsFields held p
+either_record : (m n : ℕ) (held : List Field) (p : List ℕ) (t : Bool) → (total_size held == n) ≡ t → CanonicalPayload (fixed_record m n) p → m ≤ n → (t || (total_size held == m)) ≡ true → has_no_booleans held ≡ true → HoldsFields held p
 either_record m n held p true e o l h k =
     let long = leb-true m (length p) o.accepted in
     whole_record (fixed_record m n) held p o (record_length m n p l long o.canonical ∙ sym (eqb-true (total_size held) n e)) k
 either_record m n held p false e o l h k = filled_record m n held p o (eqb-true (total_size held) m h) k
 
-known_setting : (v : FieldShown) (p : List ℕ) → not (is_padding v) ≡ true → number p ≤ 1 → IsKnown v p
-known_setting F.Boolean p e h = h
-known_setting F.Padding p e h = absurd cc
-known_setting v p e h = record {}
+known_setting : (v : FieldShown) (p : List ℕ) → number p ≤ 1 → IsKnown v p
+known_setting F.Boolean p h = h
+known_setting v p h = record {}
 
 -- A number and a boolean of 4 bytes each.
 setting_known : (fs : List Field) (p : List ℕ) → is_setting fs ≡ true → number (drop 4 p) ≤ 1 → length p ≡ 8 → (total_size fs ≡ 8) × AllKnown fs p
 setting_known (f ∷ g ∷ []) p h n l =
-    let first = and_parts (f.1 == 4) (is_shown_number f.2 && ((g.1 == 4) && not (is_padding g.2))) h in
-    let second = and_parts (is_shown_number f.2) ((g.1 == 4) && not (is_padding g.2)) first.1 in
-    let third = and_parts (g.1 == 4) (not (is_padding g.2)) second.1 in
+    let first = and_parts (f.1 == 4) (is_no_boolean f.2 && (g.1 == 4)) h in
+    let second = and_parts (is_no_boolean f.2) (g.1 == 4) first.1 in
     let a = eqb-true f.1 4 first.0 in
-    let b = eqb-true g.1 4 third.0 in
+    let b = eqb-true g.1 4 second.1 in
     let back : length (drop 4 p) ≡ 4 = omega (arith, length-drop 4 p, l) in
     let same : take g.1 (drop f.1 p) ≡ drop 4 p = (λ i. take (b i) (drop (a i) p)) ∙ take_all 4 (drop 4 p) (omega (arith, back)) in
     let small : number (take g.1 (drop f.1 p)) ≤ 1 = subst (λ q. number q ≤ 1) (sym same) n in
-    (omega (arith, a, b), (never_boolean f.2 (take f.1 p) second.0, (known_setting g.2 (take g.1 (drop f.1 p)) third.1 small, record {})))
+    (omega (arith, a, b), (known_field f.2 (take f.1 p) second.0, (known_setting g.2 (take g.1 (drop f.1 p)) small, record {})))
 setting_known fs p h n l = absurd cc
 
 setting_record : (held : List Field) (p : List ℕ) → CanonicalPayload id_and_boolean p → is_setting held ≡ true → HoldsFields held p
@@ -179,15 +166,15 @@ setting_record held p o h =
 
 holds : (s : Shape) (held : List Field) (p : List ℕ) → has_fields s held ≡ true → CanonicalPayload s p → HoldsFields held p
 holds (exact n) held p h o =
-    let both = and_parts (total_size held == n) (are_shown_numbers held) h in
+    let both = and_parts (total_size held == n) (has_no_booleans held) h in
     whole_record (exact n) held p o (eqb-true (length p) n o.accepted ∙ sym (eqb-true (total_size held) n both.0)) both.1
 holds (resized n) held p h o =
-    let both = and_parts (total_size held == n) (are_shown_numbers held) h in
+    let both = and_parts (total_size held == n) (has_no_booleans held) h in
     whole_record (resized n) held p o (resized_length n p o.canonical ∙ sym (eqb-true (total_size held) n both.0)) both.1
 holds (fixed_record m n) held p h o =
     let total = total_size held in
-    let both = and_parts (nat_le m n) (((total == n) || (total == m)) && are_shown_numbers held) h in
-    let more = and_parts ((total == n) || (total == m)) (are_shown_numbers held) both.1 in
+    let both = and_parts (nat_le m n) (((total == n) || (total == m)) && has_no_booleans held) h in
+    let more = and_parts ((total == n) || (total == m)) (has_no_booleans held) both.1 in
     either_record m n held p (total == n) refl o (leb-true m n both.0) more.0 more.1
 holds id_and_boolean held p h o = setting_record held p o h
 holds s held p h o = absurd cc
@@ -232,9 +219,9 @@ optional_size s p h o = absurd cc
 
 -- ---- a format that determines the shape
 
-record_determined : (s : Shape) (sparse : Bool) (fields : List Field) (p q : List ℕ) → (fields_determine fields && has_fields s fields) ≡ true → CanonicalPayload s p → CanonicalPayload s q → record_text sparse fields p ≡ record_text sparse fields q → p ≡ q
+record_determined : (s : Shape) (sparse : Bool) (fields : List Field) (p q : List ℕ) → (fields_determine 61 fields && has_fields s fields) ≡ true → CanonicalPayload s p → CanonicalPayload s q → record_text sparse fields p ≡ record_text sparse fields q → p ≡ q
 record_determined s sparse fields p q h o u e =
-    let parts = and_parts (fields_determine fields) (has_fields s fields) h in
+    let parts = and_parts (fields_determine 61 fields) (has_fields s fields) h in
     let k = parts.1 in
     records_determined sparse fields p q parts.0 (holds s fields p k o) (holds s fields q k u) (same_length s (λ n. true) p q (record_lengths s fields k) o u) e
 

@@ -16,7 +16,7 @@ use Rattle.link_lines_values.specs.Bytes.{bytes_text, hex_text, is_zero}
 use Rattle.link_lines_values.specs.Digits.{big_endian, is_number}
 use Rattle.link_lines_values.specs.Exact.{Exact, exact_text, label_after, label_text, label_value, pieces_text, raw_value, takes}
 use Rattle.link_lines_values.specs.Names.{named_number}
-use Rattle.link_lines_values.specs.Records.{Field, FieldShown, counter_name, counters_text, field_text, has_zero_padding, is_counters, slots_text, title_or, total_size}
+use Rattle.link_lines_values.specs.Records.{Field, FieldShown, counter_name, counters_text, field_text, is_counters, slots_text, title_or, total_size}
 use Rattle.link_lines_values.specs.Values.{number_value}
 use Rattle.link_lines_texts.specs.Growth.{allowance, are_short_counters, factor, field_most, fields_most, is_short_exact, leaves_space, longest_title}
 use Rattle.link_lines_texts.proofs.ShortBytes.{bytes_text_short, hardware_text_short, hex_text_short, ipv4_text_short, ipv6_text_short, quoted_short}
@@ -154,7 +154,7 @@ exact_short extra E.BridgeId p h k t a = bridge_short extra p h
 exact_short extra E.Labels p h k t a = labels_short extra p h a t
 exact_short extra E.Via p h k t a = via_short extra p h a
 exact_short extra (E.Record fs) p h k t a =
-    omega (arith, leb-true (extra + fields_most fs) (allowance + factor * total_size fs) k, eqb-true (length p) (total_size fs) (and_parts (length p == total_size fs) (has_zero_padding fs p) t).0, fields_short 61 false fs p a)
+    omega (arith, leb-true (extra + fields_most fs) (allowance + factor * total_size fs) k, eqb-true (length p) (total_size fs) t, fields_short 61 false fs p a)
 exact_short extra (E.Counters fs) p h k t a = counters_short extra fs p h k (ltb-true (length p) 18446744073709551616 (and_parts (is_counters fs p) _ t).1) a
 
 pub raw_value_short : (extra : ℕ) (x : Exact) (p : List ℕ) → leaves_space extra ≡ true → is_short_exact extra x ≡ true → AreBytes p → IsShort extra (raw_value x p) p

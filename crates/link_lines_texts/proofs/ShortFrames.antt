@@ -21,7 +21,6 @@ use Rattle.link_lines_values.specs.Digits.{half_of, is_signed_size, signed_by}
 use Rattle.link_lines_values.specs.Names.{Text, bracketed, named_signed, text_in}
 use Rattle.link_lines_values.specs.NumberTexts.{number_texts}
 use Rattle.link_lines_values.specs.Values.{value_text}
-use Rattle.link_lines_raw.specs.declared.bodies.BodyRow.{BodyRow}
 use Rattle.link_lines_raw.specs.declared.bodies.Header.{Header}
 use Rattle.link_lines_raw.specs.declared.bodies.Header.TheVariants as H
 use Rattle.link_lines_raw.specs.declared.bodies.TheConstants.{BODIES}
@@ -30,11 +29,12 @@ use Rattle.link_lines_raw.specs.declared.raw_tables.RawTable.{RawTable}
 use Rattle.link_lines_raw.specs.declared.raw_tables.TheConstants.{ACKNOWLEDGEMENT}
 use Rattle.link_lines_raw.specs.Acknowledgements.{acknowledgement_lines}
 use Rattle.link_lines_raw.specs.Attributes.{record_words}
-use Rattle.link_lines_raw.specs.Bodies.{body_lines as raw_body_lines, first_fitting, header_line as raw_header_line, is_general, is_record_and_list, list_lines_of, record_and_list, record_and_list_lines, row_lines}
+use Rattle.link_lines_raw.specs.Bodies.{body_lines as raw_body_lines, first_fitting, header_line as raw_header_line, is_record_and_list, list_lines_of, record_and_list, record_and_list_lines}
+use Rattle.link_lines_raw.proofs.BodiesDetermined.{row_holds}
 use Rattle.link_lines_raw.specs.Lines.{Line, line_text, lines_text}
 use Rattle.link_lines_raw.specs.Rows.{RecordLine}
 use Rattle.link_lines_raw.proofs.Spans.{first_line_text, no_text}
-use Rattle.link_lines_values.specs.Records.{total_size}
+use Rattle.link_lines_values.specs.Records.{fields_text, total_size}
 use Rattle.link_lines_texts.specs.declared.format.Scope.{Scope}
 use Rattle.link_lines_texts.specs.Captures.{Choice, is_chosen, shown_lines, text_lines}
 use Rattle.link_lines_texts.specs.Format.{is_canonical_peer}
@@ -42,13 +42,13 @@ use Rattle.link_lines_texts.specs.Frames.{after_code, body_lines, code_lines, co
 use Rattle.link_lines_texts.specs.Links.{link_header_line}
 use Rattle.link_lines_texts.specs.Lists.{in_peer, list_lines, of_link}
 use Rattle.link_lines_texts.proofs.FrameUnfolding.{stopped, whole}
-use Rattle.link_lines_texts.specs.Growth.{factor, is_short_line, joined_size, longest}
+use Rattle.link_lines_texts.specs.Growth.{factor, fields_most, is_short_first_line, joined_size, longest}
 use Rattle.link_lines_texts.specs.Laws.{LinesAreShort}
 use Rattle.link_lines_texts.proofs.ShortBytes.{bytes_text_short}
 use Rattle.link_lines_texts.proofs.ShortNumbers.{IsSize, decimal_short, flags_short, name_short, signed_short, text_short}
-use Rattle.link_lines_texts.proofs.ShortRawLists.{listed_lines_short, words_short}
+use Rattle.link_lines_texts.proofs.ShortRawLists.{listed_lines_short}
 use Rattle.link_lines_texts.proofs.ShortLists.{header_short, list_short, u16_small, u32_small}
-use Rattle.link_lines_texts.proofs.ShortValues.{both}
+use Rattle.link_lines_texts.proofs.ShortValues.{both, fields_short}
 
 -- ---- lines of bytes
 
@@ -223,7 +223,7 @@ code_short numbers t flags b a =
 
 -- ---- other bodies
 
-headers_short : (h : Header) → is_short_line (raw_header_line h) ≡ true
+headers_short : (h : Header) → is_short_first_line (raw_header_line h) ≡ true
 unfolding raw_header_line layout_fields number_texts
 headers_short H.Timestamp = refl
 headers_short h = refl
@@ -237,7 +237,7 @@ abbrev AreLinesShort : Option (List Line) → List ℕ → Type 0
 AreLinesShort None b = ⊤
 AreLinesShort (Some lines) b = length (lines_text lines) ≤ factor * length b
 
-record_by : (line : RecordLine) (table : Option RawTable) (b : List ℕ) → is_short_line line ≡ true → AreBytes b → is_record_and_list line table b ≡ true → length (lines_text (record_and_list_lines line table b)) ≤ factor * length b
+record_by : (line : RecordLine) (table : Option RawTable) (b : List ℕ) → is_short_first_line line ≡ true → AreBytes b → is_record_and_list line table b ≡ true → length (lines_text (record_and_list_lines line table b)) ≤ factor * length b
 record_by line table b k a e =
     let n = total_size line.1 in
     let words = record_words line (take n b) in
@@ -245,7 +245,9 @@ record_by line table b k a e =
     omega (
       arith,
       leb-true n (length b) (and_parts (nat_le n (length b)) _ e).0,
-      words_short line (take n b) k (AreBytes-take n b a),
+      leb-true (3 + length line.0 + fields_most line.1) (factor * n) k,
+      fields_short 32 false line.1 (take n b) (AreBytes-take n b a),
+      length-append line.0 (fields_text 32 false line.1 (take n b)),
       list_of_short table (drop n b) (AreBytes-drop n b a),
       length-drop n b,
       ap length (first_line_text (1, words) list),
@@ -253,18 +255,13 @@ record_by line table b k a e =
       length-append words (10 ∷ []),
     )
 
-record_short : (line : RecordLine) (table : Option RawTable) (b : List ℕ) → is_short_line line ≡ true → AreBytes b → AreLinesShort (record_and_list line table b) b
+record_short : (line : RecordLine) (table : Option RawTable) (b : List ℕ) → is_short_first_line line ≡ true → AreBytes b → AreLinesShort (record_and_list line table b) b
 record_short line table b k a = cond_both (is_record_and_list line table b) (Some (record_and_list_lines line table b)) None (λ o. AreLinesShort o b) (λ e. record_by line table b k a e) (λ e. record {})
-
-row_short : (o : Option BodyRow) (t : ℕ) (b : List ℕ) → AreBytes b → AreLinesShort (row_lines o t b) b
-row_short None t b a = record {}
-row_short (Some row) t b a =
-    cond_both (is_general t (raw_header_line row.4) b) (record_and_list (raw_header_line H.Rtgenmsg) None b) (record_and_list (raw_header_line row.4) row.5 b) (λ o. AreLinesShort o b)
-    (λ e. record_short (raw_header_line H.Rtgenmsg) None b (headers_short H.Rtgenmsg) a) (λ e. record_short (raw_header_line row.4) row.5 b (headers_short row.4) a)
 
 raw_body_short : (t : ℕ) (is_request : Bool) (b : List ℕ) → AreBytes b → AreLinesShort (raw_body_lines t is_request b) b
 unfolding raw_body_lines
-raw_body_short t is_request b a = row_short (first_fitting BODIES.now t is_request b) t b a
+raw_body_short t is_request b a =
+    row_holds (λ o. AreLinesShort o b) t b (λ h table. record_short (raw_header_line h) table b (headers_short h) a) (record {}) (first_fitting BODIES.now t is_request b)
 
 or_bytes_short : (o : Option (List Line)) (b : List ℕ) → AreLinesShort o b → length (or_bytes o b) ≤ factor * length b
 or_bytes_short None b h = bytes_line_short (codes "body") b (omega arith)

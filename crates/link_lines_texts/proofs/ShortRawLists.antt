@@ -1,6 +1,6 @@
 -- How long the lines of raw lists are.
 use Rattle.std.proofs.Common.{◌≡◌, ℕ, zero, suc, ◌+◌, ◌*◌, ◌-◌, ◌%◌, ◌<◌, ◌≤◌, Bool, true, false, cond, List, [], ◌∷◌, ◌++◌, length, take, drop, Option, Some, None, refl, sym, ap, subst, ◌∙◌, arith}
-use Rattle.std.specs.Prelude.{⊤, ◌==◌, codes, nat_le, option_map}
+use Rattle.std.specs.Prelude.{⊤, ◌==◌, ◌&&◌, codes, nat_le, option_map}
 use Rattle.std.specs.Fmt.{decimal}
 use Rattle.std.proofs.lemmas.Bool.{and_parts, cond_both, le-leb, leb-true}
 use Rattle.std.proofs.lemmas.Fmt.{length-decimal-le}
@@ -12,7 +12,7 @@ use Rattle.netlink_packet_core_grammar.specs.Numbers.{u16_at}
 use Rattle.netlink_packet_core_grammar.proofs.Attributes.{sized}
 use Rattle.netlink_packet_core_grammar.proofs.Bytes.{AreBytes-drop, AreBytes-first_attribute, AreBytes-take}
 use Rattle.link_lines_parts.specs.Levels.{deepest_level}
-use Rattle.link_lines_parts.specs.Whole.{is_padded, padding_after, shown_padding}
+use Rattle.link_lines_parts.specs.Whole.{is_padded, is_whole, padding_after, shown_padding}
 use Rattle.link_lines_values.specs.Bytes.{bytes_text}
 use Rattle.link_lines_values.specs.DenseRows.{find}
 use Rattle.link_lines_values.specs.Digits.{four_digits}
@@ -24,7 +24,7 @@ use Rattle.link_lines_raw.specs.declared.lists.ListedBy.TheVariants as L
 use Rattle.link_lines_raw.specs.declared.raw_tables.RawTable.{RawTable}
 use Rattle.link_lines_raw.specs.declared.raw_tables.TheConstants.{INDEXED_ACTION, INDEXED_IPV4, INDEXED_IPV6}
 use Rattle.link_lines_raw.specs.declared.rows.RawBy.TheVariants as R
-use Rattle.link_lines_raw.specs.Attributes.{after_name, has_nested_bit, index_name, indexed_row, is_first_record, is_headed, is_next_hop, is_shown, named_text, nested_word, next_hop_line, plain_bytes, proper_row, raw_row, raw_text, record_words, row_or_index}
+use Rattle.link_lines_raw.specs.Attributes.{after_name, are_records_after, has_nested_bit, index_name, indexed_row, is_first_record, is_headed, is_next_hop, is_shown, named_text, nested_word, next_hop_line, plain_bytes, proper_row, raw_row, raw_text, record_words, row_or_index}
 use Rattle.link_lines_raw.specs.Choices.{choices_of, payload_after, resolved}
 use Rattle.link_lines_raw.specs.Coverage.{in_each}
 use Rattle.link_lines_raw.specs.Lines.{line_text, lines_text}
@@ -135,6 +135,7 @@ held_short_by extra (R.Chosen choice kind) h = refl
 held_short_by extra (R.Value shown) h = h
 held_short_by extra (R.List table) h = h
 held_short_by extra (R.Head line table) h = h
+held_short_by extra (R.HeadAndRecords head line) h = h
 held_short_by extra (R.Hops table) h = h
 held_short_by extra (R.Records line) h = h
 
@@ -144,20 +145,28 @@ resolved_short extra (R.Chosen choice kind) list h = chosen_or_holds (is_short_h
 resolved_short extra (R.Value shown) list h = h
 resolved_short extra (R.List table) list h = h
 resolved_short extra (R.Head line table) list h = h
+resolved_short extra (R.HeadAndRecords head line) list h = h
 resolved_short extra (R.Hops table) list h = h
 resolved_short extra (R.Records line) list h = h
+
+-- A record at the start of a payload, and what follows it.
+headed_block : (extra level : ℕ) (line : RecordLine) (test : List ℕ → Bool) (inside : List ℕ → Listed) (p : List ℕ) → leaves_space extra ≡ true → is_short_line line ≡ true → AreBytes p → (nat_le (level + 0) deepest_level && is_headed test line p) ≡ true →
+    IsShortBlock extra [] level (Some (record_words line (take (total_size line.1) p))) (Some (inside p, drop (total_size line.1) p)) p
+headed_block extra level line test inside p h k a e =
+    let n = total_size line.1 in
+    let b = and_parts (nat_le (level + 0) deepest_level) (is_headed test line p) e in
+    let c = and_parts (nat_le n (length p)) _ b.1 in
+    let words = record_words line (take n p) in
+    omega (arith, space extra h, line_size level words (omega (arith, leb-true (level + 0) deepest_level b.0)), words_short line (take n p) k (AreBytes-take n p a), leb-true n (length p) c.0, length-drop n p)
 
 -- A payload that lines show.
 shown_block : (extra level : ℕ) (raw : Raw) (p : List ℕ) → leaves_space extra ≡ true → is_short_held extra raw ≡ true → AreBytes p → is_shown level raw p ≡ true → IsShortBlock extra [] level (head_of raw p) (listed_in raw p) p
 shown_block extra level (R.Value shown) p h k a e = omega (arith, space extra h)
 shown_block extra level (R.List table) p h k a e = omega (arith, space extra h)
 shown_block extra level (R.Chosen choice kind) p h k a e = omega (arith, space extra h)
-shown_block extra level (R.Head line table) p h k a e =
-    let n = total_size line.1 in
-    let b = and_parts (nat_le (level + 0) deepest_level) (is_headed line p) e in
-    let c = and_parts (nat_le n (length p)) _ b.1 in
-    let words = record_words line (take n p) in
-    omega (arith, space extra h, line_size level words (omega (arith, leb-true (level + 0) deepest_level b.0)), words_short line (take n p) k (AreBytes-take n p a), leb-true n (length p) c.0, length-drop n p)
+shown_block extra level (R.Head line table) p h k a e = headed_block extra level line is_whole (λ q. L.Attributes table (drop (total_size line.1) q)) p h k a e
+shown_block extra level (R.HeadAndRecords head line) p h k a e =
+    headed_block extra level head (are_records_after line.1 0) (λ q. L.Records line) p h (and_parts (is_short_line head) (is_short_line line) k).0 a e
 shown_block extra level (R.Hops table) p h k a e = omega (arith, space extra h)
 shown_block extra level (R.Records line) p h k a e = omega (arith, space extra h)
 
@@ -181,6 +190,7 @@ listed_short extra (R.Value shown) p k a = record {}
 listed_short extra (R.List table) p k a = (record {}, a)
 listed_short extra (R.Chosen choice kind) p k a = record {}
 listed_short extra (R.Head line table) p k a = (record {}, AreBytes-drop (total_size line.1) p a)
+listed_short extra (R.HeadAndRecords head line) p k a = ((and_parts (is_short_line head) (is_short_line line) k).1, AreBytes-drop (total_size head.1) p a)
 listed_short extra (R.Hops table) p k a = (record {}, a)
 listed_short extra (R.Records line) p k a = (k, a)
 

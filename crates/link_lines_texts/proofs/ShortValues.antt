@@ -14,9 +14,9 @@ use Rattle.link_lines_values.specs.declared.fields.FieldShownBy.TheVariants as F
 use Rattle.link_lines_values.specs.declared.values.ShownBy.TheVariants as S
 use Rattle.link_lines_values.specs.Bytes.{address_text, bytes_text, hex_text, is_zero}
 use Rattle.link_lines_values.specs.Digits.{big_endian, half_of, hex_number, is_number, is_signed_size, signed_by}
-use Rattle.link_lines_values.specs.Flags.{flags_text, word_flags}
+use Rattle.link_lines_values.specs.Flags.{big_endian_flags, flags_text, word_flags}
 use Rattle.link_lines_values.specs.Names.{Text, bracketed, named_number, named_signed, text_in}
-use Rattle.link_lines_values.specs.Records.{Field, FieldShown, field_text, field_value, fields_text, group_address, group_text, handle_text, is_hidden, record_text, total_size}
+use Rattle.link_lines_values.specs.Records.{Field, FieldShown, field_text, field_value, fields_text, group_address, group_text, handle_text, is_hidden, record_text, total_size, weight_text}
 use Rattle.link_lines_values.specs.Values.{Shown, flags_and_mask_value, named_flags_value, optional_byte_value, port_range_value, value_text}
 use Rattle.link_lines_texts.specs.Growth.{allowance, factor, field_most, fields_most, is_short_value, joined_size, leaves_space, longest}
 use Rattle.link_lines_texts.proofs.ShortBytes.{boolean_text_short, bytes_text_short, colons_short, hardware_text_short, hex_text_short, ipv4_text_short, ipv6_text_short, padded_address_short, padded_text_short, quoted_short}
@@ -51,6 +51,26 @@ number_field : (texts : List Text) (p : List ℕ) (size n : ℕ) → length p �
 number_field texts p size n l h =
     both (is_number p) (named_number texts n) (hex_text p) (3 * size + 3 + longest texts) (λ e. omega (arith, named_short (length p) texts n (size_of (length p) e) (h e), l)) (λ e. omega (arith, hex_text_short p, l))
 
+all_short : (t : Bool) → length (cond t (codes " (all)") []) ≤ 6
+all_short true = omega arith
+all_short false = omega arith
+
+big_flags_short : (p : List ℕ) → AreBytes p → is_number p ≡ true → length (big_endian_flags p) ≤ 8 + 2 * length p
+big_flags_short p a e =
+    let n = big_endian p in
+    let is_all = (length p == 4) && (n == 4294967295) in
+    omega (arith, hex_number_short (length p) n (size_of (length p) e) (big_small p a), all_short is_all, length-append (hex_number n) (cond is_all (codes " (all)") []))
+
+byte_short : (n : ℕ) → n ≤ 256 → length (decimal n) ≤ 3
+byte_short n h = length-decimal-le 3 n (omega arith) (omega (arith, h)) (omega (arith, h))
+
+weight_short : (p : List ℕ) → AreBytes p → length (weight_text p) ≤ 2 * length p + 17
+weight_short [] a = omega arith
+weight_short (hops ∷ []) a =
+    let weight = decimal (hops + 1) ++ codes ")" in
+    omega (arith, byte_short hops (omega (arith, a.0)), byte_short (hops + 1) (omega (arith, a.0)), length-append (decimal hops) (codes " (weight " ++ weight), length-append (decimal (hops + 1)) (codes ")"))
+weight_short (x ∷ y ∷ p) a = omega (arith, hex_text_short (x ∷ y ∷ p))
+
 -- The value of a field.
 pub field_short : (f : FieldShown) (size : ℕ) (p : List ℕ) → AreBytes p → length p ≤ size → length (field_value f p) ≤ field_most f size
 field_short (F.Number texts) size p a l = number_field texts p size (number p) l (λ e. number_small p a)
@@ -59,6 +79,9 @@ field_short F.Signed size p a l =
 field_short (F.BigEndian texts) size p a l = number_field texts p size (big_endian p) l (λ e. big_small p a)
 field_short (F.Flags names) size p a l =
     both (is_number p) (flags_text names p) (hex_text p) (4 * size + 8 + joined_size names) (λ e. omega (arith, flags_text_short names p a (size_of (length p) e), l)) (λ e. omega (arith, hex_text_short p, l))
+field_short F.BigEndianFlags size p a l =
+    both (is_number p) (big_endian_flags p) (hex_text p) (2 * size + 8) (λ e. omega (arith, big_flags_short p a e, l)) (λ e. omega (arith, hex_text_short p, l))
+field_short F.Weight size p a l = omega (arith, weight_short p a, l)
 field_short F.Address size p a l = omega (arith, padded_address_short p, l)
 field_short F.Boolean size p a l = boolean_text_short p
 field_short (F.Handle texts) size p a l =
@@ -66,7 +89,9 @@ field_short (F.Handle texts) size p a l =
     (λ e. omega (arith, handle_short texts (number p) (omega (arith, ap (λ n. 256 ^ n) (eqb-true (length p) 4 e), number_small p a)))) (λ e. omega (arith, hex_text_short p, l))
 field_short F.Text size p a l = omega (arith, padded_text_short p, l)
 field_short (F.Group texts) size p a l = both (length p == 18) (group_text texts p) (hex_text p) (2 * size + 64 + longest texts) (λ e. omega (arith, group_short texts p a (eqb-true (length p) 18 e))) (λ e. omega (arith, hex_text_short p, l))
-field_short F.Padding size p a l = omega arith
+field_short F.Ipv6 size p a l =
+    both (length p == 16) (ipv6_text (segments_of p)) (hex_text p) (2 * size + 46) (λ e. omega (arith, ipv6_text_short p a (omega (arith, eqb-true (length p) 16 e)))) (λ e. omega (arith, hex_text_short p, l))
+field_short F.Padding size p a l = omega (arith, hex_text_short p, l)
 
 pub one_field : (separator : ℕ) (f : Field) (p : List ℕ) (m : ℕ) → length (field_value f.2 p) ≤ m → length (field_text separator f p) ≤ 2 + length f.0 + m
 one_field separator f p m h = omega (arith, h, length-append f.0 (separator ∷ field_value f.2 p))
@@ -163,7 +188,7 @@ value_short extra least (S.Signed texts) p h k l a =
 value_short extra least S.Flags p h k l a = plain_flags_short extra p h a
 value_short extra least (S.NamedFlags names) p h k l a = flags_value_short extra least names p h k l a
 value_short extra least S.BigEndianFlags p h k l a =
-    or_bytes extra (is_number p) (32 ∷ hex_number (big_endian p)) p h (λ e. omega (arith, space extra h, hex_number_short (length p) (big_endian p) (size_of (length p) e) (big_small p a)))
+    or_bytes extra (is_number p) (32 ∷ big_endian_flags p) p h (λ e. omega (arith, space extra h, big_flags_short p a e))
 value_short extra least S.Boolean p h k l a = omega (arith, space extra h, boolean_text_short p)
 value_short extra least S.Presence p h k l a = omega (arith, space extra h)
 value_short extra least S.OptionalByte p h k l a = optional_short extra p h a

@@ -12,7 +12,7 @@ use Rattle.attribute_tables_grammar.specs.Tables.{Table, Table.end, Table.row, N
 use Rattle.attribute_tables_grammar.specs.Tables.{lacks_name}
 use Rattle.link_lines_values.specs.declared.values.ShownBy.TheVariants as V
 use Rattle.link_lines_values.specs.Digits.{is_signed_size}
-use Rattle.link_lines_values.specs.Records.{Field, FieldShown, fields_determine, is_no_boolean, is_padding}
+use Rattle.link_lines_values.specs.Records.{Field, fields_determine, has_no_booleans, is_no_boolean}
 use Rattle.link_lines_values.specs.Records.{total_size}
 use Rattle.link_lines_values.specs.Values.{Shown}
 use Rattle.link_tables.specs.declared.kinds.TheConstants.{KINDS, PORT_KINDS}
@@ -85,25 +85,17 @@ is_address (exact n) = (n == 4) || (n == 16)
 is_address (either m n) = (m == 4) && (n == 16)
 is_address s = false
 
--- Whether a field is shown, and not as a boolean.
-abbrev pub is_shown_number : FieldShown → Bool
-is_shown_number shown = is_no_boolean shown && not (is_padding shown)
-
--- Whether each field of a record is shown, and not as a boolean.
-abbrev pub are_shown_numbers : List Field → Bool
-are_shown_numbers fs = list_all (λ f. is_shown_number f.2) fs
-
 -- Whether the fields are a number of 4 bytes and another number or a boolean of 4 bytes.
 abbrev pub is_setting : List Field → Bool
-is_setting (f ∷ g ∷ []) = (f.1 == 4) && (is_shown_number f.2 && ((g.1 == 4) && not (is_padding g.2)))
+is_setting (f ∷ g ∷ []) = (f.1 == 4) && (is_no_boolean f.2 && (g.1 == 4))
 is_setting fs = false
 
 -- Whether a canonical payload of the shape holds the fields, followed by zeros only.
 abbrev pub has_fields : Shape → List Field → Bool
-has_fields (exact n) fs = (total_size fs == n) && are_shown_numbers fs
-has_fields (resized n) fs = (total_size fs == n) && are_shown_numbers fs
+has_fields (exact n) fs = (total_size fs == n) && has_no_booleans fs
+has_fields (resized n) fs = (total_size fs == n) && has_no_booleans fs
 has_fields (fixed_record m n) fs =
-    nat_le m n && (((total_size fs == n) || (total_size fs == m)) && are_shown_numbers fs)
+    nat_le m n && (((total_size fs == n) || (total_size fs == m)) && has_no_booleans fs)
 has_fields id_and_boolean fs = is_setting fs
 has_fields s fs = false
 
@@ -124,8 +116,8 @@ shape_determines s V.HardwareAddress = true
 shape_determines s V.Address = is_address s
 shape_determines s V.PortRange = is_sized (canonical_size s) (λ n. n == 4)
 shape_determines s (V.FlagsAndMask names) = is_sized (canonical_size s) (λ n. n == 8)
-shape_determines s (V.Record fields) = fields_determine fields && has_fields s fields
-shape_determines s (V.SparseRecord fields) = fields_determine fields && has_fields s fields
+shape_determines s (V.Record fields) = fields_determine 61 fields && has_fields s fields
+shape_determines s (V.SparseRecord fields) = fields_determine 61 fields && has_fields s fields
 
 -- How the payload under a name is shown, if there is a name.
 abbrev pub format : Option Name → Option Inside

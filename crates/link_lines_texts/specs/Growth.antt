@@ -53,12 +53,15 @@ field_most (F.Number texts) size = 3 * size + 3 + longest texts
 field_most F.Signed size = 2 * size + 13
 field_most (F.BigEndian texts) size = 3 * size + 3 + longest texts
 field_most (F.Flags names) size = 4 * size + 8 + joined_size names
+field_most F.BigEndianFlags size = 2 * size + 8
+field_most F.Weight size = 2 * size + 17
 field_most F.Address size = 3 * size
 field_most F.Boolean size = 3
 field_most (F.Handle texts) size = 2 * size + 12 + longest texts
 field_most F.Text size = 4 * size + 2
 field_most (F.Group texts) size = 2 * size + 64 + longest texts
-field_most F.Padding size = 0
+field_most F.Ipv6 size = 2 * size + 46
+field_most F.Padding size = 2 * size
 
 -- The length of the text of fields, at most.
 abbrev pub fields_most : List Field → ℕ
@@ -73,6 +76,10 @@ longest_title (f ∷ fs) = max (length f.0) (longest_title fs)
 -- Whether the line of a record is short enough.
 abbrev pub is_short_line : RecordLine → Bool
 is_short_line line = nat_le (margin + length line.0 + fields_most line.1) (factor * total_size line.1)
+
+-- Whether it is at level 1: two spaces, and the newline.
+abbrev pub is_short_first_line : RecordLine → Bool
+is_short_first_line line = nat_le (3 + length line.0 + fields_most line.1) (factor * total_size line.1)
 
 -- ---- values, after a name and a word of `extra` bytes
 
@@ -109,6 +116,7 @@ leaves_space extra = nat_le (extra + 46) allowance
 abbrev pub is_short_held : ℕ → Raw → Bool
 is_short_held extra (R.Value shown) = is_short_exact extra shown
 is_short_held extra (R.Head line table) = is_short_line line
+is_short_held extra (R.HeadAndRecords head line) = is_short_line head && is_short_line line
 is_short_held extra (R.Records line) = is_short_line line
 is_short_held extra raw = true
 

@@ -79,17 +79,17 @@ macro_rules! family_names {
 /// The entry of one kind, with its name only if the row depends on the address family.
 #[macro_export]
 macro_rules! family_name_row {
-    (12 $($attribute_rows_of:tt)*) => {
-        $crate::attribute_name_row!(12 $($attribute_rows_of)*)
+    (12 $($row:tt)*) => {
+        $crate::attribute_name_row!(12 $($row)*)
     };
     // The attributes of families without a table of their own.
     (26, $name:literal, $shown:expr) => {
         $crate::attribute_name_row!(26 -> $name, Raw(FAMILY_SPECIFIC))
     };
-    (26 $($attribute_rows_of:tt)*) => {
-        $crate::attribute_name_row!(26 $($attribute_rows_of)*)
+    (26 $($row:tt)*) => {
+        $crate::attribute_name_row!(26 $($row)*)
     };
-    ($kind:tt $($attribute_rows_of:tt)*) => {
+    ($kind:tt $($row:tt)*) => {
         ($kind, None)
     };
 }

@@ -7,7 +7,6 @@ ghost use Rattle.std.specs.Prelude.{◌≡◌, ◌<◌, ◌≤◌, ◌+◌, ◌^
 ghost use Rattle.link_lines_values.specs.Appends.{Appends};
 ghost use Rattle.link_lines_texts.specs.AppendsWith.{AppendsWith};
 ghost use Rattle.link_interpreter.specs.Sameness.{attribute_of};
-ghost use Rattle.link_lines_raw.specs.Attributes.{plain_bytes};
 ghost use Rattle.link_lines_values.specs.Indents.{indent};
 ghost use Rattle.link_lines_parts.specs.Levels.{deepest_level};
 ghost use Rattle.link_lines_texts.specs.Format.{Inside, Inside.Peer, inside_of, known_inside, within_reach};
@@ -23,7 +22,7 @@ use crate::laws::lists_unfold_by_attributes;
 use crate::links::push_link_header;
 use crate::raw_tables::raw_table;
 use link_interpreter::{Attribute, KIND_BOUND, first_attribute};
-use link_lines_raw::{RawBy, push_held, push_raw};
+use link_lines_raw::{RawBy, push_held, push_plain_bytes, push_raw};
 use link_lines_values::{push_bytes, push_indent, push_value};
 use link_tables::table::LINK_INFO;
 use link_tables::{InForce, LINK_HEADER_LEN, NO_KINDS, Table, family_table, next_force};
@@ -45,14 +44,6 @@ fn force_after<'a>(table: Table, force: InForce<'a>, attribute: Attribute<'a>) -
     } else {
         force
     }
-}
-
-/// Appends the word `bytes` and the bytes in hex.
-fn push_plain_bytes(bytes: &[u8], out: &mut Vec<u8>) -> Result<(), AllocError>
-    ensures { Appends out.old out.new result (plain_bytes bytes.now) }
-{
-    out.extend_from_slice(b" bytes")?;
-    push_bytes(bytes, out)
 }
 
 /// Appends the end of the line with a peer's name, and the line of the peer's header. A peer

@@ -1,40 +1,19 @@
 //! The look-up of attributes of the normal text's tables by their names.
 
 ghost use Rattle.std.specs.Prelude.{◌≡◌, option_map};
-ghost use Rattle.link_lines_raw.specs.NameSearch.{name_if, named_below, named_in};
+ghost use Rattle.link_lines_raw.specs.NameSearch.{named_below};
 ghost use Rattle.link_lines_texts.specs.AttributeNames.{attribute_rows_of};
 ghost use Rattle.link_lines_texts.specs.NameSearch.{rows_at, text_name};
 
 use crate::attribute_names::{
-    AttributeRow, Name, data_names, family_names, info_attribute_names, link_rows, nested_names,
+    AttributeRow, data_names, family_names, info_attribute_names, link_rows, nested_names,
 };
+use link_lines_raw::find_name_in;
 use link_tables::kinds::{AMT, DATA_COUNT};
 use link_tables::table::{LINK_INFO, LINK_UNSPEC};
 
 /// The index of the rows that links of every address family have: it follows those of the tables.
 pub const ALL_LINKS: u8 = AMT.0 + DATA_COUNT as u8;
-
-/// Returns the name of a row, if the word is that name. The case of ASCII letters doesn't count.
-fn name_if(row: &Option<Name>, word: &[u8]) -> Option<&'static [u8]>
-    ensures { option_map (λ name. name.now) result ≡ name_if (λ name. name.now) word.now row.now }
-{
-    match row {
-        Some((name, _)) if name.eq_ignore_ascii_case(word) => Some(*name),
-        _ => None,
-    }
-}
-
-/// Returns the first name in some rows that the word is. The case of ASCII letters doesn't count.
-fn find_name_in(rows: &[AttributeRow], word: &[u8]) -> Option<&'static [u8]>
-    ensures { option_map (λ name. name.now) result ≡ named_in (λ name. name.now) word.now rows.now }
-{
-    for row in rows {
-        if let Some(name) = name_if(&row.1, word) {
-            return Some(name);
-        }
-    }
-    None
-}
 
 /// Returns the rows at an index: for links of an address family those that depend on it.
 #[tactic(auto, unfolding(crate::specs::NameSearch::rows_at))]

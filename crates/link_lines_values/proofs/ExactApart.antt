@@ -1,6 +1,6 @@
 -- No value of a raw attribute's payload begins as the word for bytes does.
 use Rattle.std.proofs.Common.{◌≡◌, ℕ, zero, suc, ◌+◌, ◌*◌, ◌/◌, ◌%◌, ◌^◌, ◌<◌, ◌⊎◌, inl, inr, Bool, true, false, List, [], ◌∷◌, ◌++◌, length, take, drop, refl, sym, ap, subst, ◌∙◌, arith, append_assoc}
-use Rattle.std.specs.Prelude.{◌==◌, ◌||◌, codes, cond, decimal, get_or, nat_lt, not}
+use Rattle.std.specs.Prelude.{◌==◌, ◌&&◌, ◌||◌, codes, cond, decimal, get_or, nat_lt, not}
 use Rattle.std.proofs.lemmas.Bool.{and_parts, eqb-true}
 use Rattle.std.proofs.lemmas.Bool.Decides.{nat_tests}
 use Rattle.std.proofs.lemmas.List.{length-take}
@@ -9,11 +9,11 @@ use Rattle.attribute_tables_grammar.specs.Shapes.{number}
 use Rattle.netlink_packet_core_grammar.proofs.Bytes.{AreBytes-take}
 use Rattle.link_lines_values.specs.declared.exact.ExactBy.TheVariants as E
 use Rattle.link_lines_values.specs.declared.values.ShownBy.TheVariants as V
-use Rattle.link_lines_values.specs.Bytes.{address_text, bytes_text, quoted}
+use Rattle.link_lines_values.specs.Bytes.{address_text, bytes_text, is_zero, quoted}
 use Rattle.link_lines_values.specs.Digits.{big_endian}
 use Rattle.link_lines_values.specs.Exact.{Exact, begins_with_word, bridge_id_text, determines_exact, exact_text, has_no_space, labels_text, more_labels_text, numbers_text, pieces_text, takes, via_text}
 use Rattle.link_lines_values.specs.Laws.{BeginsWithSpace}
-use Rattle.link_lines_values.specs.Records.{Field, counters_text, field_value, fields_text, is_counters, is_padding, is_size, no_equals}
+use Rattle.link_lines_values.specs.Records.{Field, counters_text, field_value, fields_text, is_counters, is_padding, is_size, lacks_byte}
 use Rattle.link_lines_values.specs.Values.{determines_sized, is_shown_on_a_line, number_value}
 use Rattle.link_lines_values.proofs.ExactPieces.{label_shown, number_shown, small_label}
 use Rattle.link_lines_values.proofs.ExactTaken.{UintSize, ViaSize, bridge_id_shown, counters_parts, either_size, multiple, numbers_shown, record_parts, sizes_of_numbers, uint_size, via_16, via_16_shown, via_4, via_4_shown, via_size, whole_labels}
@@ -96,25 +96,25 @@ quoted_apart p s e = other_second (32 ∷ quoted p) s (omega arith) e
 -- ---- records
 
 -- A word and a sign of equality aren't another word, which a space follows or nothing.
-other_word : (n w s t : List ℕ) → has_no_space n ≡ true → no_equals w ≡ true → BeginsWithSpace s → n ++ 61 ∷ t ≡ w ++ s → ⊥
+other_word : (n w s t : List ℕ) → has_no_space n ≡ true → lacks_byte 61 w ≡ true → BeginsWithSpace s → n ++ 61 ∷ t ≡ w ++ s → ⊥
 other_word [] [] [] t h k b e = absurd cc
 other_word [] [] (d ∷ s) t h k b e = let first : 61 ≡ d = cc in omega (arith, first, b)
-other_word [] (d ∷ w) s t h k b e = let first : 61 ≡ d = cc in let other = (and_parts (not (d == 61)) (no_equals w) k).0 in absurd (grind (arith, nat_tests))
+other_word [] (d ∷ w) s t h k b e = let first : 61 ≡ d = cc in let other = (and_parts (not (d == 61)) (lacks_byte 61 w) k).0 in absurd (grind (arith, nat_tests))
 other_word (c ∷ n) [] [] t h k b e = absurd cc
 other_word (c ∷ n) [] (d ∷ s) t h k b e = let first : c ≡ d = cc in let other = (and_parts (not (c == 32)) (has_no_space n) h).0 in absurd (grind (arith, nat_tests))
-other_word (c ∷ n) (d ∷ w) s t h k b e = other_word n w s t (and_parts (not (c == 32)) (has_no_space n) h).1 (and_parts (not (d == 61)) (no_equals w) k).1 b (ap (drop 1) e)
+other_word (c ∷ n) (d ∷ w) s t h k b e = other_word n w s t (and_parts (not (c == 32)) (has_no_space n) h).1 (and_parts (not (d == 61)) (lacks_byte 61 w) k).1 b (ap (drop 1) e)
 
-first_shown : (t : Bool) (n v r w s : List ℕ) → not t ≡ true → has_no_space n ≡ true → no_equals w ≡ true → BeginsWithSpace s →
-    cond (t || false) [] (32 ∷ (n ++ 61 ∷ v)) ++ r ≡ 32 ∷ (w ++ s) → ⊥
-first_shown true n v r w s z h k b e = absurd cc
-first_shown false n v r w s z h k b e = other_word n w s (v ++ r) h k b (sym (append_assoc n (61 ∷ v) r) ∙ ap (drop 1) e)
+first_shown : (t u : Bool) (n v r w s : List ℕ) → not t ≡ true → has_no_space n ≡ true → lacks_byte 61 w ≡ true → BeginsWithSpace s →
+    cond (t && u) [] (32 ∷ (n ++ 61 ∷ v)) ++ r ≡ 32 ∷ (w ++ s) → ⊥
+first_shown true u n v r w s z h k b e = absurd cc
+first_shown false u n v r w s z h k b e = other_word n w s (v ++ r) h k b (sym (append_assoc n (61 ∷ v) r) ∙ ap (drop 1) e)
 
 -- No record begins with a word that a space follows, or nothing.
-pub record_apart : (fs : List Field) (p w s : List ℕ) → begins_with_word fs ≡ true → no_equals w ≡ true → BeginsWithSpace s → fields_text 61 false fs p ≡ 32 ∷ (w ++ s) → ⊥
+pub record_apart : (fs : List Field) (p w s : List ℕ) → begins_with_word fs ≡ true → lacks_byte 61 w ≡ true → BeginsWithSpace s → fields_text 61 false fs p ≡ 32 ∷ (w ++ s) → ⊥
 record_apart [] p w s h k b e = absurd cc
 record_apart (f ∷ fs) p w s h k b e =
     let parts = and_parts (not (is_padding f.2)) (has_no_space f.0) h in
-    first_shown (is_padding f.2) f.0 (field_value f.2 (take f.1 p)) (fields_text 61 false fs (drop f.1 p)) w s parts.0 parts.1 k b e
+    first_shown (is_padding f.2) (is_zero (take f.1 p)) f.0 (field_value f.2 (take f.1 p)) (fields_text 61 false fs (drop f.1 p)) w s parts.0 parts.1 k b e
 
 pub counters_second : (fs : List Field) (p : List ℕ) → is_counters fs p ≡ true → get_or (counters_text fs p) 1 0 ≡ 102
 counters_second [] p h = absurd cc

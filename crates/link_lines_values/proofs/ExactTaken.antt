@@ -11,7 +11,7 @@ use Rattle.std.proofs.lemmas.List.{length-take, length-drop}
 use Rattle.link_lines_values.specs.declared.exact.ExactBy.TheVariants as E
 use Rattle.link_lines_values.specs.Bytes.{bytes_text, hex_text, is_zero}
 use Rattle.link_lines_values.specs.Exact.{are_counters, begins_with_word, bridge_id_text, determines_exact, ends_with_nul, has_family, is_uint, is_via, numbers_text, pieces_text, takes, via_text}
-use Rattle.link_lines_values.specs.Records.{Field, has_no_booleans, has_zero_padding, is_counters, is_record, is_size, sizes_known, total_size}
+use Rattle.link_lines_values.specs.Records.{Field, fields_determine, has_no_booleans, is_counters, is_record, is_size, total_size}
 use Rattle.link_lines_values.specs.Values.{are_fields_on_a_line, number_value}
 
 -- ---- sizes
@@ -132,14 +132,14 @@ via_16_shown p l = ap (λ n. via_of n p) l
 -- ---- records
 
 -- The parts of the test whether a record's text determines it.
-pub record_parts : (fs : List Field) → determines_exact (E.Record fs) ≡ true → (sizes_known fs ≡ true) × ((has_no_booleans fs ≡ true) × ((begins_with_word fs ≡ true) × (are_fields_on_a_line fs ≡ true)))
+pub record_parts : (fs : List Field) → determines_exact (E.Record fs) ≡ true → (fields_determine 61 fs ≡ true) × ((has_no_booleans fs ≡ true) × ((begins_with_word fs ≡ true) × (are_fields_on_a_line fs ≡ true)))
 record_parts fs h =
-    let sizes = and_parts (sizes_known fs) _ h in
+    let sizes = and_parts (fields_determine 61 fs) _ h in
     let booleans = and_parts (has_no_booleans fs) _ sizes.1 in
     (sizes.0, (booleans.0, and_parts (begins_with_word fs) (are_fields_on_a_line fs) booleans.1))
 
 pub record_size : (fs : List Field) (p : List ℕ) → is_record fs p ≡ true → length p ≡ total_size fs
-record_size fs p h = eqb-true (length p) (total_size fs) (and_parts (length p == total_size fs) (has_zero_padding fs p) h).0
+record_size fs p h = eqb-true (length p) (total_size fs) h
 
 pub counters_parts : (fs : List Field) (p : List ℕ) → are_counters fs p ≡ true → (is_counters fs p ≡ true) × (length p < 2 ^ 64)
 counters_parts fs p h =

@@ -14,9 +14,9 @@ use Rattle.attribute_tables_grammar.specs.Shapes.{number}
 use Rattle.link_lines_values.specs.declared.exact.ExactBy.TheVariants as E
 use Rattle.link_lines_values.specs.declared.values.ShownBy.TheVariants as V
 use Rattle.link_lines_values.specs.Bytes.{address_text, bytes_text, hardware_text, quoted}
-use Rattle.link_lines_values.specs.Digits.{big_endian, half_of, hex_number, is_number, is_signed_size}
+use Rattle.link_lines_values.specs.Digits.{big_endian, half_of, is_number, is_signed_size}
 use Rattle.link_lines_values.specs.Exact.{Exact, bridge_id_text, determines_exact, exact_text, labels_text, numbers_text, raw_value, takes, via_text}
-use Rattle.link_lines_values.specs.Flags.{flags_text}
+use Rattle.link_lines_values.specs.Flags.{big_endian_flags, flags_text}
 use Rattle.link_lines_values.specs.Laws.{BeginsWithSpace}
 use Rattle.link_lines_values.specs.Names.{Text, named_number, named_signed}
 use Rattle.link_lines_values.specs.Records.{Field, counters_text, is_counters, is_size}
@@ -98,7 +98,7 @@ sized_under n (V.BigEndian texts) p h a k =
 sized_under n (V.Signed texts) p h a k = low (value_text (V.Signed texts) p) (chosen_low (is_signed_size (length p)) (32 ∷ named_signed texts (length p) (number p)) (bytes_text p) 1 (ap is_signed_size k ∙ h) (signed_low (length p) (number p) _))
 sized_under n V.Flags p h a k = flags_under [] p (ap is_size k ∙ h)
 sized_under n (V.NamedFlags names) p h a k = flags_under names p (ap is_size k ∙ h)
-sized_under n V.BigEndianFlags p h a k = low (value_text V.BigEndianFlags p) (chosen_low (is_number p) (32 ∷ hex_number (big_endian p)) (bytes_text p) 1 (ap is_size k ∙ h) (omega arith))
+sized_under n V.BigEndianFlags p h a k = low (value_text V.BigEndianFlags p) (chosen_low (is_number p) (32 ∷ big_endian_flags p) (bytes_text p) 1 (ap is_size k ∙ h) (omega arith))
 sized_under n V.Presence p h a k = omega arith
 sized_under n V.HardwareAddress p h a k = hardware_under p a
 sized_under n V.Address p h a k = address_under p (either_size (length p) 4 16 (ap (λ m. (m == 4) || (m == 16)) k ∙ h)) a

@@ -10,11 +10,11 @@ use Rattle.std.proofs.lemmas.List.{length-append, length-take, length-drop}
 use Rattle.netlink_packet_core_grammar.specs.Bytes.{AreBytes}
 use Rattle.link_lines_values.specs.Bytes.{colon_byte, colons, hex_text, is_zero}
 use Rattle.link_lines_values.specs.Digits.{big_endian}
-use Rattle.link_lines_values.specs.Laws.{Ends}
+use Rattle.link_lines_values.specs.Laws.{BeginsWithSpace, Ends}
 use Rattle.link_lines_values.specs.Names.{Text, named_number}
 use Rattle.link_lines_values.specs.Records.{group_address, group_text}
 use Rattle.link_lines_values.proofs.BytesDetermined.{colons_are_determined, hex_determined}
-use Rattle.link_lines_values.proofs.NumbersDetermined.{Digits, high_glyph, highest_first, named_determined, number_and_rest, number_determined}
+use Rattle.link_lines_values.proofs.NumbersDetermined.{Digits, cut, high_glyph, highest_first, named_determined, number_and_rest, number_determined}
 use Rattle.link_lines_values.proofs.Solid.{Solid, digits_solid, either_solid, ipv4_solid, ipv6_solid}
 use Rattle.link_lines_values.proofs.ValuesDetermined.{both_parts, bytes_at, ipv4_determined, ipv6_determined}
 use Rattle.link_lines_values.proofs.Zeros.{zero_number}
@@ -40,13 +40,28 @@ group_solid n p =
     (either_solid (n == 34525) (ipv6_text (segments_of p)) _ (ipv6_solid (segments_of p))
     (either_solid ((n == 0) && is_zero (drop 6 p)) (colons (take 6 p)) (hex_text p) (digits_solid _ (address_high (take 6 p))) (digits_solid _ (hex_high p))))
 
-cut_space : (a b s t : List ℕ) → Solid a → Solid b → a ++ 32 ∷ s ≡ b ++ 32 ∷ t → (a ≡ b) × (s ≡ t)
-cut_space [] [] s t h k e = (refl, ap (drop 1) e)
-cut_space [] (y ∷ b) s t h k e = let first : y ≡ 32 = cc in absurd (omega (arith, k.0))
-cut_space (x ∷ a) [] s t h k e = let first : x ≡ 32 = cc in absurd (omega (arith, h.0))
-cut_space (x ∷ a) (y ∷ b) s t h k e =
-    let rest = cut_space a b s t h.1 k.1 (ap (drop 1) e) in
+cut_solid : (a b s t : List ℕ) → Solid a → Solid b → BeginsWithSpace s → BeginsWithSpace t → a ++ s ≡ b ++ t → (a ≡ b) × (s ≡ t)
+cut_solid [] [] s t h k m n e = (refl, e)
+cut_solid [] (y ∷ b) [] t h k m n e = absurd cc
+cut_solid [] (y ∷ b) (c ∷ s) t h k m n e = let first : c ≡ y = cc in absurd (omega (arith, first, k.0, m))
+cut_solid (x ∷ a) [] s [] h k m n e = absurd cc
+cut_solid (x ∷ a) [] s (c ∷ t) h k m n e = let first : x ≡ c = cc in absurd (omega (arith, first, h.0, n))
+cut_solid (x ∷ a) (y ∷ b) s t h k m n e =
+    let rest = cut_solid a b s t h.1 k.1 m n (ap (drop 1) e) in
     (cc, rest.1)
+
+-- The text of bytes in hex determines them, and what follows it.
+pub hex_and_rest : (p q s t : List ℕ) → AreBytes p → AreBytes q → Ends s → Ends t → hex_text p ++ s ≡ hex_text q ++ t → (p ≡ q) × (s ≡ t)
+hex_and_rest p q s t a b m n e =
+    let r = cut (hex_text p) (hex_text q) s t (hex_high p) (hex_high q) m n e in
+    (hex_determined p q a b r.0, r.1)
+
+-- So does that of an IPv6 address.
+pub ipv6_and_rest : (p q s t : List ℕ) → AreBytes p → AreBytes q → length p ≡ 16 → length q ≡ 16 → BeginsWithSpace s → BeginsWithSpace t →
+    ipv6_text (segments_of p) ++ s ≡ ipv6_text (segments_of q) ++ t → (p ≡ q) × (s ≡ t)
+ipv6_and_rest p q s t a b l o m n e =
+    let r = cut_solid (ipv6_text (segments_of p)) (ipv6_text (segments_of q)) s t (ipv6_solid (segments_of p)) (ipv6_solid (segments_of q)) m n e in
+    (ipv6_determined p q a b l o r.0, r.1)
 
 -- ---- lengths
 
@@ -111,9 +126,9 @@ group_determined texts p q s t a b l o m n e =
     let y = drop 16 q in
     let first = group_address (big_endian x) (take 16 p) in
     let other = group_address (big_endian y) (take 16 q) in
-    let cut = cut_space first other _ _ (group_solid (big_endian x) (take 16 p)) (group_solid (big_endian y) (take 16 q))
+    let cut = cut_solid first other _ _ (group_solid (big_endian x) (take 16 p)) (group_solid (big_endian y) (take 16 q)) refl refl
     (sym (append_assoc first (codes " proto " ++ named_number texts (big_endian x)) s) ∙ e ∙ append_assoc other (codes " proto " ++ named_number texts (big_endian y)) t) in
-    let r = number_and_rest big_endian highest_first (named_number texts) (named_determined texts) x y s t (AreBytes-drop 16 p a) (AreBytes-drop 16 q b) (omega (arith, length-drop 16 p)) (omega (arith, length-drop 16 p, length-drop 16 q)) m n (ap (drop 6) cut.1) in
+    let r = number_and_rest big_endian highest_first (named_number texts) (named_determined texts) x y s t (AreBytes-drop 16 p a) (AreBytes-drop 16 q b) (omega (arith, length-drop 16 p)) (omega (arith, length-drop 16 p, length-drop 16 q)) m n (ap (drop 7) cut.1) in
     let address : take 16 p ≡ take 16 q =
     same_by (big_endian x) (take 16 p) (take 16 q) _ _ _ refl refl refl (AreBytes-take 16 p a) (AreBytes-take 16 q b) (omega (arith, length-take 16 p)) (omega (arith, length-take 16 q))
     (cut.0 ∙ ap (λ d. group_address (big_endian d) (take 16 q)) (sym r.0)) in

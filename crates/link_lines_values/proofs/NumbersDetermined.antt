@@ -2,7 +2,7 @@
 use Rattle.std.proofs.Common.{◌≡◌, ℕ, zero, suc, ◌+◌, ◌-◌, ◌*◌, ◌/◌, ◌%◌, ◌^◌, ◌<◌, ◌≤◌, Bool, true, false, List, [], ◌∷◌, ◌++◌, length, drop, refl, sym, ap, subst, ◌∙◌, append_assoc, arith}
 use Rattle.std.proofs.lemmas.List.{append_cancel_left, reverse-append, reverse-reverse, length-reverse}
 use Rattle.std.proofs.lemmas.Bool.{cond_both, eqb-true, ltb-false}
-use Rattle.std.specs.Prelude.{◌==◌, ◌||◌, codes, cond, nat_lt, reverse}
+use Rattle.std.specs.Prelude.{◌==◌, ◌&&◌, ◌||◌, codes, cond, nat_lt, reverse}
 use Rattle.std.specs.List.{AllByRecursion}
 use Rattle.std.specs.Fmt.{decimal, digit_glyph, digits, digits_onto}
 use Rattle.std.proofs.lemmas.Fmt.{digits_is_IsNumeral, decimal_is_IsNumeral, decimal_injective}
@@ -12,13 +12,17 @@ use Rattle.netlink_packet_core_grammar.specs.Bytes.{AreBytes}
 use Rattle.attribute_tables_grammar.specs.Shapes.{number}
 use Rattle.link_lines_values.specs.Bytes.{bytes_text}
 use Rattle.link_lines_values.specs.Digits.{big_endian, half_of, hex_number, is_number, is_signed_size, signed_by}
-use Rattle.link_lines_values.specs.Flags.{listed, named_flags, nameless, names_set, word_flags}
-use Rattle.link_lines_values.specs.Laws.{DigitsAreDetermined, Ends, NumbersAreDetermined}
+use Rattle.link_lines_values.specs.Flags.{listed, named_flags, nameless, nameless_flags, names_set, word_flags}
+use Rattle.link_lines_values.specs.Laws.{BeginsWithSpace, DigitsAreDetermined, Ends, NumbersAreDetermined}
 use Rattle.link_lines_values.specs.Names.{Text, bracketed, named_number, named_signed, text_in}
 use Rattle.link_lines_values.specs.Values.{named_flags_value}
 use Rattle.netlink_packet_core_grammar.proofs.Bytes.{AreBytes-append}
 
 -- ---- digits end before a smaller byte
+
+pub space_ends : (s : List ℕ) → BeginsWithSpace s → Ends s
+space_ends [] h = record {}
+space_ends (c ∷ s) h = omega (arith, h)
 
 abbrev pub Digits : List ℕ → Type 0
 Digits ds = AllByRecursion (λ c. 48 ≤ c) ds
@@ -99,6 +103,14 @@ pub word_determined : (names : List Text) → Determines (2 ^ 64) (word_flags na
 word_determined names =
     with_name (2 ^ 64) hex_number (λ n. cond (n == 4294967295) (codes " (all)") (listed (names_set names n) (nameless names n))) hex_determined
     (λ n. all_ends (n == 4294967295) (names_set names n) (nameless names n))
+
+all_or_nothing : (t : Bool) (s : List ℕ) → Ends s → Ends (cond t (codes " (all)") [] ++ s)
+all_or_nothing true s h = omega arith
+all_or_nothing false s h = h
+
+pub nameless_determined : (is_word : Bool) → Determines (2 ^ 64) (nameless_flags is_word)
+nameless_determined is_word =
+    with_name (2 ^ 64) hex_number (λ n. cond (is_word && (n == 4294967295)) (codes " (all)") []) hex_determined (λ n. all_or_nothing (is_word && (n == 4294967295)))
 
 -- Flags of a size that determines whether they may be shown as all.
 abbrev pub flags_of : Bool → List Text → ℕ → List ℕ

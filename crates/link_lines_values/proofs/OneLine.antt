@@ -12,10 +12,10 @@ use Rattle.link_lines_values.specs.declared.fields.FieldShownBy.TheVariants as F
 use Rattle.link_lines_values.specs.declared.values.ShownBy.TheVariants as S
 use Rattle.link_lines_values.specs.Bytes.{address_text, bytes_text, colon_byte, colons, count_without_zeros, escaped, hardware_text, hex_text, is_zero, quoted, boolean_text}
 use Rattle.link_lines_values.specs.Digits.{big_endian, half_of, hex_byte, hex_number, signed_by}
-use Rattle.link_lines_values.specs.Flags.{listed, named_flags, nameless, nameless_text, names_set, separated, word_flags}
+use Rattle.link_lines_values.specs.Flags.{big_endian_flags, listed, named_flags, nameless, nameless_flags, nameless_text, names_set, separated, word_flags}
 use Rattle.link_lines_values.specs.Laws.{BeginsWithSpace, CountersAreOnALine, FieldsAreOnALine, IsLine, ValuesAreOnALine}
 use Rattle.link_lines_values.specs.Names.{Text, bracketed, named_number, named_signed, text_in}
-use Rattle.link_lines_values.specs.Records.{Field, FieldShown, counter_name, counters_text, field_text, field_value, fields_text, group_address, group_text, handle_text, is_hidden, nonzero_text, record_text, slots_text, title_or, total_size}
+use Rattle.link_lines_values.specs.Records.{Field, FieldShown, counter_name, counters_text, field_text, field_value, fields_text, group_address, group_text, handle_text, is_hidden, nonzero_text, record_text, slots_text, title_or, total_size, weight_text}
 use Rattle.link_lines_values.specs.Values.{Shown, are_fields_on_a_line, flags_and_mask_value, is_field_on_a_line, is_line, is_shown_on_a_line, named_flags_value, value_text}
 use Rattle.link_lines_values.proofs.NumbersDetermined.{Digits, high, high_glyph}
 use Rattle.link_lines_values.proofs.Solid.{Solid, ipv4_solid, ipv6_solid}
@@ -182,6 +182,12 @@ word_line names n h =
     lines_joined (hex_number n) _ (hex_line n)
     (either_line (n == 4294967295) (codes " (all)") _ (is_line_checked (codes " (all)") refl) (listed_line (names_set names n) (nameless names n) (set_lines names n h)))
 
+nameless_flags_line : (is_word : Bool) (n : ℕ) → IsLine (nameless_flags is_word n)
+nameless_flags_line is_word n = lines_joined (hex_number n) _ (hex_line n) (either_line (is_word && (n == 4294967295)) (codes " (all)") [] (is_line_checked (codes " (all)") refl) (record {}))
+
+big_flags_line : (p : List ℕ) → IsLine (value_text S.BigEndianFlags p)
+big_flags_line p = either_line _ (32 ∷ big_endian_flags p) (bytes_text p) (omega arith, nameless_flags_line (length p == 4) (big_endian p)) (bytes_line p)
+
 flags_value_line : (names : List Text) (p : List ℕ) → are_lines names ≡ true → IsLine (named_flags_value names p)
 flags_value_line names p h = search (joins, word_line, flags_line, bytes_line)
 
@@ -210,9 +216,19 @@ group_line texts p h =
     lines_joined (group_address protocol (take 16 p)) (codes " proto " ++ named_number texts protocol) (group_address_line protocol (take 16 p))
     (lines_joined (codes " proto ") (named_number texts protocol) (is_line_checked (codes " proto ") refl) (named_line texts protocol h))
 
+weight_line : (p : List ℕ) → IsLine (weight_text p)
+weight_line [] = record {}
+weight_line (hops ∷ []) =
+    lines_joined (decimal hops) _ (decimal_line hops) (lines_joined (codes " (weight ") _ (is_line_checked (codes " (weight ") refl)
+    (lines_joined (decimal (hops + 1)) (codes ")") (decimal_line (hops + 1)) (is_line_checked (codes ")") refl)))
+weight_line (a ∷ b ∷ p) = hex_text_line (a ∷ b ∷ p)
+
 field_value_line : (v : FieldShown) (p : List ℕ) → is_field_on_a_line v ≡ true → IsLine (field_value v p)
 field_value_line F.Boolean p h = boolean_line p
-field_value_line F.Padding p h = record {}
+field_value_line F.BigEndianFlags p h = either_line _ (big_endian_flags p) (hex_text p) (nameless_flags_line (length p == 4) (big_endian p)) (hex_text_line p)
+field_value_line F.Weight p h = weight_line p
+field_value_line F.Ipv6 p h = search (joins, ipv6_line, hex_text_line)
+field_value_line F.Padding p h = hex_text_line p
 field_value_line F.Text p h = let inner = lines_mapped escaped escaped_line (take (count_without_zeros p) p) in search joins
 field_value_line (F.Handle texts) p h = search (joins, handle_line, hex_text_line)
 field_value_line (F.Group texts) p h = search (joins, group_line, hex_text_line)
@@ -253,6 +269,7 @@ line : (shown : Shown) (p : List ℕ) → is_shown_on_a_line shown ≡ true → 
 line S.Presence p h = record {}
 line S.OptionalByte p h = optional_line p
 line S.Flags p h = flags_value_line [] p refl
+line S.BigEndianFlags p h = big_flags_line p
 line shown p h = search lines depth 12
 
 -- ---- a space at the start
@@ -339,7 +356,7 @@ nonzero_line (f ∷ fs) p h =
     let shown = (and_parts (is_line f.0) (is_field_on_a_line f.2) (and_parts (is_line f.0 && is_field_on_a_line f.2) (are_fields_on_a_line fs) h).0).1 in
     slots_line f.1 f.2 (f ∷ fs) 0 (length p / f.1) p shown h
 
-slots_space : (size : ℕ) (v : FieldShown) (fs : List Field) (i k : ℕ) (p : List ℕ) → BeginsWithSpace (slots_text size v fs i k p)
+pub slots_space : (size : ℕ) (v : FieldShown) (fs : List Field) (i k : ℕ) (p : List ℕ) → BeginsWithSpace (slots_text size v fs i k p)
 slots_space size v fs i zero p = record {}
 slots_space size v fs i (suc k) p =
     let text = 32 ∷ (counter_name fs i ++ 61 ∷ field_value v (take size p)) in

@@ -1,9 +1,9 @@
 -- The text of a record determines it.
 use Rattle.std.proofs.Common.{◌≡◌, ℕ, zero, suc, ◌+◌, ◌*◌, ◌/◌, ◌%◌, ◌^◌, ◌<◌, ◌≤◌, Bool, true, false, List, [], ◌∷◌, ◌++◌, length, take, drop, refl, sym, ap, subst, ◌∙◌, arith, append_assoc}
 use Rattle.std.proofs.lemmas.List.{append_cancel_left}
-use Rattle.std.specs.Prelude.{◌==◌, ◌||◌, bytes_eq, cond, flat_map, max, nat_le, not}
+use Rattle.std.specs.Prelude.{◌==◌, ◌||◌, bytes_eq, codes, cond, flat_map, max, nat_le, not}
 use Rattle.std.specs.Char.{digit_value}
-use Rattle.std.specs.Fmt.{digits}
+use Rattle.std.specs.Fmt.{decimal, digits}
 use Rattle.std.specs.List.{AllByRecursion}
 use Rattle.std.specs.Str.Parse.{AllDigits, IsNumeral, digits_value}
 use Rattle.std.proofs.lemmas.Fmt.{digits_is_IsNumeral}
@@ -17,11 +17,13 @@ use Rattle.link_lines_values.specs.declared.fields.FieldShownBy.TheVariants as S
 use Rattle.link_lines_values.specs.Bytes.{colon_byte, colons, count_without_zeros, escaped, hex_text, is_zero, padded_address, padded_text}
 use Rattle.link_lines_values.specs.Digits.{big_endian, half_of, is_number, is_signed_size, signed_by}
 use Rattle.link_lines_values.specs.Names.{Text, bracketed, named_number, text_in}
-use Rattle.link_lines_values.specs.Laws.{AllKnown, Ends, FieldsAreDetermined, IsKnown, RecordsAreDetermined}
-use Rattle.link_lines_values.specs.Records.{Field, FieldShown, field_text, field_value, fields_text, has_no_booleans, has_size, has_zero_padding, is_hidden, is_no_boolean, is_padding, lacks, names_apart, no_equals, record_text, sizes_known, total_size}
+use Rattle.link_lines_values.specs.Flags.{nameless_flags}
+use Rattle.link_lines_values.specs.Laws.{AllKnown, BeginsWithSpace, Ends, FieldsAreDetermined, IsKnown, RecordsAreDetermined}
+use Rattle.link_lines_values.specs.Records.{Field, FieldShown, field_text, field_value, fields_determine, fields_text, has_no_booleans, has_size, is_hidden, is_no_boolean, is_padding, lacks, lacks_byte, names_apart, record_text, sizes_known, total_size, weight_text}
 use Rattle.link_lines_values.proofs.BytesDetermined.{colons_are_determined, escaped_determined}
-use Rattle.link_lines_values.proofs.GroupsDetermined.{group_determined}
-use Rattle.link_lines_values.proofs.NumbersDetermined.{Determines, Digits, Reads, bounded, bracket_ends, cut, flags_of, flags_of_determined, four, high, high_glyph, highest_first, lowest_first, named_determined, number_and_rest, number_determined, same_size, signed_and_rest, sized, with_name}
+use Rattle.link_lines_values.proofs.GroupsDetermined.{group_determined, hex_and_rest, ipv6_and_rest}
+use Rattle.link_lines_values.proofs.NumbersDetermined.{Determines, Digits, Reads, bounded, bracket_ends, cut, decimal_determined, flags_of, flags_of_determined, four, high, high_glyph, highest_first, lowest_first, named_determined, nameless_determined, number_and_rest, number_determined, same_size, signed_and_rest, sized, space_ends, with_name}
+use Rattle.link_lines_values.proofs.OneLine.{fields_are_lines}
 use Rattle.link_lines_values.proofs.ValuesDetermined.{both_parts, boolean_determined}
 use Rattle.link_lines_values.proofs.Zeros.{all_zero, zero_number}
 use Rattle.netlink_packet_core_grammar.proofs.Bytes.{AreBytes-drop, AreBytes-take}
@@ -146,35 +148,65 @@ handle_field texts p q s t a b k o m n e =
     let r = named (number p) (number q) s t (four p a k) (four q b o) m n (rw (k, o) at e) in
     (number_determined p q a b (k ∙ sym o) r.0, r.1)
 
-pub field_determined : (v : FieldShown) (p q s t : List ℕ) → AreBytes p → AreBytes q → length p ≡ length q → has_size v (length p) ≡ true → IsKnown v p → IsKnown v q → Ends s → Ends t →
+-- ---- the weight of a next hop
+
+weight_determined : Determines (2 ^ 64) (λ n. decimal n ++ (codes " (weight " ++ (decimal (n + 1) ++ codes ")")))
+weight_determined = with_name (2 ^ 64) decimal (λ n. codes " (weight " ++ (decimal (n + 1) ++ codes ")")) decimal_determined (λ n s h. omega arith)
+
+weight_field : (p q s t : List ℕ) → AreBytes p → AreBytes q → length p ≡ 1 → length q ≡ 1 → Ends s → Ends t → weight_text p ++ s ≡ weight_text q ++ t → (p ≡ q) × (s ≡ t)
+weight_field (x ∷ []) (y ∷ []) s t a b l k m n e =
+    let r = weight_determined x y s t (omega (arith, a.0)) (omega (arith, b.0)) m n e in
+    (ap (λ z. z ∷ []) r.0, r.1)
+weight_field p q s t a b l k m n e = absurd (omega arith)
+
+-- A set of big-endian flags of a size that numbers have.
+big_flags_field : (p q s t : List ℕ) → AreBytes p → AreBytes q → length p ≡ length q → is_number p ≡ true → Ends s → Ends t →
+    field_value S.BigEndianFlags p ++ s ≡ field_value S.BigEndianFlags q ++ t → (p ≡ q) × (s ≡ t)
+big_flags_field p q s t a b l h m n e =
+    number_field big_endian highest_first (nameless_flags (length p == 4)) (nameless_determined (length p == 4)) p q s t a b l h m n
+    (e ∙ ap (λ k. cond (is_number q) (nameless_flags (k == 4) (big_endian q)) (hex_text q) ++ t) (sym l))
+
+pub field_determined : (v : FieldShown) (p q s t : List ℕ) → AreBytes p → AreBytes q → length p ≡ length q → has_size v (length p) ≡ true → IsKnown v p → IsKnown v q → BeginsWithSpace s → BeginsWithSpace t →
     field_value v p ++ s ≡ field_value v q ++ t → (p ≡ q) × (s ≡ t)
-field_determined (S.Number texts) p q s t a b l h i j m n e = number_field number lowest_first (named_number texts) (named_determined texts) p q s t a b l h m n e
-field_determined S.Signed p q s t a b l h i j m n e = signed_field p q s t a b l h m n e
-field_determined (S.BigEndian texts) p q s t a b l h i j m n e = number_field big_endian highest_first (named_number texts) (named_determined texts) p q s t a b l h m n e
-field_determined (S.Flags names) p q s t a b l h i j m n e = flags_field names p q s t a b l h m n e
-field_determined S.Address p q s t a b l h i j m n e = address_determined p q s t a b l m n e
+field_determined (S.Number texts) p q s t a b l h i j m n e =
+    number_field number lowest_first (named_number texts) (named_determined texts) p q s t a b l h (space_ends s m) (space_ends t n) e
+field_determined S.Signed p q s t a b l h i j m n e = signed_field p q s t a b l h (space_ends s m) (space_ends t n) e
+field_determined (S.BigEndian texts) p q s t a b l h i j m n e =
+    number_field big_endian highest_first (named_number texts) (named_determined texts) p q s t a b l h (space_ends s m) (space_ends t n) e
+field_determined (S.Flags names) p q s t a b l h i j m n e = flags_field names p q s t a b l h (space_ends s m) (space_ends t n) e
+field_determined S.BigEndianFlags p q s t a b l h i j m n e = big_flags_field p q s t a b l h (space_ends s m) (space_ends t n) e
+field_determined S.Weight p q s t a b l h i j m n e =
+    let one = eqb-true (length p) 1 h in
+    weight_field p q s t a b one (sym l ∙ one) (space_ends s m) (space_ends t n) e
+field_determined S.Address p q s t a b l h i j m n e = address_determined p q s t a b l (space_ends s m) (space_ends t n) e
 field_determined S.Boolean p q s t a b l h i j m n e = boolean_determined p q s t a b l i j e
-field_determined (S.Handle texts) p q s t a b l h i j m n e = handle_field texts p q s t a b (eqb-true (length p) 4 h) (sym l ∙ eqb-true (length p) 4 h) m n e
+field_determined (S.Handle texts) p q s t a b l h i j m n e =
+    let size = eqb-true (length p) 4 h in
+    handle_field texts p q s t a b size (sym l ∙ size) (space_ends s m) (space_ends t n) e
 field_determined S.Text p q s t a b l h i j m n e = text_determined p q s t a b l e
 field_determined (S.Group texts) p q s t a b l h i j m n e =
     let k = eqb-true (length p) 18 h in
     let o = sym l ∙ k in
-    group_determined texts p q s t a b k o m n (rw (k, o) at e)
-field_determined S.Padding p q s t a b l h i j m n e = (zeros_same p q a b l i j, e)
+    group_determined texts p q s t a b k o (space_ends s m) (space_ends t n) (rw (k, o) at e)
+field_determined S.Ipv6 p q s t a b l h i j m n e =
+    let k = eqb-true (length p) 16 h in
+    let o = sym l ∙ k in
+    ipv6_and_rest p q s t a b k o m n (rw (k, o) at e)
+field_determined S.Padding p q s t a b l h i j m n e = hex_and_rest p q s t a b (space_ends s m) (space_ends t n) e
 
 -- ---- fields, one after the other
 
+pub no_items : (p q : List ℕ) → length p ≡ 0 → length q ≡ 0 → p ≡ q
+no_items [] [] h k = refl
+no_items p q h k = absurd (omega arith)
+
+-- A field that isn't shown is zero.
+hidden_zero : (sparse : Bool) (v : FieldShown) (p : List ℕ) → is_hidden sparse v p ≡ true → is_zero p ≡ true
+hidden_zero sparse v p h = (and_parts (sparse || is_padding v) (is_zero p) h).1
+
 module _ (separator : ℕ) where
-  pub ends_after : (t : Bool) (f : Field) (p r : List ℕ) → Ends r → Ends (cond t [] (field_text separator f p) ++ r)
-  ends_after true f p r h = h
-  ends_after false f p r h = omega arith
-
-  fields_end : (sparse : Bool) (fs : List Field) (p : List ℕ) → Ends (fields_text separator sparse fs p)
-  fields_end sparse [] p = record {}
-  fields_end sparse (f ∷ fs) p = ends_after (is_hidden sparse f.2 (take f.1 p)) f (take f.1 p) _ (fields_end sparse fs (drop f.1 p))
-
   -- Two texts of one field determine its value, and what follows them.
-  shown_field : (f : Field) (p q s t : List ℕ) → AreBytes p → AreBytes q → length p ≡ length q → has_size f.2 (length p) ≡ true → IsKnown f.2 p → IsKnown f.2 q → Ends s → Ends t →
+  shown_field : (f : Field) (p q s t : List ℕ) → AreBytes p → AreBytes q → length p ≡ length q → has_size f.2 (length p) ≡ true → IsKnown f.2 p → IsKnown f.2 q → BeginsWithSpace s → BeginsWithSpace t →
       field_text separator f p ++ s ≡ field_text separator f q ++ t → (p ≡ q) × (s ≡ t)
   shown_field f p q s t a b l h i j m n e =
       let name = f.0 in
@@ -183,67 +215,64 @@ module _ (separator : ℕ) where
       let following : x ++ s ≡ y ++ t = append_cancel_left name _ _ (sym (append_assoc name x s) ∙ ap (drop 1) e ∙ append_assoc name y t) in
       field_determined f.2 p q s t a b l h i j m n (ap (drop 1) following)
 
-pub no_items : (p q : List ℕ) → length p ≡ 0 → length q ≡ 0 → p ≡ q
-no_items [] [] h k = refl
-no_items p q h k = absurd (omega arith)
+  -- ---- names before the separator
 
--- A field that isn't shown is zero.
-hidden_zero : (sparse : Bool) (v : FieldShown) (p : List ℕ) → IsKnown v p → is_hidden sparse v p ≡ true → is_zero p ≡ true
-hidden_zero sparse S.Padding p i h = i
-hidden_zero sparse v p i h = (and_parts sparse (is_zero p) h).1
+  cut_name : (a b s t : List ℕ) → lacks_byte separator a ≡ true → lacks_byte separator b ≡ true → a ++ separator ∷ s ≡ b ++ separator ∷ t → a ≡ b
+  cut_name [] [] s t h k e = refl
+  cut_name [] (y ∷ b) s t h k e = let first : y ≡ separator = cc in let other = (and_parts (not (y == separator)) (lacks_byte separator b) k).0 in absurd (grind (arith, nat_tests))
+  cut_name (x ∷ a) [] s t h k e = let first : x ≡ separator = cc in let other = (and_parts (not (x == separator)) (lacks_byte separator a) h).0 in absurd (grind (arith, nat_tests))
+  cut_name (x ∷ a) (y ∷ b) s t h k e =
+      let rest : a ≡ b = cut_name a b s t (and_parts (not (x == separator)) (lacks_byte separator a) h).1 (and_parts (not (y == separator)) (lacks_byte separator b) k).1 (ap (drop 1) e) in
+      cc
 
--- ---- names before a sign of equality
+  -- No field that is shown has a name that isn't in the record.
+  pub absent_by : (n : List ℕ) (f : Field) (rest r : List ℕ) (p : List ℕ) (t : Bool) → lacks_byte separator n ≡ true → lacks_byte separator f.0 ≡ true → (f.0 ≡ n → ⊥) → (rest ≡ 32 ∷ (n ++ separator ∷ r) → ⊥) →
+      cond t [] (field_text separator f p) ++ rest ≡ 32 ∷ (n ++ separator ∷ r) → ⊥
+  absent_by n f rest r p true h k m other e = other e
+  absent_by n f rest r p false h k m other e =
+      let name = f.0 in
+      let same : name ≡ n = cut_name name n _ r k h (sym (append_assoc name (separator ∷ field_value f.2 p) rest) ∙ ap (drop 1) e) in
+      m same
 
-cut_name : (a b s t : List ℕ) → no_equals a ≡ true → no_equals b ≡ true → a ++ 61 ∷ s ≡ b ++ 61 ∷ t → a ≡ b
-cut_name [] [] s t h k e = refl
-cut_name [] (y ∷ b) s t h k e = let first : y ≡ 61 = cc in let other = (and_parts (not (y == 61)) (no_equals b) k).0 in absurd (grind (arith, nat_tests))
-cut_name (x ∷ a) [] s t h k e = let first : x ≡ 61 = cc in let other = (and_parts (not (x == 61)) (no_equals a) h).0 in absurd (grind (arith, nat_tests))
-cut_name (x ∷ a) (y ∷ b) s t h k e =
-    let rest : a ≡ b = cut_name a b s t (and_parts (not (x == 61)) (no_equals a) h).1 (and_parts (not (y == 61)) (no_equals b) k).1 (ap (drop 1) e) in
-    cc
+  absent : (sparse : Bool) (n : List ℕ) (fs : List Field) (p r : List ℕ) → lacks_byte separator n ≡ true → lacks n fs ≡ true → names_apart separator fs ≡ true → fields_text separator sparse fs p ≡ 32 ∷ (n ++ separator ∷ r) → ⊥
+  absent sparse n [] p r h k m e = absurd cc
+  absent sparse n (f ∷ fs) p r h k m e =
+      let named = and_parts (lacks_byte separator f.0) _ m in
+      let lacking = and_parts _ (lacks n fs) k in
+      absent_by n f (fields_text separator sparse fs (drop f.1 p)) r (take f.1 p) (is_hidden sparse f.2 (take f.1 p)) h named.0 (λ same. true≢false (sym ((bytes_eq-Decides f.0 n).1 same) ∙ not-true (bytes_eq f.0 n) lacking.0)) (absent sparse n fs (drop f.1 p) r h lacking.1 (and_parts _ _ named.1).1) e
 
--- No field that is shown has a name that isn't in the record.
-pub absent_by : (n : List ℕ) (f : Field) (rest r : List ℕ) (p : List ℕ) (t : Bool) → no_equals n ≡ true → no_equals f.0 ≡ true → (f.0 ≡ n → ⊥) → (rest ≡ 32 ∷ (n ++ 61 ∷ r) → ⊥) →
-    cond t [] (field_text 61 f p) ++ rest ≡ 32 ∷ (n ++ 61 ∷ r) → ⊥
-absent_by n f rest r p true h k m other e = other e
-absent_by n f rest r p false h k m other e =
-    let name = f.0 in
-    let same : name ≡ n = cut_name name n _ r k h (sym (append_assoc name (61 ∷ field_value f.2 p) rest) ∙ ap (drop 1) e) in
-    m same
+  -- ---- fields that may be left out
 
-absent : (sparse : Bool) (n : List ℕ) (fs : List Field) (p r : List ℕ) → no_equals n ≡ true → lacks n fs ≡ true → names_apart fs ≡ true → fields_text 61 sparse fs p ≡ 32 ∷ (n ++ 61 ∷ r) → ⊥
-absent sparse n [] p r h k m e = absurd cc
-absent sparse n (f ∷ fs) p r h k m e =
-    let named = and_parts (no_equals f.0) _ m in
-    let lacking = and_parts _ (lacks n fs) k in
-    absent_by n f (fields_text 61 sparse fs (drop f.1 p)) r (take f.1 p) (is_hidden sparse f.2 (take f.1 p)) h named.0 (λ same. true≢false (sym ((bytes_eq-Decides f.0 n).1 same) ∙ not-true (bytes_eq f.0 n) lacking.0)) (absent sparse n fs (drop f.1 p) r h lacking.1 (and_parts _ _ named.1).1) e
+  -- Two texts of a field that may be left out, each with what follows it.
+  pub optional_field : (f : Field) (p q s t : List ℕ) (c d : Bool) → (c ≡ true → is_zero p ≡ true) → (d ≡ true → is_zero q ≡ true) → AreBytes p → AreBytes q → length p ≡ length q → has_size f.2 (length p) ≡ true → IsKnown f.2 p → IsKnown f.2 q → BeginsWithSpace s → BeginsWithSpace t →
+      ((r : List ℕ) → s ≡ 32 ∷ (f.0 ++ separator ∷ r) → ⊥) → ((r : List ℕ) → t ≡ 32 ∷ (f.0 ++ separator ∷ r) → ⊥) →
+      cond c [] (field_text separator f p) ++ s ≡ cond d [] (field_text separator f q) ++ t → (p ≡ q) × (s ≡ t)
+  optional_field f p q s t true true h k a b l z i j m n u v e = (zeros_same p q a b l (h refl) (k refl), e)
+  optional_field f p q s t true false h k a b l z i j m n u v e = absurd (u (field_value f.2 q ++ t) (e ∙ ap (λ x. 32 ∷ x) (append_assoc f.0 (separator ∷ field_value f.2 q) t)))
+  optional_field f p q s t false true h k a b l z i j m n u v e = absurd (v (field_value f.2 p ++ s) (sym e ∙ ap (λ x. 32 ∷ x) (append_assoc f.0 (separator ∷ field_value f.2 p) s)))
+  optional_field f p q s t false false h k a b l z i j m n u v e = shown_field f p q s t a b l z i j m n e
 
--- ---- records in which the fields that are zero may be left out
+  all_fields : (sparse : Bool) (fs : List Field) (p q : List ℕ) → AreBytes p → AreBytes q → length p ≡ total_size fs → length q ≡ total_size fs → sizes_known fs ≡ true → names_apart separator fs ≡ true → AllKnown fs p → AllKnown fs q →
+      fields_text separator sparse fs p ≡ fields_text separator sparse fs q → p ≡ q
+  all_fields sparse [] p q a b l k z u i j e = no_items p q l k
+  all_fields sparse (f ∷ fs) p q a b l k z u i j e =
+      let n = f.1 in
+      let prefix_p : length (take n p) ≡ n = omega (arith, length-take n p) in
+      let prefix_q : length (take n q) ≡ n = omega (arith, length-take n q) in
+      let sizes = and_parts (has_size f.2 n) (sizes_known fs) z in
+      let named = and_parts (lacks_byte separator f.0) _ u in
+      let others = and_parts (lacks f.0 fs) _ named.1 in
+      let r = optional_field f (take n p) (take n q) (fields_text separator sparse fs (drop n p)) (fields_text separator sparse fs (drop n q)) (is_hidden sparse f.2 (take n p)) (is_hidden sparse f.2 (take n q))
+      (hidden_zero sparse f.2 (take n p)) (hidden_zero sparse f.2 (take n q)) (AreBytes-take n p a) (AreBytes-take n q b) (prefix_p ∙ sym prefix_q)
+      (ap (has_size f.2) prefix_p ∙ sizes.0) i.0 j.0 (fields_are_lines.space separator sparse fs _) (fields_are_lines.space separator sparse fs _)
+      (λ r. absent sparse f.0 fs (drop n p) r named.0 others.0 others.1) (λ r. absent sparse f.0 fs (drop n q) r named.0 others.0 others.1) e in
+      both_parts n p q r.0 (all_fields sparse fs (drop n p) (drop n q) (AreBytes-drop n p a) (AreBytes-drop n q b) (omega (arith, length-drop n p)) (omega (arith, length-drop n q)) sizes.1 others.1 i.1 j.1 r.1)
 
--- Two texts of a field that may be left out, each with what follows it.
-pub sparse_field : (f : Field) (p q s t : List ℕ) (c d : Bool) → (c ≡ true → is_zero p ≡ true) → (d ≡ true → is_zero q ≡ true) → AreBytes p → AreBytes q → length p ≡ length q → has_size f.2 (length p) ≡ true → IsKnown f.2 p → IsKnown f.2 q → Ends s → Ends t →
-    ((r : List ℕ) → s ≡ 32 ∷ (f.0 ++ 61 ∷ r) → ⊥) → ((r : List ℕ) → t ≡ 32 ∷ (f.0 ++ 61 ∷ r) → ⊥) →
-    cond c [] (field_text 61 f p) ++ s ≡ cond d [] (field_text 61 f q) ++ t → (p ≡ q) × (s ≡ t)
-sparse_field f p q s t true true h k a b l z i j m n u v e = (zeros_same p q a b l (h refl) (k refl), e)
-sparse_field f p q s t true false h k a b l z i j m n u v e = absurd (u (field_value f.2 q ++ t) (e ∙ ap (λ x. 32 ∷ x) (append_assoc f.0 (61 ∷ field_value f.2 q) t)))
-sparse_field f p q s t false true h k a b l z i j m n u v e = absurd (v (field_value f.2 p ++ s) (sym e ∙ ap (λ x. 32 ∷ x) (append_assoc f.0 (61 ∷ field_value f.2 p) s)))
-sparse_field f p q s t false false h k a b l z i j m n u v e = shown_field 61 f p q s t a b l z i j m n e
-
-pub fields_determined : (sparse : Bool) (fs : List Field) (p q : List ℕ) → AreBytes p → AreBytes q → length p ≡ total_size fs → length q ≡ total_size fs → sizes_known fs ≡ true → names_apart fs ≡ true → AllKnown fs p → AllKnown fs q →
-    fields_text 61 sparse fs p ≡ fields_text 61 sparse fs q → p ≡ q
-fields_determined sparse [] p q a b l k z u i j e = no_items p q l k
-fields_determined sparse (f ∷ fs) p q a b l k z u i j e =
-    let n = f.1 in
-    let prefix_p : length (take n p) ≡ n = omega (arith, length-take n p) in
-    let prefix_q : length (take n q) ≡ n = omega (arith, length-take n q) in
-    let sizes = and_parts (has_size f.2 n) (sizes_known fs) z in
-    let named = and_parts (no_equals f.0) _ u in
-    let others = and_parts (lacks f.0 fs) _ named.1 in
-    let r = sparse_field f (take n p) (take n q) (fields_text 61 sparse fs (drop n p)) (fields_text 61 sparse fs (drop n q)) (is_hidden sparse f.2 (take n p)) (is_hidden sparse f.2 (take n q))
-    (hidden_zero sparse f.2 (take n p) i.0) (hidden_zero sparse f.2 (take n q) j.0) (AreBytes-take n p a) (AreBytes-take n q b) (prefix_p ∙ sym prefix_q)
-    (ap (has_size f.2) prefix_p ∙ sizes.0) i.0 j.0 (fields_end 61 sparse fs _) (fields_end 61 sparse fs _)
-    (λ r. absent sparse f.0 fs (drop n p) r named.0 others.0 others.1) (λ r. absent sparse f.0 fs (drop n q) r named.0 others.0 others.1) e in
-    both_parts n p q r.0 (fields_determined sparse fs (drop n p) (drop n q) (AreBytes-drop n p a) (AreBytes-drop n q b) (omega (arith, length-drop n p)) (omega (arith, length-drop n q)) sizes.1 others.1 i.1 j.1 r.1)
+  pub fields_determined : (sparse : Bool) (fs : List Field) (p q : List ℕ) → AreBytes p → AreBytes q → length p ≡ total_size fs → length q ≡ total_size fs → fields_determine separator fs ≡ true → AllKnown fs p → AllKnown fs q →
+      fields_text separator sparse fs p ≡ fields_text separator sparse fs q → p ≡ q
+  fields_determined sparse fs p q a b l k h i j e =
+      let tells = and_parts (sizes_known fs) (names_apart separator fs) h in
+      all_fields sparse fs p q a b l k tells.0 tells.1 i j e
 
 pub records_determined : RecordsAreDetermined
 unfolding record_text
@@ -251,47 +280,23 @@ records_determined sparse fs p q t h k l e =
     let n = total_size fs in
     let whole_p = and_from (nat_le n (length p)) (is_zero (drop n p)) (le-leb n (length p) h.whole) h.zeros in
     let whole_q = and_from (nat_le n (length q)) (is_zero (drop n q)) (le-leb n (length q) k.whole) k.zeros in
-    let tells = and_parts (sizes_known fs) (names_apart fs) t in
-    let prefix = fields_determined sparse fs (take n p) (take n q) (AreBytes-take n p h.bytes) (AreBytes-take n q k.bytes) (omega (arith, length-take n p, h.whole)) (omega (arith, length-take n q, k.whole))
-    tells.0 tells.1 h.known k.known (rw (whole_p, whole_q) at e) in
+    let prefix = fields_determined 61 sparse fs (take n p) (take n q) (AreBytes-take n p h.bytes) (AreBytes-take n q k.bytes) (omega (arith, length-take n p, h.whole)) (omega (arith, length-take n q, k.whole))
+    t h.known k.known (rw (whole_p, whole_q) at e) in
     let back = number_determined (drop n p) (drop n q) (AreBytes-drop n p h.bytes) (AreBytes-drop n q k.bytes) (omega (arith, length-drop n p, length-drop n q)) (zero_number _ h.zeros ∙ sym (zero_number _ k.zeros)) in
     both_parts n p q prefix back
 
--- ---- records of which all fields but padding are shown
+-- ---- records without booleans
 
--- Two texts of a field, which are both left out if it is padding.
-plain_field : (separator : ℕ) (f : Field) (p q s t : List ℕ) (c : Bool) → (c ≡ true → is_zero p ≡ true) → (c ≡ true → is_zero q ≡ true) → AreBytes p → AreBytes q → length p ≡ length q → has_size f.2 (length p) ≡ true → IsKnown f.2 p → IsKnown f.2 q → Ends s → Ends t →
-    cond c [] (field_text separator f p) ++ s ≡ cond c [] (field_text separator f q) ++ t → (p ≡ q) × (s ≡ t)
-plain_field separator f p q s t true h k a b l z i j m n e = (zeros_same p q a b l (h refl) (k refl), e)
-plain_field separator f p q s t false h k a b l z i j m n e = shown_field separator f p q s t a b l z i j m n e
+pub known_field : (v : FieldShown) (p : List ℕ) → is_no_boolean v ≡ true → IsKnown v p
+known_field S.Boolean p h = absurd cc
+known_field v p h = record {}
 
-plain_fields : (separator : ℕ) (fs : List Field) (p q : List ℕ) → AreBytes p → AreBytes q → length p ≡ total_size fs → length q ≡ total_size fs → sizes_known fs ≡ true → AllKnown fs p → AllKnown fs q →
-    fields_text separator false fs p ≡ fields_text separator false fs q → p ≡ q
-plain_fields separator [] p q a b l k z i j e = no_items p q l k
-plain_fields separator (f ∷ fs) p q a b l k z i j e =
-    let n = f.1 in
-    let prefix_p : length (take n p) ≡ n = omega (arith, length-take n p) in
-    let prefix_q : length (take n q) ≡ n = omega (arith, length-take n q) in
-    let sizes = and_parts (has_size f.2 n) (sizes_known fs) z in
-    let r = plain_field separator f (take n p) (take n q) (fields_text separator false fs (drop n p)) (fields_text separator false fs (drop n q)) (is_padding f.2 || false)
-    (hidden_zero false f.2 (take n p) i.0) (hidden_zero false f.2 (take n q) j.0) (AreBytes-take n p a) (AreBytes-take n q b) (prefix_p ∙ sym prefix_q)
-    (ap (has_size f.2) prefix_p ∙ sizes.0) i.0 j.0 (fields_end separator false fs _) (fields_end separator false fs _) e in
-    both_parts n p q r.0 (plain_fields separator fs (drop n p) (drop n q) (AreBytes-drop n p a) (AreBytes-drop n q b) (omega (arith, length-drop n p)) (omega (arith, length-drop n q)) sizes.1 i.1 j.1 r.1)
-
-known_field : (v : FieldShown) (p : List ℕ) → is_no_boolean v ≡ true → (not (is_padding v) || is_zero p) ≡ true → IsKnown v p
-known_field S.Boolean p h k = absurd cc
-known_field S.Padding p h k = k
-known_field v p h k = record {}
-
-all_known : (fs : List Field) (p : List ℕ) → has_no_booleans fs ≡ true → has_zero_padding fs p ≡ true → AllKnown fs p
-all_known [] p h k = record {}
-all_known (f ∷ fs) p h k =
+pub all_known : (fs : List Field) (p : List ℕ) → has_no_booleans fs ≡ true → AllKnown fs p
+all_known [] p h = record {}
+all_known (f ∷ fs) p h =
     let shown = and_parts (is_no_boolean f.2) (has_no_booleans fs) h in
-    let zero = and_parts (not (is_padding f.2) || is_zero (take f.1 p)) (has_zero_padding fs (drop f.1 p)) k in
-    (known_field f.2 (take f.1 p) shown.0 zero.0, all_known fs (drop f.1 p) shown.1 zero.1)
+    (known_field f.2 (take f.1 p) shown.0, all_known fs (drop f.1 p) shown.1)
 
 pub plain_determined : FieldsAreDetermined
-plain_determined separator fs p q z h a b i j e =
-    let one = and_parts (length p == total_size fs) (has_zero_padding fs p) i in
-    let two = and_parts (length q == total_size fs) (has_zero_padding fs q) j in
-    plain_fields separator fs p q a b (eqb-true (length p) (total_size fs) one.0) (eqb-true (length q) (total_size fs) two.0) z (all_known fs p h one.1) (all_known fs q h two.1) e
+plain_determined separator fs p q t h a b i j e =
+    fields_determined separator false fs p q a b (eqb-true (length p) (total_size fs) i) (eqb-true (length q) (total_size fs) j) t (all_known fs p h) (all_known fs q h) e

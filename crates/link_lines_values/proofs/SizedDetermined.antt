@@ -15,7 +15,7 @@ use Rattle.attribute_tables_grammar.specs.Shapes.{number}
 use Rattle.link_lines_values.specs.declared.values.ShownBy.TheVariants as V
 use Rattle.link_lines_values.specs.Bytes.{address_text}
 use Rattle.link_lines_values.specs.Digits.{big_endian, half_of, hex_number, is_number, is_signed_size, signed_by}
-use Rattle.link_lines_values.specs.Flags.{flags_text}
+use Rattle.link_lines_values.specs.Flags.{big_endian_flags, flags_text}
 use Rattle.link_lines_values.specs.Laws.{SizedValuesAreDetermined}
 use Rattle.link_lines_values.specs.Names.{Text, named_number, named_signed}
 use Rattle.link_lines_values.specs.Records.{is_size}
@@ -163,7 +163,7 @@ no_word n (V.BigEndian numbers) p s h a k e =
 no_word n (V.Signed texts) p s h a k e = low_second _ s (chosen_low (is_signed_size (length p)) (32 ∷ named_signed texts (length p) (number p)) _ 1 (ap is_signed_size k ∙ h) (signed_low (length p) (number p) _)) e
 no_word n V.Flags p s h a k e = no_flags [] p s (ap is_size k ∙ h) e
 no_word n (V.NamedFlags names) p s h a k e = no_flags names p s (ap is_size k ∙ h) e
-no_word n V.BigEndianFlags p s h a k e = low_second _ s (chosen_low (is_number p) (32 ∷ _) _ 1 (ap is_size k ∙ h) (omega arith)) e
+no_word n V.BigEndianFlags p s h a k e = low_second _ s (chosen_low (is_number p) (32 ∷ big_endian_flags p) _ 1 (ap is_size k ∙ h) (omega arith)) e
 no_word n V.Presence p s h a k e = absurd cc
 no_word n V.HardwareAddress p s h a k e = no_hardware p s e
 no_word n V.Address p s h a k e = no_address n _ refl p s h a k e

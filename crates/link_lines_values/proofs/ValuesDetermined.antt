@@ -11,15 +11,15 @@ use Rattle.std.proofs.NetLemmas.Theorems.{IsIpv4Text_unique, IsIpv6Text_unique}
 use Rattle.netlink_packet_core_grammar.specs.Bytes.{AreBytes}
 use Rattle.std.proofs.lemmas.Bool.Decides.{nat_tests}
 use Rattle.attribute_tables_grammar.specs.Shapes.{number}
-use Rattle.link_lines_values.specs.Bytes.{address_text, is_zero, boolean_text}
-use Rattle.link_lines_values.specs.Digits.{big_endian, hex_number}
-use Rattle.link_lines_values.specs.Flags.{word_flags}
+use Rattle.link_lines_values.specs.Bytes.{address_text, boolean_text, bytes_text, is_zero}
+use Rattle.link_lines_values.specs.Digits.{big_endian, is_number}
+use Rattle.link_lines_values.specs.Flags.{nameless_flags, word_flags}
 use Rattle.link_lines_values.specs.Names.{Text}
-use Rattle.link_lines_values.specs.Values.{flags_and_mask_value, optional_byte_value, port_range_value}
+use Rattle.link_lines_values.specs.Values.{big_endian_flags_value, flags_and_mask_value, optional_byte_value, port_range_value}
 use Rattle.link_lines_values.specs.Laws.{AddressesAreDetermined, Ends, SettingsAreDetermined}
 use Rattle.std.specs.Fmt.{decimal}
 use Rattle.std.proofs.lemmas.List.{append_cancel_left, take-append-drop, length-take, length-drop}
-use Rattle.link_lines_values.proofs.NumbersDetermined.{Reads, Determines, decimal_determined, hex_determined, highest_first, lowest_first, number_only, number_and_rest, number_determined, sized_number, word_determined}
+use Rattle.link_lines_values.proofs.NumbersDetermined.{Reads, Determines, decimal_determined, highest_first, lowest_first, nameless_determined, number_only, number_and_rest, number_determined, sized_number, word_determined}
 use Rattle.link_lines_values.proofs.Zeros.{zero_by_number}
 use Rattle.netlink_packet_core_grammar.proofs.Bytes.{AreBytes-drop, AreBytes-take}
 
@@ -130,5 +130,10 @@ boolean_determined p q s t a b l h k e =
 boolean : (p q : List ℕ) → AreBytes p → AreBytes q → length p ≡ length q → number p ≤ 1 → number q ≤ 1 → boolean_text p ≡ boolean_text q → p ≡ q
 boolean p q a b l h k e = (boolean_determined p q [] [] a b l h k (ap (λ x. x ++ []) e)).0
 
+big_flags : (p q : List ℕ) → AreBytes p → AreBytes q → length p ≡ length q → is_number p ≡ true → big_endian_flags_value p ≡ big_endian_flags_value q → p ≡ q
+big_flags p q a b l h e =
+    sized_number big_endian highest_first (nameless_flags (length p == 4)) (nameless_determined (length p == 4)) p q a b l h
+    (e ∙ ap (λ k. cond (is_number q) (32 ∷ nameless_flags (k == 4) (big_endian q)) (bytes_text q)) (sym l))
+
 pub settings_determined : SettingsAreDetermined
-settings_determined = record { big = sized_number big_endian highest_first hex_number hex_determined; masked = masked; optional = optional; ports = ports; boolean = boolean }
+settings_determined = record { big = big_flags; masked = masked; optional = optional; ports = ports; boolean = boolean }

@@ -13,8 +13,8 @@ use Rattle.link_lines_values.specs.Digits.{big_endian}
 use Rattle.link_lines_values.specs.Bytes.{address_text, bytes_text, hardware_text, hex_text, is_zero, quoted}
 use Rattle.link_lines_values.specs.Layouts.{layout_fields}
 use Rattle.link_lines_values.specs.Names.{Text}
-use Rattle.link_lines_values.specs.Records.{Field, counters_determine, counters_text, fields_text}
-use Rattle.link_lines_values.specs.Records.{has_no_booleans, is_counters, is_padding, is_record, is_size, sizes_known}
+use Rattle.link_lines_values.specs.Records.{Field, counters_determine, counters_text, fields_determine, fields_text}
+use Rattle.link_lines_values.specs.Records.{has_no_booleans, is_counters, is_padding, is_record, is_size}
 use Rattle.link_lines_values.specs.Values.{are_fields_on_a_line, determines_sized, format_of, is_shown_on_a_line}
 use Rattle.link_lines_values.specs.Values.{number_value, value_text}
 
@@ -164,6 +164,6 @@ determines_exact (E.Number n) = is_size n
 determines_exact (E.Sized n shown) = determines_sized n shown && is_shown_on_a_line shown
 determines_exact (E.Numbers n) = (n == 2) || (n == 4)
 determines_exact (E.Record fs) =
-    sizes_known fs && (has_no_booleans fs && (begins_with_word fs && are_fields_on_a_line fs))
+    fields_determine 61 fs && (has_no_booleans fs && (begins_with_word fs && are_fields_on_a_line fs))
 determines_exact (E.Counters fs) = counters_determine fs && are_fields_on_a_line fs
 determines_exact x = true

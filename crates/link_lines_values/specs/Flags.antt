@@ -1,8 +1,8 @@
 -- Sets of flags, and the names of their bits.
-use Rattle.std.specs.Prelude.{ℕ, ◌-◌, ◌==◌, bit_and, Bool, true, false, List, [], ◌∷◌, ◌++◌, codes, cond}
+use Rattle.std.specs.Prelude.{ℕ, ◌-◌, ◌==◌, ◌&&◌, bit_and, Bool, true, false, List, [], ◌∷◌, ◌++◌, codes, cond}
 use Rattle.std.specs.Prelude.{length}
 use Rattle.attribute_tables_grammar.specs.Shapes.{number}
-use Rattle.link_lines_values.specs.Digits.{hex_number}
+use Rattle.link_lines_values.specs.Digits.{big_endian, hex_number}
 use Rattle.link_lines_values.specs.Names.{Text}
 
 -- The names of the bits that are set.
@@ -50,3 +50,11 @@ word_flags names n =
 -- The little-endian flags of some bytes, with the names of their bits.
 abbrev pub flags_text : List Text → List ℕ → List ℕ
 flags_text names p = cond (length p == 4) (word_flags names (number p)) (named_flags names (number p))
+
+-- Flags without names as in `0x1003`, or as `0xffffffff (all)` if they have 4 bytes and all bits are set.
+abbrev pub nameless_flags : Bool → ℕ → List ℕ
+nameless_flags is_word n = hex_number n ++ cond (is_word && (n == 4294967295)) (codes " (all)") []
+
+-- The big-endian flags of some bytes.
+abbrev pub big_endian_flags : List ℕ → List ℕ
+big_endian_flags p = nameless_flags (length p == 4) (big_endian p)

@@ -12,7 +12,7 @@ use Rattle.link_lines_values.specs.Digits.{hex_number, is_number, is_signed_size
 use Rattle.link_lines_values.specs.Names.{Text}
 use Rattle.link_lines_values.specs.Records.{Field, FieldShown, counters_determine, counters_text, fields_determine}
 use Rattle.link_lines_values.specs.Records.{fields_text, has_no_booleans, is_counters, is_record, record_text}
-use Rattle.link_lines_values.specs.Records.{nonzero_text, sizes_known, total_size}
+use Rattle.link_lines_values.specs.Records.{nonzero_text, total_size}
 use Rattle.link_lines_values.specs.Values.{Shown, are_fields_on_a_line, is_shown_on_a_line, determines_sized}
 use Rattle.link_lines_values.specs.Values.{value_text, number_value}
 use Rattle.link_lines_values.specs.Values.{big_endian_value, signed_value, flags_value, named_flags_value}
@@ -90,18 +90,17 @@ abbrev pub AddressSizesAreDetermined : Type 0
 AddressSizesAreDetermined = (p q : List ℕ) → AreBytes p → AreBytes q → length p ≡ 4 → length q ≡ 16 →
     address_text p ≡ address_text q → ⊥
 
--- A field that is shown as a boolean is 0 or 1, and padding is zero.
+-- A field that is shown as a boolean is 0 or 1.
 abbrev pub IsKnown : FieldShown → List ℕ → Type 0
 IsKnown S.Boolean p = number p ≤ 1
-IsKnown S.Padding p = is_zero p ≡ true
 IsKnown v p = ⊤
 
--- Every field that is shown as a boolean is 0 or 1, and padding is zero.
+-- Every field that is shown as a boolean is 0 or 1.
 abbrev pub AllKnown : List Field → List ℕ → Type 0
 AllKnown [] p = ⊤
 AllKnown (f ∷ fs) p = IsKnown f.2 (take f.1 p) × AllKnown fs (drop f.1 p)
 
--- The bytes hold the fields of the record, each boolean among them 0 or 1 and padding zero, followed by zeros only.
+-- The bytes hold the fields of the record, each boolean among them 0 or 1, followed by zeros only.
 pub record HoldsFields (fs : List Field) (p : List ℕ) : Type 0 where
   pub bytes : AreBytes p
   pub whole : total_size fs ≤ length p
@@ -110,13 +109,13 @@ pub record HoldsFields (fs : List Field) (p : List ℕ) : Type 0 where
 
 -- The text of a record determines it among records of one size, whether fields that are zero are left out or not.
 abbrev pub RecordsAreDetermined : Type 0
-RecordsAreDetermined = (sparse : Bool) (fs : List Field) (p q : List ℕ) → fields_determine fs ≡ true →
+RecordsAreDetermined = (sparse : Bool) (fs : List Field) (p q : List ℕ) → fields_determine 61 fs ≡ true →
     HoldsFields fs p → HoldsFields fs q → length p ≡ length q → record_text sparse fs p ≡ record_text sparse fs q →
     p ≡ q
 
 -- The fields that are shown determine a record without booleans, whatever separates names from values.
 abbrev pub FieldsAreDetermined : Type 0
-FieldsAreDetermined = (separator : ℕ) (fs : List Field) (p q : List ℕ) → sizes_known fs ≡ true →
+FieldsAreDetermined = (separator : ℕ) (fs : List Field) (p q : List ℕ) → fields_determine separator fs ≡ true →
     has_no_booleans fs ≡ true → AreBytes p → AreBytes q → is_record fs p ≡ true → is_record fs q ≡ true →
     fields_text separator false fs p ≡ fields_text separator false fs q → p ≡ q
 

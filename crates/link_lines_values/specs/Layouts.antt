@@ -1,5 +1,5 @@
 -- The layouts of records, as the constants in code define them.
-use Rattle.std.specs.Prelude.{◌-◌, nat_lt, cond, List, [], ◌∷◌, get_or, map}
+use Rattle.std.specs.Prelude.{◌/◌, ◌%◌, List, [], ◌∷◌, get_or, map}
 use Rattle.link_lines_values.specs.declared.layouts.TheConstants.{STATS_FIELDS, STATS64_FIELDS, MAP_FIELDS}
 use Rattle.link_lines_values.specs.declared.layouts.TheConstants.{IPV4_DEVCONF_FIELDS, IPV6_DEVCONF_FIELDS}
 use Rattle.link_lines_values.specs.declared.layouts.TheConstants.{IPV6_DEVCONF_ALL_FIELDS, IP6_STATS_FIELDS}
@@ -14,7 +14,7 @@ use Rattle.link_lines_values.specs.declared.line_layouts.TheConstants.{TCMSG_FIL
 use Rattle.link_lines_values.specs.declared.line_layouts.TheConstants.{PREFIXMSG_FIELDS, NDTMSG_FIELDS}
 use Rattle.link_lines_values.specs.declared.line_layouts.TheConstants.{IFADDRLBLMSG_FIELDS, NETCONFMSG_FIELDS}
 use Rattle.link_lines_values.specs.declared.line_layouts.TheConstants.{BR_PORT_MSG_FIELDS, RTGENMSG_FIELDS}
-use Rattle.link_lines_values.specs.declared.line_layouts.TheConstants.{IF_STATS_MSG_FIELDS, NHMSG_FIELDS}
+use Rattle.link_lines_values.specs.declared.line_layouts.TheConstants.{RTGEN_FIELDS, IFINFOMSG_FIELDS, IF_STATS_MSG_FIELDS, NHMSG_FIELDS}
 use Rattle.link_lines_values.specs.declared.line_layouts.TheConstants.{BR_VLAN_MSG_FIELDS, TUNNEL_MSG_FIELDS}
 use Rattle.link_lines_values.specs.declared.line_layouts.TheConstants.{TIMESTAMP_FIELDS, RTNEXTHOP_FIELDS}
 use Rattle.link_lines_values.specs.declared.line_layouts.TheConstants.{BR_MDB_ENTRY_FIELDS, ROUTER_PORT_FIELDS}
@@ -28,7 +28,9 @@ use Rattle.link_lines_values.specs.declared.route_layouts.TheConstants.{GNET_STA
 use Rattle.link_lines_values.specs.declared.route_layouts.TheConstants.{GNET_STATS_RATE_EST64_FIELDS}
 use Rattle.link_lines_values.specs.declared.route_layouts.TheConstants.{GNET_STATS_QUEUE_FIELDS, TC_SIZESPEC_FIELDS}
 use Rattle.link_lines_values.specs.declared.route_layouts.TheConstants.{PREFIX_CACHEINFO_FIELDS, NDT_CONFIG_FIELDS}
-use Rattle.link_lines_values.specs.declared.route_layouts.TheConstants.{NDT_STATS_FIELDS}
+use Rattle.link_lines_values.specs.declared.route_layouts.TheConstants.{NDT_STATS_FIELDS, SEG6_IPTUNNEL_ENCAP_FIELDS}
+use Rattle.link_lines_values.specs.declared.route_layouts.TheConstants.{IPV6_SR_HDR_FIELDS, IPV6_RPL_SR_HDR_FIELDS}
+use Rattle.link_lines_values.specs.declared.route_layouts.TheConstants.{SEGMENT_FIELDS}
 use Rattle.link_lines_values.specs.declared.device_layouts.TheConstants.{HW_STATS64_FIELDS, MPLS_LINK_STATS_FIELDS}
 use Rattle.link_lines_values.specs.declared.device_layouts.TheConstants.{BRIDGE_VLAN_INFO_FIELDS}
 use Rattle.link_lines_values.specs.declared.device_layouts.TheConstants.{BRIDGE_VLAN_XSTATS_FIELDS}
@@ -45,11 +47,7 @@ use Rattle.link_lines_values.specs.declared.traffic_layouts.TheConstants.{TC_PRI
 use Rattle.link_lines_values.specs.declared.traffic_layouts.TheConstants.{TC_HTB_OPT_FIELDS, TC_HTB_GLOB_FIELDS}
 use Rattle.link_lines_values.specs.declared.traffic_layouts.TheConstants.{TC_U32_MARK_FIELDS, TCF_T_FIELDS}
 use Rattle.link_lines_values.specs.declared.traffic_layouts.TheConstants.{TC_GACT_FIELDS, TC_GACT_P_FIELDS}
-use Rattle.link_lines_values.specs.declared.traffic_layouts.TheConstants.{TC_MIRRED_FIELDS}
-use Rattle.link_lines_values.specs.declared.line_layouts.TheConstants.{IFADDRMSG}
-use Rattle.link_lines_values.specs.declared.route_layouts.TheConstants.{IFA_CACHEINFO}
-use Rattle.link_lines_values.specs.declared.device_layouts.TheConstants.{HW_STATS64}
-use Rattle.link_lines_values.specs.declared.traffic_layouts.TheConstants.{TC_HANDLE}
+use Rattle.link_lines_values.specs.declared.traffic_layouts.TheConstants.{TC_U32_SEL_FIELDS, TC_U32_KEY_FIELDS, TC_MIRRED_FIELDS}
 use Rattle.link_lines_values.specs.declared.fields.Layout.{Layout}
 use Rattle.link_lines_values.specs.Records.{Field, fields_of}
 
@@ -67,7 +65,7 @@ line_layouts =
     map (λ b. fields_of (λ n. n.now) b.now)
     (IFADDRMSG_FIELDS ∷ RTMSG_FIELDS ∷ NDMSG_FIELDS ∷ FIB_RULE_HDR_FIELDS ∷ TCMSG_FIELDS ∷ TCMSG_FILTER_FIELDS ∷
     TCAMSG_FIELDS ∷ PREFIXMSG_FIELDS ∷ NDTMSG_FIELDS ∷ IFADDRLBLMSG_FIELDS ∷ NETCONFMSG_FIELDS ∷ BR_PORT_MSG_FIELDS ∷
-    RTGENMSG_FIELDS ∷ IF_STATS_MSG_FIELDS ∷ NHMSG_FIELDS ∷ BR_VLAN_MSG_FIELDS ∷ TUNNEL_MSG_FIELDS ∷ TIMESTAMP_FIELDS ∷
+    RTGENMSG_FIELDS ∷ RTGEN_FIELDS ∷ IFINFOMSG_FIELDS ∷ IF_STATS_MSG_FIELDS ∷ NHMSG_FIELDS ∷ BR_VLAN_MSG_FIELDS ∷ TUNNEL_MSG_FIELDS ∷ TIMESTAMP_FIELDS ∷
     RTNEXTHOP_FIELDS ∷ BR_MDB_ENTRY_FIELDS ∷ ROUTER_PORT_FIELDS ∷ NEXTHOP_GRP_FIELDS ∷ [])
 
 -- Fields of records in raw lists about addresses, routes, neighbours, rules and traffic control: each layout's, in
@@ -78,7 +76,8 @@ route_layouts =
     (IFA_CACHEINFO_FIELDS ∷ RTA_CACHEINFO_FIELDS ∷ RTA_MFC_STATS_FIELDS ∷ NDA_CACHEINFO_FIELDS ∷
     FIB_RULE_UID_RANGE_FIELDS ∷ FIB_RULE_PORT_RANGE_FIELDS ∷ TC_STATS_FIELDS ∷ TC_ESTIMATOR_FIELDS ∷
     GNET_STATS_BASIC_FIELDS ∷ GNET_STATS_RATE_EST_FIELDS ∷ GNET_STATS_RATE_EST64_FIELDS ∷ GNET_STATS_QUEUE_FIELDS ∷
-    TC_SIZESPEC_FIELDS ∷ PREFIX_CACHEINFO_FIELDS ∷ NDT_CONFIG_FIELDS ∷ NDT_STATS_FIELDS ∷ [])
+    TC_SIZESPEC_FIELDS ∷ PREFIX_CACHEINFO_FIELDS ∷ NDT_CONFIG_FIELDS ∷ NDT_STATS_FIELDS ∷
+    SEG6_IPTUNNEL_ENCAP_FIELDS ∷ IPV6_SR_HDR_FIELDS ∷ IPV6_RPL_SR_HDR_FIELDS ∷ SEGMENT_FIELDS ∷ [])
 
 -- Fields of records in raw lists about statistics, bridges and kinds of links: each layout's, in the order of their
 -- indexes.
@@ -96,13 +95,13 @@ abbrev pub traffic_layouts : List (List Field)
 traffic_layouts =
     map (λ b. fields_of (λ n. n.now) b.now)
     (TC_HANDLE_FIELDS ∷ TC_FIFO_QOPT_FIELDS ∷ TC_PRIO_QOPT_FIELDS ∷ TC_TBF_QOPT_FIELDS ∷ TC_HTB_OPT_FIELDS ∷
-    TC_HTB_GLOB_FIELDS ∷ TC_U32_MARK_FIELDS ∷ TCF_T_FIELDS ∷ TC_GACT_FIELDS ∷ TC_GACT_P_FIELDS ∷ TC_MIRRED_FIELDS ∷ [])
+    TC_HTB_GLOB_FIELDS ∷ TC_U32_MARK_FIELDS ∷ TC_U32_SEL_FIELDS ∷ TC_U32_KEY_FIELDS ∷ TCF_T_FIELDS ∷ TC_GACT_FIELDS ∷
+    TC_GACT_P_FIELDS ∷ TC_MIRRED_FIELDS ∷ [])
+
+-- The layouts by group: 32 indexes for each, of which the last ones may have no layout.
+abbrev pub layout_groups : List (List (List Field))
+layout_groups = link_layouts ∷ line_layouts ∷ route_layouts ∷ device_layouts ∷ traffic_layouts ∷ []
 
 -- The fields of a record with this layout.
 unfoldable pub layout_fields : Layout → List Field
-layout_fields layout =
-    cond (nat_lt layout.0 IFADDRMSG.0) (get_or link_layouts layout.0 [])
-    (cond (nat_lt layout.0 IFA_CACHEINFO.0) (get_or line_layouts (layout.0 - IFADDRMSG.0) [])
-    (cond (nat_lt layout.0 HW_STATS64.0) (get_or route_layouts (layout.0 - IFA_CACHEINFO.0) [])
-    (cond (nat_lt layout.0 TC_HANDLE.0) (get_or device_layouts (layout.0 - HW_STATS64.0) [])
-    (get_or traffic_layouts (layout.0 - TC_HANDLE.0) []))))
+layout_fields layout = get_or (get_or layout_groups (layout.0 / 32) []) (layout.0 % 32) []

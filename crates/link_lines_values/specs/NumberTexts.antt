@@ -1,5 +1,5 @@
 -- The tables of numbers and of bits with their names, as the constants in code define them.
-use Rattle.std.specs.Prelude.{◌-◌, nat_lt, cond, List, [], ◌∷◌, get_or, map}
+use Rattle.std.specs.Prelude.{◌/◌, ◌%◌, List, [], ◌∷◌, get_or, map}
 use Rattle.link_lines_values.specs.declared.number_texts.TheConstants.{PLAIN_TEXTS, AMT_MODE_TEXTS, GENEVE_DF_TEXTS}
 use Rattle.link_lines_values.specs.declared.number_texts.TheConstants.{VXLAN_DF_TEXTS, GTP_ROLE_TEXTS}
 use Rattle.link_lines_values.specs.declared.number_texts.TheConstants.{TUNNEL_ENCAP_TYPE_TEXTS, GRE_ENCAP_TYPE_TEXTS}
@@ -20,10 +20,10 @@ use Rattle.link_lines_values.specs.declared.route_texts.TheConstants.{FAMILY_TEX
 use Rattle.link_lines_values.specs.declared.route_texts.TheConstants.{RT_PROTOCOL_TEXTS, RTN_TYPE_TEXTS}
 use Rattle.link_lines_values.specs.declared.route_texts.TheConstants.{RT_DEL_REASON_TEXTS, ROUTER_PREF_TEXTS}
 use Rattle.link_lines_values.specs.declared.route_texts.TheConstants.{IFA_PROTO_TEXTS, IP_PROTO_TEXTS, ENCAP_TYPE_TEXTS}
-use Rattle.link_lines_values.specs.declared.route_texts.TheConstants.{SEG6_LOCAL_ACTION_TEXTS, IOAM6_MODE_TEXTS}
+use Rattle.link_lines_values.specs.declared.route_texts.TheConstants.{SEG6_LOCAL_ACTION_TEXTS, SEG6_MODE_TEXTS, IOAM6_MODE_TEXTS}
 use Rattle.link_lines_values.specs.declared.route_texts.TheConstants.{IFA_FLAGS_TEXTS, NEXTHOP_FLAGS_TEXTS}
 use Rattle.link_lines_values.specs.declared.route_texts.TheConstants.{ROUTE_FLAGS_TEXTS, RTAX_LOCK_TEXTS}
-use Rattle.link_lines_values.specs.declared.route_texts.TheConstants.{RTAX_FEATURES_TEXTS, SEG6_FLAVORS_TEXTS}
+use Rattle.link_lines_values.specs.declared.route_texts.TheConstants.{RTAX_FEATURES_TEXTS, SEG6_FLAVORS_TEXTS, SEG6_FLAGS_TEXTS}
 use Rattle.link_lines_values.specs.declared.neighbour_texts.TheConstants.{FR_ACT_TEXTS, TC_PARENT_TEXTS}
 use Rattle.link_lines_values.specs.declared.neighbour_texts.TheConstants.{NETCONF_IFINDEX_TEXTS, NEXTHOP_GRP_TYPE_TEXTS}
 use Rattle.link_lines_values.specs.declared.neighbour_texts.TheConstants.{NEIGH_STATE_TEXTS, NEIGH_FLAGS_TEXTS}
@@ -41,14 +41,10 @@ use Rattle.link_lines_values.specs.declared.bridge_texts.TheConstants.{PORT_REQU
 use Rattle.link_lines_values.specs.declared.bridge_texts.TheConstants.{MDB_FLAGS_TEXTS, BRIDGE_FLAGS_TEXTS}
 use Rattle.link_lines_values.specs.declared.bridge_texts.TheConstants.{BRIDGE_VLAN_FLAGS_TEXTS, VLAN_FLAGS_TEXTS}
 use Rattle.link_lines_values.specs.declared.bridge_texts.TheConstants.{BR_BOOLOPT_TEXTS, CAN_CTRLMODE_FLAGS_TEXTS}
-use Rattle.link_lines_values.specs.declared.error_texts.TheConstants.{ERROR, ERROR_TEXTS}
+use Rattle.link_lines_values.specs.declared.error_texts.TheConstants.{ERROR_TEXTS}
 use Rattle.link_lines_values.specs.declared.traffic_texts.TheConstants.{TC_ACTION_TEXTS, MIRRED_ACTION_TEXTS}
 use Rattle.link_lines_values.specs.declared.traffic_texts.TheConstants.{LIFETIME_TEXTS, CLS_FLAGS_TEXTS}
-use Rattle.link_lines_values.specs.declared.traffic_texts.TheConstants.{BPF_FLAGS_TEXTS, CT_STATE_TEXTS, TC_ACTION}
-use Rattle.link_lines_values.specs.declared.flag_names.TheConstants.{LINK_FLAGS}
-use Rattle.link_lines_values.specs.declared.route_texts.TheConstants.{FAMILY}
-use Rattle.link_lines_values.specs.declared.neighbour_texts.TheConstants.{FR_ACT}
-use Rattle.link_lines_values.specs.declared.bridge_texts.TheConstants.{MCAST_MODE}
+use Rattle.link_lines_values.specs.declared.traffic_texts.TheConstants.{U32_FLAGS_TEXTS, BPF_FLAGS_TEXTS, CT_STATE_TEXTS}
 use Rattle.link_lines_values.specs.declared.number_tables.Numbers.{Numbers}
 use Rattle.link_lines_values.specs.Names.{Text, texts_of}
 
@@ -76,8 +72,8 @@ route_texts =
     map (λ b. texts_of (λ n. n.now) b.now)
     (FAMILY_TEXTS ∷ RT_SCOPE_TEXTS ∷ RT_TABLE_TEXTS ∷ RT_PROTOCOL_TEXTS ∷ RTN_TYPE_TEXTS ∷ RT_DEL_REASON_TEXTS ∷
     ROUTER_PREF_TEXTS ∷ IFA_PROTO_TEXTS ∷ IP_PROTO_TEXTS ∷ ENCAP_TYPE_TEXTS ∷ SEG6_LOCAL_ACTION_TEXTS ∷
-    IOAM6_MODE_TEXTS ∷ IFA_FLAGS_TEXTS ∷ NEXTHOP_FLAGS_TEXTS ∷ ROUTE_FLAGS_TEXTS ∷ RTAX_LOCK_TEXTS ∷
-    RTAX_FEATURES_TEXTS ∷ SEG6_FLAVORS_TEXTS ∷ [])
+    SEG6_MODE_TEXTS ∷ IOAM6_MODE_TEXTS ∷ IFA_FLAGS_TEXTS ∷ NEXTHOP_FLAGS_TEXTS ∷ ROUTE_FLAGS_TEXTS ∷ RTAX_LOCK_TEXTS ∷
+    RTAX_FEATURES_TEXTS ∷ SEG6_FLAVORS_TEXTS ∷ SEG6_FLAGS_TEXTS ∷ [])
 
 -- Names of numbers and bits in raw lists and bodies about neighbours, rules, next hops, settings, traffic control:
 -- each table's, in the order of their indexes.
@@ -108,15 +104,14 @@ error_texts = map (λ b. texts_of (λ n. n.now) b.now) (ERROR_TEXTS ∷ [])
 abbrev pub traffic_texts : List (List Text)
 traffic_texts =
     map (λ b. texts_of (λ n. n.now) b.now)
-    (TC_ACTION_TEXTS ∷ MIRRED_ACTION_TEXTS ∷ LIFETIME_TEXTS ∷ CLS_FLAGS_TEXTS ∷ BPF_FLAGS_TEXTS ∷ CT_STATE_TEXTS ∷ [])
+    (TC_ACTION_TEXTS ∷ MIRRED_ACTION_TEXTS ∷ LIFETIME_TEXTS ∷ CLS_FLAGS_TEXTS ∷ U32_FLAGS_TEXTS ∷ BPF_FLAGS_TEXTS ∷
+    CT_STATE_TEXTS ∷ [])
+
+-- The tables by group: 32 indexes for each, of which the last ones may have no table.
+abbrev pub number_groups : List (List (List Text))
+number_groups =
+    link_texts ∷ link_flag_names ∷ route_texts ∷ neighbour_texts ∷ bridge_texts ∷ error_texts ∷ traffic_texts ∷ []
 
 -- The numbers, or the bits, of a table with their names.
 unfoldable pub number_texts : Numbers → List Text
-number_texts table =
-    cond (nat_lt table.0 LINK_FLAGS.0) (get_or link_texts table.0 [])
-    (cond (nat_lt table.0 FAMILY.0) (get_or link_flag_names (table.0 - LINK_FLAGS.0) [])
-    (cond (nat_lt table.0 FR_ACT.0) (get_or route_texts (table.0 - FAMILY.0) [])
-    (cond (nat_lt table.0 MCAST_MODE.0) (get_or neighbour_texts (table.0 - FR_ACT.0) [])
-    (cond (nat_lt table.0 ERROR.0) (get_or bridge_texts (table.0 - MCAST_MODE.0) [])
-    (cond (nat_lt table.0 TC_ACTION.0) (get_or error_texts (table.0 - ERROR.0) [])
-    (get_or traffic_texts (table.0 - TC_ACTION.0) []))))))
+number_texts table = get_or (get_or number_groups (table.0 / 32) []) (table.0 % 32) []

@@ -13,7 +13,7 @@ use Rattle.link_lines_values.specs.declared.number_tables.Numbers.{Numbers}
 use Rattle.link_lines_values.specs.Digits.{big_endian, half_of, is_number, is_signed_size, signed_by}
 use Rattle.link_lines_values.specs.Bytes.{boolean_text, bytes_text, colons, hex_text, is_zero}
 use Rattle.link_lines_values.specs.Bytes.{padded_address, padded_text}
-use Rattle.link_lines_values.specs.Flags.{flags_text}
+use Rattle.link_lines_values.specs.Flags.{big_endian_flags, flags_text}
 use Rattle.link_lines_values.specs.Names.{Text, bracketed, named_number, text_in}
 use Rattle.link_lines_values.specs.NumberTexts.{number_texts}
 
@@ -31,11 +31,14 @@ shown_of (S.Number texts) = S.Number (number_texts texts)
 shown_of S.Signed = S.Signed
 shown_of (S.BigEndian texts) = S.BigEndian (number_texts texts)
 shown_of (S.Flags names) = S.Flags (number_texts names)
+shown_of S.BigEndianFlags = S.BigEndianFlags
+shown_of S.Weight = S.Weight
 shown_of S.Address = S.Address
 shown_of S.Boolean = S.Boolean
 shown_of (S.Handle texts) = S.Handle (number_texts texts)
 shown_of S.Text = S.Text
 shown_of (S.Group texts) = S.Group (number_texts texts)
+shown_of S.Ipv6 = S.Ipv6
 shown_of S.Padding = S.Padding
 
 -- The field that a value in code represents.
@@ -81,6 +84,11 @@ group_text texts part =
     group_address (big_endian (drop 16 part)) (take 16 part) ++
     (codes " proto " ++ named_number texts (big_endian (drop 16 part)))
 
+-- A byte, and the weight of a next hop that has it as its number of hops, as in `0 (weight 1)`; other sizes in hex.
+abbrev pub weight_text : List ℕ → List ℕ
+weight_text (hops ∷ []) = decimal hops ++ (codes " (weight " ++ (decimal (hops + 1) ++ codes ")"))
+weight_text part = hex_text part
+
 -- The value of a field; a number of a size that no number has would be shown as its bytes.
 abbrev pub field_value : FieldShown → List ℕ → List ℕ
 field_value (S.Number texts) part = cond (is_number part) (named_number texts (number part)) (hex_text part)
@@ -88,12 +96,15 @@ field_value S.Signed part =
     cond (is_signed_size (length part)) (signed_by (half_of (length part)) (number part)) (hex_text part)
 field_value (S.BigEndian texts) part = cond (is_number part) (named_number texts (big_endian part)) (hex_text part)
 field_value (S.Flags names) part = cond (is_number part) (flags_text names part) (hex_text part)
+field_value S.BigEndianFlags part = cond (is_number part) (big_endian_flags part) (hex_text part)
+field_value S.Weight part = weight_text part
 field_value S.Address part = padded_address part
 field_value S.Boolean part = boolean_text part
 field_value (S.Handle texts) part = cond (length part == 4) (handle_text texts (number part)) (hex_text part)
 field_value S.Text part = padded_text part
 field_value (S.Group texts) part = cond (length part == 18) (group_text texts part) (hex_text part)
-field_value S.Padding part = []
+field_value S.Ipv6 part = cond (length part == 16) (ipv6_text (segments_of part)) (hex_text part)
+field_value S.Padding part = hex_text part
 
 -- Whether a field is padding.
 abbrev pub is_padding : FieldShown → Bool
@@ -104,9 +115,9 @@ is_padding shown = false
 abbrev pub field_text : ℕ → Field → List ℕ → List ℕ
 field_text separator f part = 32 ∷ (f.0 ++ separator ∷ field_value f.2 part)
 
--- Whether a field isn't shown: padding, and in a sparse record any field that is zero.
+-- Whether a field isn't shown: padding that is zero, and in a sparse record any field that is zero.
 abbrev pub is_hidden : Bool → FieldShown → List ℕ → Bool
-is_hidden is_sparse shown part = is_padding shown || (is_sparse && is_zero part)
+is_hidden is_sparse shown part = (is_sparse || is_padding shown) && is_zero part
 
 -- The fields that are shown, each with a separator between its name and its value.
 abbrev pub fields_text : ℕ → Bool → List Field → List ℕ → List ℕ
@@ -115,15 +126,9 @@ fields_text separator is_sparse (f ∷ fs) bytes =
     cond (is_hidden is_sparse f.2 (take f.1 bytes)) [] (field_text separator f (take f.1 bytes)) ++
     fields_text separator is_sparse fs (drop f.1 bytes)
 
--- Whether each field that is padding is zero.
-abbrev pub has_zero_padding : List Field → List ℕ → Bool
-has_zero_padding [] bytes = true
-has_zero_padding (f ∷ fs) bytes =
-    (not (is_padding f.2) || is_zero (take f.1 bytes)) && has_zero_padding fs (drop f.1 bytes)
-
--- Whether bytes are a record: they have the size of its fields, and padding is zero.
+-- Whether bytes are a record: they have the size of its fields.
 abbrev pub is_record : List Field → List ℕ → Bool
-is_record fs bytes = (length bytes == total_size fs) && has_zero_padding fs bytes
+is_record fs bytes = length bytes == total_size fs
 
 -- The text of a record, which only zeros may follow; any other bytes are shown in hex.
 unfoldable pub record_text : Bool → List Field → List ℕ → List ℕ
@@ -180,11 +185,14 @@ has_size (S.Number texts) n = is_size n
 has_size S.Signed n = is_signed_size n
 has_size (S.BigEndian texts) n = is_size n
 has_size (S.Flags names) n = is_size n
+has_size S.BigEndianFlags n = is_size n
+has_size S.Weight n = n == 1
 has_size S.Address n = true
 has_size S.Boolean n = true
 has_size (S.Handle texts) n = n == 4
 has_size S.Text n = true
 has_size (S.Group texts) n = n == 18
+has_size S.Ipv6 n = n == 16
 has_size S.Padding n = true
 
 -- Whether the sizes of all fields are ones that their formats know.
@@ -192,24 +200,24 @@ abbrev pub sizes_known : List Field → Bool
 sizes_known [] = true
 sizes_known (f ∷ fs) = has_size f.2 f.1 && sizes_known fs
 
--- Whether a name has no sign of equality.
-abbrev pub no_equals : List ℕ → Bool
-no_equals [] = true
-no_equals (c ∷ n) = not (c == 61) && no_equals n
+-- Whether a text lacks a byte.
+abbrev pub lacks_byte : ℕ → List ℕ → Bool
+lacks_byte b [] = true
+lacks_byte b (c ∷ s) = not (c == b) && lacks_byte b s
 
 -- Whether no field has this name.
 abbrev pub lacks : List ℕ → List Field → Bool
 lacks n [] = true
 lacks n (f ∷ fs) = not (bytes_eq f.0 n) && lacks n fs
 
--- Whether no two fields have one name, and no name has a sign of equality.
-abbrev pub names_apart : List Field → Bool
-names_apart [] = true
-names_apart (f ∷ fs) = no_equals f.0 && (lacks f.0 fs && names_apart fs)
+-- Whether no two fields have one name, and no name has the byte that separates it from its value.
+abbrev pub names_apart : ℕ → List Field → Bool
+names_apart separator [] = true
+names_apart separator (f ∷ fs) = lacks_byte separator f.0 && (lacks f.0 fs && names_apart separator fs)
 
--- Whether the text of a record with these fields determines it.
-abbrev pub fields_determine : List Field → Bool
-fields_determine fs = sizes_known fs && names_apart fs
+-- Whether the text of a record with these fields, with this byte between names and values, determines it.
+abbrev pub fields_determine : ℕ → List Field → Bool
+fields_determine separator fs = sizes_known fs && names_apart separator fs
 
 -- Whether a field isn't shown as a boolean.
 abbrev pub is_no_boolean : FieldShown → Bool
@@ -243,4 +251,4 @@ has_own_indexes i (f ∷ fs) =
 -- Whether the text of counters with these fields determines them.
 abbrev pub counters_determine : List Field → Bool
 counters_determine [] = false
-counters_determine (f ∷ fs) = is_counter f.2 f.1 && (names_apart (f ∷ fs) && has_own_indexes 0 (f ∷ fs))
+counters_determine (f ∷ fs) = is_counter f.2 f.1 && (names_apart 61 (f ∷ fs) && has_own_indexes 0 (f ∷ fs))

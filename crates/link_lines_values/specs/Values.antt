@@ -9,9 +9,9 @@ use Rattle.link_lines_values.specs.declared.fields.FieldShownBy.TheVariants as F
 use Rattle.link_lines_values.specs.declared.number_tables.Numbers.{Numbers}
 use Rattle.link_lines_values.specs.declared.values.ShownBy.{ShownBy}
 use Rattle.link_lines_values.specs.declared.values.ShownBy.TheVariants as S
-use Rattle.link_lines_values.specs.Digits.{big_endian, is_number, is_signed_size, hex_number}
+use Rattle.link_lines_values.specs.Digits.{big_endian, is_number, is_signed_size}
 use Rattle.link_lines_values.specs.Bytes.{address_text, bytes_text, hardware_text, quoted, boolean_text}
-use Rattle.link_lines_values.specs.Flags.{flags_text, word_flags}
+use Rattle.link_lines_values.specs.Flags.{big_endian_flags, flags_text, word_flags}
 use Rattle.link_lines_values.specs.Names.{Text, named_number, named_signed}
 use Rattle.link_lines_values.specs.Layouts.{layout_fields}
 use Rattle.link_lines_values.specs.NumberTexts.{number_texts}
@@ -64,7 +64,7 @@ flags_value p = named_flags_value [] p
 
 -- A set of big-endian flags of 1, 2, 3, 4 or 8 bytes, without names.
 abbrev pub big_endian_flags_value : List ℕ → List ℕ
-big_endian_flags_value p = cond (is_number p) (32 ∷ hex_number (big_endian p)) (bytes_text p)
+big_endian_flags_value p = cond (is_number p) (32 ∷ big_endian_flags p) (bytes_text p)
 
 -- A byte in decimal, or nothing.
 abbrev pub optional_byte_value : List ℕ → List ℕ

@@ -7,12 +7,12 @@ ghost use Rattle.link_lines_values.specs.NumberTexts.{bridge_texts};
 use crate::number_tables::{NumberText, Numbers};
 
 /// Whether the sources of a multicast group are those included or excluded (if_bridge.h, MCAST_*).
-pub const MCAST_MODE: Numbers = Numbers(64);
+pub const MCAST_MODE: Numbers = Numbers(128);
 
 pub(crate) const MCAST_MODE_TEXTS: &[NumberText] = &[(0, b"exclude"), (1, b"include")];
 
 /// Types of multicast routers (if_bridge.h, MDB_RTR_TYPE_*).
-pub const MDB_ROUTER_TYPE: Numbers = Numbers(65);
+pub const MDB_ROUTER_TYPE: Numbers = Numbers(129);
 
 pub(crate) const MDB_ROUTER_TYPE_TEXTS: &[NumberText] = &[
     (0, b"disabled"),
@@ -22,12 +22,12 @@ pub(crate) const MDB_ROUTER_TYPE_TEXTS: &[NumberText] = &[
 ];
 
 /// States of multicast groups (if_bridge.h, MDB_TEMPORARY and MDB_PERMANENT).
-pub const MDB_STATE: Numbers = Numbers(66);
+pub const MDB_STATE: Numbers = Numbers(130);
 
 pub(crate) const MDB_STATE_TEXTS: &[NumberText] = &[(0, b"temporary"), (1, b"permanent")];
 
 /// States of a bridge's ports (if_bridge.h, BR_STATE_*).
-pub const BR_STATE: Numbers = Numbers(67);
+pub const BR_STATE: Numbers = Numbers(131);
 
 pub(crate) const BR_STATE_TEXTS: &[NumberText] = &[
     (0, b"disabled"),
@@ -38,22 +38,22 @@ pub(crate) const BR_STATE_TEXTS: &[NumberText] = &[
 ];
 
 /// Who runs a bridge's spanning tree protocol (if_link.h, IFLA_BR_STP_MODE).
-pub const BR_STP_MODE: Numbers = Numbers(68);
+pub const BR_STP_MODE: Numbers = Numbers(132);
 
 pub(crate) const BR_STP_MODE_TEXTS: &[NumberText] = &[(0, b"auto"), (1, b"user"), (2, b"kernel")];
 
 /// How a device's embedded bridge forwards (if_bridge.h, BRIDGE_MODE_*).
-pub const BRIDGE_MODE: Numbers = Numbers(69);
+pub const BRIDGE_MODE: Numbers = Numbers(133);
 
 pub(crate) const BRIDGE_MODE_TEXTS: &[NumberText] = &[(0, b"veb"), (1, b"vepa"), (65535, b"undef")];
 
 /// Protocols of redundant rings (if_link.h, IFLA_HSR_PROTOCOL).
-pub const HSR_PROTOCOL: Numbers = Numbers(70);
+pub const HSR_PROTOCOL: Numbers = Numbers(134);
 
 pub(crate) const HSR_PROTOCOL_TEXTS: &[NumberText] = &[(0, b"hsr"), (1, b"prp")];
 
 /// States of a CAN controller (can/netlink.h, `enum can_state`).
-pub const CAN_STATE: Numbers = Numbers(71);
+pub const CAN_STATE: Numbers = Numbers(135);
 
 pub(crate) const CAN_STATE_TEXTS: &[NumberText] = &[
     (0, b"error_active"),
@@ -65,17 +65,17 @@ pub(crate) const CAN_STATE_TEXTS: &[NumberText] = &[
 ];
 
 /// Types of tunnels to a process (if_tun.h, IFF_TUN and IFF_TAP).
-pub const TUN_TYPE: Numbers = Numbers(72);
+pub const TUN_TYPE: Numbers = Numbers(136);
 
 pub(crate) const TUN_TYPE_TEXTS: &[NumberText] = &[(1, b"tun"), (2, b"tap")];
 
 /// Whether a netkit has a peer (if_link.h, NETKIT_DEVICE_*).
-pub const NETKIT_PAIRING: Numbers = Numbers(73);
+pub const NETKIT_PAIRING: Numbers = Numbers(137);
 
 pub(crate) const NETKIT_PAIRING_TEXTS: &[NumberText] = &[(0, b"pair"), (1, b"single")];
 
 /// Requests of a virtual port (if_link.h, PORT_REQUEST_*).
-pub const PORT_REQUEST: Numbers = Numbers(74);
+pub const PORT_REQUEST: Numbers = Numbers(138);
 
 pub(crate) const PORT_REQUEST_TEXTS: &[NumberText] = &[
     (0, b"preassociate"),
@@ -85,12 +85,12 @@ pub(crate) const PORT_REQUEST_TEXTS: &[NumberText] = &[
 ];
 
 /// What a dump of a bridge's VLANs has (if_bridge.h, BRIDGE_VLANDB_DUMPF_*).
-pub const VLANDB_DUMP_FLAGS: Numbers = Numbers(75);
+pub const VLANDB_DUMP_FLAGS: Numbers = Numbers(139);
 
 pub(crate) const VLANDB_DUMP_FLAGS_TEXTS: &[NumberText] = &[(0x1, b"STATS"), (0x2, b"GLOBAL")];
 
 /// Flags of multicast groups (if_bridge.h, MDB_FLAGS_*).
-pub const MDB_FLAGS: Numbers = Numbers(76);
+pub const MDB_FLAGS: Numbers = Numbers(140);
 
 pub(crate) const MDB_FLAGS_TEXTS: &[NumberText] = &[
     (0x1, b"OFFLOAD"),
@@ -101,12 +101,12 @@ pub(crate) const MDB_FLAGS_TEXTS: &[NumberText] = &[
 ];
 
 /// Whom a request about a bridge's port is for (if_bridge.h, BRIDGE_FLAGS_*).
-pub const BRIDGE_FLAGS: Numbers = Numbers(77);
+pub const BRIDGE_FLAGS: Numbers = Numbers(141);
 
 pub(crate) const BRIDGE_FLAGS_TEXTS: &[NumberText] = &[(0x1, b"MASTER"), (0x2, b"SELF")];
 
 /// Flags of a port's VLANs (if_bridge.h, BRIDGE_VLAN_INFO_*).
-pub const BRIDGE_VLAN_FLAGS: Numbers = Numbers(78);
+pub const BRIDGE_VLAN_FLAGS: Numbers = Numbers(142);
 
 pub(crate) const BRIDGE_VLAN_FLAGS_TEXTS: &[NumberText] = &[
     (0x1, b"MASTER"),
@@ -119,7 +119,7 @@ pub(crate) const BRIDGE_VLAN_FLAGS_TEXTS: &[NumberText] = &[
 ];
 
 /// Flags of a `vlan` (if_vlan.h, `enum vlan_flags`).
-pub const VLAN_FLAGS: Numbers = Numbers(79);
+pub const VLAN_FLAGS: Numbers = Numbers(143);
 
 pub(crate) const VLAN_FLAGS_TEXTS: &[NumberText] = &[
     (0x1, b"REORDER_HDR"),
@@ -130,7 +130,7 @@ pub(crate) const VLAN_FLAGS_TEXTS: &[NumberText] = &[
 ];
 
 /// Options of a bridge, by their number as a bit (if_bridge.h, BR_BOOLOPT_*).
-pub const BR_BOOLOPT: Numbers = Numbers(80);
+pub const BR_BOOLOPT: Numbers = Numbers(144);
 
 pub(crate) const BR_BOOLOPT_TEXTS: &[NumberText] = &[
     (0x1, b"NO_LL_LEARN"),
@@ -141,7 +141,7 @@ pub(crate) const BR_BOOLOPT_TEXTS: &[NumberText] = &[
 ];
 
 /// Modes of a CAN controller (can/netlink.h, CAN_CTRLMODE_*).
-pub const CAN_CTRLMODE_FLAGS: Numbers = Numbers(81);
+pub const CAN_CTRLMODE_FLAGS: Numbers = Numbers(145);
 
 pub(crate) const CAN_CTRLMODE_FLAGS_TEXTS: &[NumberText] = &[
     (0x1, b"LOOPBACK"),

@@ -10,7 +10,7 @@ use crate::fields::{FieldOf, Fields, Layout};
 use crate::number_texts::PLAIN;
 
 /// if_link.h, `struct hw_stats64`.
-pub const HW_STATS64: Layout = Layout(55);
+pub const HW_STATS64: Layout = Layout(96);
 
 pub(crate) const HW_STATS64_FIELDS: Fields = &[
     FieldOf(b"rx_packets", 8, Number(PLAIN)),
@@ -25,7 +25,7 @@ pub(crate) const HW_STATS64_FIELDS: Fields = &[
 ];
 
 /// mpls.h, `struct mpls_link_stats`.
-pub const MPLS_LINK_STATS: Layout = Layout(56);
+pub const MPLS_LINK_STATS: Layout = Layout(97);
 
 pub(crate) const MPLS_LINK_STATS_FIELDS: Fields = &[
     FieldOf(b"rx_packets", 8, Number(PLAIN)),
@@ -40,7 +40,7 @@ pub(crate) const MPLS_LINK_STATS_FIELDS: Fields = &[
 ];
 
 /// if_bridge.h, `struct bridge_vlan_info`.
-pub const BRIDGE_VLAN_INFO: Layout = Layout(57);
+pub const BRIDGE_VLAN_INFO: Layout = Layout(98);
 
 pub(crate) const BRIDGE_VLAN_INFO_FIELDS: Fields = &[
     FieldOf(b"flags", 2, Flags(BRIDGE_VLAN_FLAGS)),
@@ -48,7 +48,7 @@ pub(crate) const BRIDGE_VLAN_INFO_FIELDS: Fields = &[
 ];
 
 /// if_bridge.h, `struct bridge_vlan_xstats`.
-pub const BRIDGE_VLAN_XSTATS: Layout = Layout(58);
+pub const BRIDGE_VLAN_XSTATS: Layout = Layout(99);
 
 pub(crate) const BRIDGE_VLAN_XSTATS_FIELDS: Fields = &[
     FieldOf(b"rx_bytes", 8, Number(PLAIN)),
@@ -57,11 +57,11 @@ pub(crate) const BRIDGE_VLAN_XSTATS_FIELDS: Fields = &[
     FieldOf(b"tx_packets", 8, Number(PLAIN)),
     FieldOf(b"vid", 2, Number(PLAIN)),
     FieldOf(b"flags", 2, Flags(BRIDGE_VLAN_FLAGS)),
-    FieldOf(b"", 4, Padding),
+    FieldOf(b"padding", 4, Padding),
 ];
 
 /// if_bridge.h, `struct br_mcast_stats`.
-pub const BR_MCAST_STATS: Layout = Layout(59);
+pub const BR_MCAST_STATS: Layout = Layout(100);
 
 pub(crate) const BR_MCAST_STATS_FIELDS: Fields = &[
     FieldOf(b"igmp_v1queries_rx", 8, Number(PLAIN)),
@@ -97,7 +97,7 @@ pub(crate) const BR_MCAST_STATS_FIELDS: Fields = &[
 ];
 
 /// if_bridge.h, `struct bridge_stp_xstats`.
-pub const BRIDGE_STP_XSTATS: Layout = Layout(60);
+pub const BRIDGE_STP_XSTATS: Layout = Layout(101);
 
 pub(crate) const BRIDGE_STP_XSTATS_FIELDS: Fields = &[
     FieldOf(b"transition_blk", 8, Number(PLAIN)),
@@ -109,7 +109,7 @@ pub(crate) const BRIDGE_STP_XSTATS_FIELDS: Fields = &[
 ];
 
 /// if_link.h, `struct ifla_vlan_qos_mapping`.
-pub const IFLA_VLAN_QOS_MAPPING: Layout = Layout(61);
+pub const IFLA_VLAN_QOS_MAPPING: Layout = Layout(102);
 
 pub(crate) const IFLA_VLAN_QOS_MAPPING_FIELDS: Fields = &[
     FieldOf(b"from", 4, Number(PLAIN)),
@@ -117,26 +117,26 @@ pub(crate) const IFLA_VLAN_QOS_MAPPING_FIELDS: Fields = &[
 ];
 
 /// if_link.h, `struct ifla_vf_guid`.
-pub const IFLA_VF_GUID: Layout = Layout(62);
+pub const IFLA_VF_GUID: Layout = Layout(103);
 
 pub(crate) const IFLA_VF_GUID_FIELDS: Fields = &[
     FieldOf(b"vf", 4, Number(PLAIN)),
-    FieldOf(b"", 4, Padding),
+    FieldOf(b"padding", 4, Padding),
     FieldOf(b"guid", 8, Flags(PLAIN)),
 ];
 
 /// if_link.h, `struct ifla_port_vsi`.
-pub const IFLA_PORT_VSI: Layout = Layout(63);
+pub const IFLA_PORT_VSI: Layout = Layout(104);
 
 pub(crate) const IFLA_PORT_VSI_FIELDS: Fields = &[
     FieldOf(b"vsi_mgr_id", 1, Number(PLAIN)),
     FieldOf(b"vsi_type_id", 3, Number(PLAIN)),
     FieldOf(b"vsi_type_version", 1, Number(PLAIN)),
-    FieldOf(b"", 3, Padding),
+    FieldOf(b"padding", 3, Padding),
 ];
 
 /// can/netlink.h, `struct can_bittiming`.
-pub const CAN_BITTIMING: Layout = Layout(64);
+pub const CAN_BITTIMING: Layout = Layout(105);
 
 pub(crate) const CAN_BITTIMING_FIELDS: Fields = &[
     FieldOf(b"bitrate", 4, Number(PLAIN)),
@@ -150,7 +150,7 @@ pub(crate) const CAN_BITTIMING_FIELDS: Fields = &[
 ];
 
 /// can/netlink.h, `struct can_bittiming_const`.
-pub const CAN_BITTIMING_CONST: Layout = Layout(65);
+pub const CAN_BITTIMING_CONST: Layout = Layout(106);
 
 pub(crate) const CAN_BITTIMING_CONST_FIELDS: Fields = &[
     FieldOf(b"name", 16, Text),
@@ -165,7 +165,7 @@ pub(crate) const CAN_BITTIMING_CONST_FIELDS: Fields = &[
 ];
 
 /// can/netlink.h, `struct can_ctrlmode`.
-pub const CAN_CTRLMODE: Layout = Layout(66);
+pub const CAN_CTRLMODE: Layout = Layout(107);
 
 pub(crate) const CAN_CTRLMODE_FIELDS: Fields = &[
     FieldOf(b"mask", 4, Flags(CAN_CTRLMODE_FLAGS)),
@@ -173,7 +173,7 @@ pub(crate) const CAN_CTRLMODE_FIELDS: Fields = &[
 ];
 
 /// can/netlink.h, `struct can_berr_counter`.
-pub const CAN_BERR_COUNTER: Layout = Layout(67);
+pub const CAN_BERR_COUNTER: Layout = Layout(108);
 
 pub(crate) const CAN_BERR_COUNTER_FIELDS: Fields = &[
     FieldOf(b"txerr", 2, Number(PLAIN)),
@@ -181,7 +181,7 @@ pub(crate) const CAN_BERR_COUNTER_FIELDS: Fields = &[
 ];
 
 /// Statistics of CAN devices (can/netlink.h, `struct can_device_stats`).
-pub const CAN_DEVICE_STATS: Layout = Layout(68);
+pub const CAN_DEVICE_STATS: Layout = Layout(109);
 
 pub(crate) const CAN_DEVICE_STATS_FIELDS: Fields = &[
     FieldOf(b"bus_error", 4, Number(PLAIN)),

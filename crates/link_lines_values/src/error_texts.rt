@@ -16,7 +16,7 @@ macro_rules! errors {
 
 /// Errors in acknowledgements and at the end of dumps (asm-generic/errno-base.h,
 /// asm-generic/errno.h: E*), and the kernel's own ENOTSUPP (include/linux/errno.h).
-pub const ERROR: Numbers = Numbers(82);
+pub const ERROR: Numbers = Numbers(160);
 
 pub(crate) const ERROR_TEXTS: &[NumberText] = errors!(
     (1, b"EPERM"),

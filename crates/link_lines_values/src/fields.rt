@@ -4,11 +4,7 @@ ghost use Rattle.std.specs.Prelude.{◌≡◌};
 ghost use Rattle.link_lines_values.specs.Layouts.{layout_fields};
 ghost use Rattle.link_lines_values.specs.Records.{fields_of};
 
-use crate::device_layouts::HW_STATS64;
-use crate::line_layouts::IFADDRMSG;
-use crate::number_tables::Numbers;
-use crate::route_layouts::IFA_CACHEINFO;
-use crate::traffic_layouts::TC_HANDLE;
+use crate::number_tables::{GROUP_SIZE, Numbers};
 use crate::{device_layouts, layouts, line_layouts, route_layouts, traffic_layouts};
 
 /// How a field of a record is shown, with names of numbers of type `T`, also for bits.
@@ -22,6 +18,11 @@ pub enum FieldShownBy<T> {
     BigEndian(T),
     /// A little-endian set of flags with the names of its bits; ` (all)` for all bits of 4 bytes.
     Flags(T),
+    /// A big-endian set of flags without names; ` (all)` for all bits of 4 bytes.
+    BigEndianFlags,
+    /// A byte, and in brackets the weight of a next hop, which is one more (rtnetlink.h: the hops of
+    /// struct rtnexthop).
+    Weight,
     /// A hardware address, padded with zeros.
     Address,
     /// A boolean: a number that is zero or not.
@@ -33,7 +34,9 @@ pub enum FieldShownBy<T> {
     /// An address of 16 bytes and its big-endian protocol with its name (if_bridge.h: the addr of
     /// struct br_mdb_entry).
     Group(T),
-    /// Zeros that aren't shown.
+    /// An IPv6 address of 16 bytes.
+    Ipv6,
+    /// Bytes in hex, which are shown only if they aren't all zero.
     Padding,
 }
 
@@ -61,17 +64,14 @@ impl Layout {
     pub fn fields(self) -> Fields
         ensures { fields_of (λ b. b.now) result.now ≡ layout_fields self }
     {
-        let index = self.0;
-        if index < IFADDRMSG.0 {
-            layouts::fields(index)
-        } else if index < IFA_CACHEINFO.0 {
-            line_layouts::fields(index - IFADDRMSG.0)
-        } else if index < HW_STATS64.0 {
-            route_layouts::fields(index - IFA_CACHEINFO.0)
-        } else if index < TC_HANDLE.0 {
-            device_layouts::fields(index - HW_STATS64.0)
-        } else {
-            traffic_layouts::fields(index - TC_HANDLE.0)
+        let index = self.0 % GROUP_SIZE;
+        match self.0 / GROUP_SIZE {
+            0 => layouts::fields(index),
+            1 => line_layouts::fields(index),
+            2 => route_layouts::fields(index),
+            3 => device_layouts::fields(index),
+            4 => traffic_layouts::fields(index),
+            _ => &[],
         }
     }
 }

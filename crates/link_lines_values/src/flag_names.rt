@@ -22,7 +22,7 @@ macro_rules! message_flags {
 }
 
 /// Flags of links (if.h: IFF_*).
-pub const LINK_FLAGS: Numbers = Numbers(23);
+pub const LINK_FLAGS: Numbers = Numbers(32);
 
 pub(crate) const LINK_FLAGS_TEXTS: &[NumberText] = &[
     (0x1, b"Up"),
@@ -47,7 +47,7 @@ pub(crate) const LINK_FLAGS_TEXTS: &[NumberText] = &[
 ];
 
 /// The mask of a request for links (rtnetlink.h: RTEXT_FILTER_*).
-pub const LINK_EXTENT_MASK: Numbers = Numbers(24);
+pub const LINK_EXTENT_MASK: Numbers = Numbers(33);
 
 pub(crate) const LINK_EXTENT_MASK_TEXTS: &[NumberText] = &[
     (0x1, b"Vf"),
@@ -61,12 +61,12 @@ pub(crate) const LINK_EXTENT_MASK_TEXTS: &[NumberText] = &[
 ];
 
 /// Flags of any message (netlink.h: NLM_F_*).
-pub const MESSAGE_FLAGS: Numbers = Numbers(25);
+pub const MESSAGE_FLAGS: Numbers = Numbers(34);
 
 pub(crate) const MESSAGE_FLAGS_TEXTS: &[NumberText] = message_flags!();
 
 /// Flags of requests to get (netlink.h: NLM_F_*).
-pub const MESSAGE_GET_FLAGS: Numbers = Numbers(26);
+pub const MESSAGE_GET_FLAGS: Numbers = Numbers(35);
 
 pub(crate) const MESSAGE_GET_FLAGS_TEXTS: &[NumberText] = message_flags!(
     (0x100, b"ROOT"),
@@ -75,7 +75,7 @@ pub(crate) const MESSAGE_GET_FLAGS_TEXTS: &[NumberText] = message_flags!(
 );
 
 /// Flags of requests to create or set (netlink.h: NLM_F_*).
-pub const MESSAGE_CREATE_FLAGS: Numbers = Numbers(27);
+pub const MESSAGE_CREATE_FLAGS: Numbers = Numbers(36);
 
 pub(crate) const MESSAGE_CREATE_FLAGS_TEXTS: &[NumberText] = message_flags!(
     (0x100, b"REPLACE"),
@@ -85,7 +85,7 @@ pub(crate) const MESSAGE_CREATE_FLAGS_TEXTS: &[NumberText] = message_flags!(
 );
 
 /// Flags of requests to delete (netlink.h: NLM_F_*).
-pub const MESSAGE_DELETE_FLAGS: Numbers = Numbers(28);
+pub const MESSAGE_DELETE_FLAGS: Numbers = Numbers(37);
 
 pub(crate) const MESSAGE_DELETE_FLAGS_TEXTS: &[NumberText] = message_flags!(
     (0x100, b"NONREC"),
@@ -93,7 +93,7 @@ pub(crate) const MESSAGE_DELETE_FLAGS_TEXTS: &[NumberText] = message_flags!(
 );
 
 /// Flags of acknowledgements (netlink.h: NLM_F_*).
-pub const MESSAGE_ACK_FLAGS: Numbers = Numbers(29);
+pub const MESSAGE_ACK_FLAGS: Numbers = Numbers(38);
 
 pub(crate) const MESSAGE_ACK_FLAGS_TEXTS: &[NumberText] = message_flags!(
     (0x100, b"CAPPED"),

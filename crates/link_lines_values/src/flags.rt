@@ -4,7 +4,8 @@ ghost use Rattle.std.specs.Prelude.{◌≡◌, ◌++◌, not, IfOk, OnOk};
 ghost use Rattle.link_lines_values.specs.Appends.{Appends};
 ghost use Rattle.link_lines_values.specs.Names.{texts_of};
 ghost use Rattle.link_lines_values.specs.Flags.{has_none, listed, opened, named_flags, nameless, nameless_text, names_set};
-ghost use Rattle.link_lines_values.specs.Flags.{flags_text, word_flags};
+ghost use Rattle.link_lines_values.specs.Digits.{big_endian};
+ghost use Rattle.link_lines_values.specs.Flags.{big_endian_flags, flags_text, word_flags};
 ghost use Rattle.attribute_tables_grammar.specs.Shapes.{number};
 
 use crate::digits::push_hex;
@@ -114,4 +115,21 @@ pub(crate) fn push_flags_of(
         [a, b, c, d] => push_word_flags(names, u32::from_le_bytes([*a, *b, *c, *d]), out),
         _ => push_flags(names, flags, out),
     }
+}
+
+/// Appends the big-endian flags of some bytes, given as a number too: in hex, or as
+/// `0xffffffff (all)` if there are 4 bytes and all their bits are set.
+pub(crate) fn push_big_endian_flags_of(
+    flags: u64,
+    bytes: &[u8],
+    out: &mut Vec<u8>,
+) -> Result<(), AllocError>
+    requires { flags ≡ big_endian bytes.now }
+    ensures { Appends out.old out.new result (big_endian_flags bytes.now) }
+{
+    push_hex(flags, out)?;
+    if bytes.len() == 4 && flags == u64::from(u32::MAX) {
+        out.extend_from_slice(b" (all)")?;
+    }
+    Ok(())
 }

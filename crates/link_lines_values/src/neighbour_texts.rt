@@ -8,7 +8,7 @@ ghost use Rattle.link_lines_values.specs.NumberTexts.{neighbour_texts};
 use crate::number_tables::{NumberText, Numbers};
 
 /// Actions of rules (fib_rules.h, FR_ACT_*).
-pub const FR_ACT: Numbers = Numbers(48);
+pub const FR_ACT: Numbers = Numbers(96);
 
 pub(crate) const FR_ACT_TEXTS: &[NumberText] = &[
     (0, b"unspec"),
@@ -23,7 +23,7 @@ pub(crate) const FR_ACT_TEXTS: &[NumberText] = &[
 ];
 
 /// Handles with a name (pkt_sched.h, TC_H_*).
-pub const TC_PARENT: Numbers = Numbers(49);
+pub const TC_PARENT: Numbers = Numbers(97);
 
 pub(crate) const TC_PARENT_TEXTS: &[NumberText] = &[
     (4294967281, b"ingress"),
@@ -31,7 +31,7 @@ pub(crate) const TC_PARENT_TEXTS: &[NumberText] = &[
 ];
 
 /// Indexes that stand for no single link (netconf.h, NETCONFA_IFINDEX_*).
-pub const NETCONF_IFINDEX: Numbers = Numbers(50);
+pub const NETCONF_IFINDEX: Numbers = Numbers(98);
 
 pub(crate) const NETCONF_IFINDEX_TEXTS: &[NumberText] = &[
     (4294967294, b"default"),
@@ -39,12 +39,12 @@ pub(crate) const NETCONF_IFINDEX_TEXTS: &[NumberText] = &[
 ];
 
 /// Types of groups of next hops (nexthop.h, NEXTHOP_GRP_TYPE_*).
-pub const NEXTHOP_GRP_TYPE: Numbers = Numbers(51);
+pub const NEXTHOP_GRP_TYPE: Numbers = Numbers(99);
 
 pub(crate) const NEXTHOP_GRP_TYPE_TEXTS: &[NumberText] = &[(0, b"mpath"), (1, b"res")];
 
 /// States of neighbours (neighbour.h, NUD_*).
-pub const NEIGH_STATE: Numbers = Numbers(52);
+pub const NEIGH_STATE: Numbers = Numbers(100);
 
 pub(crate) const NEIGH_STATE_TEXTS: &[NumberText] = &[
     (0x1, b"INCOMPLETE"),
@@ -58,7 +58,7 @@ pub(crate) const NEIGH_STATE_TEXTS: &[NumberText] = &[
 ];
 
 /// Flags of neighbours (neighbour.h, NTF_*).
-pub const NEIGH_FLAGS: Numbers = Numbers(53);
+pub const NEIGH_FLAGS: Numbers = Numbers(101);
 
 pub(crate) const NEIGH_FLAGS_TEXTS: &[NumberText] = &[
     (0x1, b"USE"),
@@ -72,7 +72,7 @@ pub(crate) const NEIGH_FLAGS_TEXTS: &[NumberText] = &[
 ];
 
 /// More flags of neighbours (neighbour.h, NTF_EXT_*).
-pub const NEIGH_FLAGS_EXT: Numbers = Numbers(54);
+pub const NEIGH_FLAGS_EXT: Numbers = Numbers(102);
 
 pub(crate) const NEIGH_FLAGS_EXT_TEXTS: &[NumberText] = &[
     (0x1, b"MANAGED"),
@@ -82,12 +82,12 @@ pub(crate) const NEIGH_FLAGS_EXT_TEXTS: &[NumberText] = &[
 
 /// When a bridge reports a forwarding entry (neighbour.h, FDB_NOTIFY_BIT and
 /// FDB_NOTIFY_INACTIVE_BIT).
-pub const FDB_NOTIFY: Numbers = Numbers(55);
+pub const FDB_NOTIFY: Numbers = Numbers(103);
 
 pub(crate) const FDB_NOTIFY_TEXTS: &[NumberText] = &[(0x1, b"NOTIFY"), (0x2, b"INACTIVE")];
 
 /// Flags of rules (fib_rules.h, FIB_RULE_*).
-pub const FIB_RULE_FLAGS: Numbers = Numbers(56);
+pub const FIB_RULE_FLAGS: Numbers = Numbers(104);
 
 pub(crate) const FIB_RULE_FLAGS_TEXTS: &[NumberText] = &[
     (0x1, b"PERMANENT"),
@@ -99,12 +99,12 @@ pub(crate) const FIB_RULE_FLAGS_TEXTS: &[NumberText] = &[
 ];
 
 /// Flags of a dump of filters (rtnetlink.h, TCA_DUMP_FLAGS_*).
-pub const TCA_DUMP_FLAGS: Numbers = Numbers(57);
+pub const TCA_DUMP_FLAGS: Numbers = Numbers(105);
 
 pub(crate) const TCA_DUMP_FLAGS_TEXTS: &[NumberText] = &[(0x1, b"TERSE")];
 
 /// Flags of a dump of actions (rtnetlink.h, TCA_ACT_FLAG_*).
-pub const TCA_ROOT_FLAGS: Numbers = Numbers(58);
+pub const TCA_ROOT_FLAGS: Numbers = Numbers(106);
 
 pub(crate) const TCA_ROOT_FLAGS_TEXTS: &[NumberText] = &[
     (0x1, b"LARGE_DUMP_ON"),
@@ -112,7 +112,7 @@ pub(crate) const TCA_ROOT_FLAGS_TEXTS: &[NumberText] = &[
 ];
 
 /// Flags of actions (pkt_cls.h, TCA_ACT_FLAGS_*).
-pub const TCA_ACT_FLAGS: Numbers = Numbers(59);
+pub const TCA_ACT_FLAGS: Numbers = Numbers(107);
 
 pub(crate) const TCA_ACT_FLAGS_TEXTS: &[NumberText] = &[
     (0x1, b"NO_PERCPU_STATS"),
@@ -121,12 +121,12 @@ pub(crate) const TCA_ACT_FLAGS_TEXTS: &[NumberText] = &[
 ];
 
 /// How a device reports statistics of actions (pkt_cls.h, TCA_ACT_HW_STATS_*).
-pub const TCA_ACT_HW_STATS: Numbers = Numbers(60);
+pub const TCA_ACT_HW_STATS: Numbers = Numbers(108);
 
 pub(crate) const TCA_ACT_HW_STATS_TEXTS: &[NumberText] = &[(0x1, b"IMMEDIATE"), (0x2, b"DELAYED")];
 
 /// Statistics that are asked for, by their number as a bit (if_link.h, IFLA_STATS_*).
-pub const STATS_FILTER: Numbers = Numbers(61);
+pub const STATS_FILTER: Numbers = Numbers(109);
 
 pub(crate) const STATS_FILTER_TEXTS: &[NumberText] = &[
     (0x1, b"LINK_64"),
@@ -137,7 +137,7 @@ pub(crate) const STATS_FILTER_TEXTS: &[NumberText] = &[
 ];
 
 /// What a dump of next hops has (nexthop.h, NHA_OP_FLAG_*).
-pub const NHA_OP_FLAGS: Numbers = Numbers(62);
+pub const NHA_OP_FLAGS: Numbers = Numbers(110);
 
 pub(crate) const NHA_OP_FLAGS_TEXTS: &[NumberText] = &[
     (0x1, b"DUMP_STATS"),
@@ -146,7 +146,7 @@ pub(crate) const NHA_OP_FLAGS_TEXTS: &[NumberText] = &[
 ];
 
 /// Flags of messages about tunnels (if_link.h, TUNNEL_MSG_FLAG_*).
-pub const TUNNEL_MSG_FLAGS: Numbers = Numbers(63);
+pub const TUNNEL_MSG_FLAGS: Numbers = Numbers(111);
 
 pub(crate) const TUNNEL_MSG_FLAGS_TEXTS: &[NumberText] = &[(0x1, b"STATS")];
 

@@ -4,17 +4,14 @@ ghost use Rattle.std.specs.Prelude.{◌≡◌};
 ghost use Rattle.link_lines_values.specs.Names.{texts_of};
 ghost use Rattle.link_lines_values.specs.NumberTexts.{number_texts};
 
-use crate::bridge_texts::MCAST_MODE;
-use crate::error_texts::ERROR;
-use crate::flag_names::LINK_FLAGS;
-use crate::neighbour_texts::FR_ACT;
 use crate::number_texts::PLAIN;
-use crate::route_texts::FAMILY;
-use crate::traffic_texts::TC_ACTION;
 use crate::{
     bridge_texts, error_texts, flag_names, neighbour_texts, number_texts, route_texts,
     traffic_texts,
 };
+
+/// How many indexes the tables of one file have. Those that aren't used are for new tables.
+pub(crate) const GROUP_SIZE: u8 = 32;
 
 /// A number, or a bit, and its name.
 pub type NumberText = (u32, &'static [u8]);
@@ -44,21 +41,16 @@ impl Numbers {
     fn texts_by_group(self) -> &'static [NumberText]
         ensures { texts_of (λ b. b.now) result.now ≡ number_texts self }
     {
-        let index = self.0;
-        if index < LINK_FLAGS.0 {
-            number_texts::texts(index)
-        } else if index < FAMILY.0 {
-            flag_names::texts(index - LINK_FLAGS.0)
-        } else if index < FR_ACT.0 {
-            route_texts::texts(index - FAMILY.0)
-        } else if index < MCAST_MODE.0 {
-            neighbour_texts::texts(index - FR_ACT.0)
-        } else if index < ERROR.0 {
-            bridge_texts::texts(index - MCAST_MODE.0)
-        } else if index < TC_ACTION.0 {
-            error_texts::texts(index - ERROR.0)
-        } else {
-            traffic_texts::texts(index - TC_ACTION.0)
+        let index = self.0 % GROUP_SIZE;
+        match self.0 / GROUP_SIZE {
+            0 => number_texts::texts(index),
+            1 => flag_names::texts(index),
+            2 => route_texts::texts(index),
+            3 => neighbour_texts::texts(index),
+            4 => bridge_texts::texts(index),
+            5 => error_texts::texts(index),
+            6 => traffic_texts::texts(index),
+            _ => &[],
         }
     }
 }

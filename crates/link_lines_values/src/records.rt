@@ -6,10 +6,10 @@ ghost use Rattle.link_lines_values.specs.Appends.{Appends};
 ghost use Rattle.link_lines_values.specs.Bytes.{is_zero};
 ghost use Rattle.link_lines_values.specs.Names.{texts_of};
 ghost use Rattle.link_lines_values.specs.Records.{field_of, field_text, field_value, fields_of, fields_text};
-ghost use Rattle.link_lines_values.specs.Records.{handle_or_hex, has_zero_padding, is_hidden, is_padding};
+ghost use Rattle.link_lines_values.specs.Records.{handle_or_hex, is_hidden, is_padding};
 ghost use Rattle.link_lines_values.specs.Records.{is_record};
 ghost use Rattle.link_lines_values.specs.Records.{counter_name, counters_text, is_counters, nonzero_text, slots_text};
-ghost use Rattle.link_lines_values.specs.Records.{number_or_hex, record_text, shown_of, total_size};
+ghost use Rattle.link_lines_values.specs.Records.{number_or_hex, record_text, shown_of, total_size, weight_text};
 
 use crate::bytes::{
     is_zero, push_boolean, push_bytes, push_hex_text, push_padded_address, push_padded_text,
@@ -18,8 +18,9 @@ use crate::digits::{
     big_endian, is_signed_size, little_endian, push_decimal, push_hex_digits, push_signed,
 };
 use crate::fields::{Field, FieldShown, FieldShownBy};
-use crate::flags::{FlagName, push_flags_of};
+use crate::flags::{FlagName, push_big_endian_flags_of, push_flags_of};
 use crate::groups::push_group;
+use crate::internet::push_ipv6;
 use crate::number_tables::NumberText;
 use crate::numbers::{push_bracketed_name, push_number};
 use std::alloc::AllocError;
@@ -83,6 +84,49 @@ fn push_field_flags(names: &[FlagName], part: &[u8], out: &mut Vec<u8>) -> Resul
     }
 }
 
+// Appends the big-endian flags of a field, or its bytes if no number has their size.
+// Out of line, as few fields need it: inlined, it would slow `push_field_value`.
+#[inline(never)]
+fn push_field_big_endian_flags(part: &[u8], out: &mut Vec<u8>) -> Result<(), AllocError>
+    ensures { Appends out.old out.new result (field_value FieldShownBy.BigEndianFlags part.now) }
+{
+    match big_endian(part) {
+        Some(flags) => push_big_endian_flags_of(flags, part, out),
+        None => push_hex_text(part, out),
+    }
+}
+
+// Appends a byte and the weight of a next hop, which is one more, or bytes of another size.
+// Out of line, as few fields need it: inlined, it would slow `push_field_value`.
+#[inline(never)]
+fn push_weight(part: &[u8], out: &mut Vec<u8>) -> Result<(), AllocError>
+    ensures { Appends out.old out.new result (weight_text part.now) }
+{
+    match part {
+        [hops] => {
+            push_decimal(u64::from(*hops), out)?;
+            out.extend_from_slice(b" (weight ")?;
+            push_decimal(u64::from(*hops) + 1, out)?;
+            out.push(b')')?;
+            Ok(())
+        }
+        _ => push_hex_text(part, out),
+    }
+}
+
+// Appends an IPv6 address, or bytes if they are not 16.
+// Out of line, as few fields need it: inlined, it would slow `push_field_value`.
+#[inline(never)]
+fn push_field_ipv6(part: &[u8], out: &mut Vec<u8>) -> Result<(), AllocError>
+    ensures { Appends out.old out.new result (field_value FieldShownBy.Ipv6 part.now) }
+{
+    if part.len() == 16 {
+        push_ipv6(part, out)
+    } else {
+        push_hex_text(part, out)
+    }
+}
+
 // Appends a handle of 4 bytes with its name, or bytes of another size.
 // Out of line, as few fields need it: inlined, it would slow `push_field_value`.
 #[inline(never)]
@@ -119,6 +163,8 @@ fn push_field_value(shown: &FieldShown, part: &[u8], out: &mut Vec<u8>) -> Resul
             push_field_number(table.texts(), big_endian(part), part, out)
         },
         FieldShownBy::Flags(table) => push_field_flags(table.texts(), part, out),
+        FieldShownBy::BigEndianFlags => push_field_big_endian_flags(part, out),
+        FieldShownBy::Weight => push_weight(part, out),
         FieldShownBy::Address => push_padded_address(part, out),
         FieldShownBy::Boolean => push_boolean(part, out),
         FieldShownBy::Handle(table) => {
@@ -126,7 +172,8 @@ fn push_field_value(shown: &FieldShown, part: &[u8], out: &mut Vec<u8>) -> Resul
         },
         FieldShownBy::Text => push_padded_text(part, out),
         FieldShownBy::Group(table) => push_group(table.texts(), part, out),
-        FieldShownBy::Padding => Ok(()),
+        FieldShownBy::Ipv6 => push_field_ipv6(part, out),
+        FieldShownBy::Padding => push_hex_text(part, out),
     }
 }
 
@@ -164,11 +211,12 @@ fn is_zero_field(part: &[u8]) -> bool
     }
 }
 
-// Returns whether a field isn't shown: padding, and in a sparse record any field that is zero.
+// Returns whether a field isn't shown: padding that is zero, and in a sparse record any field that is
+// zero.
 fn is_hidden(is_sparse: bool, shown: &FieldShown, part: &[u8]) -> bool
     ensures { result ≡ is_hidden is_sparse (shown_of shown.now) part.now }
 {
-    is_padding(shown) || is_sparse && is_zero_field(part)
+    (is_sparse || is_padding(shown)) && is_zero_field(part)
 }
 
 // Appends the fields that are shown, each with a separator between its name and its value.
@@ -222,30 +270,11 @@ pub fn push_header_fields(rows: &[Field], bytes: &[u8], out: &mut Vec<u8>) -> Re
     push_fields(b' ', false, rows, bytes, out)
 }
 
-// Returns whether each field that is padding is zero.
-fn has_zero_padding(rows: &[Field], bytes: &[u8]) -> bool
-    requires { length bytes.now ≡ total_size (fields_of (λ b. b.now) rows.now) }
-    ensures { result ≡ has_zero_padding (fields_of (λ b. b.now) rows.now) bytes.now }
-{
-    let mut rest = bytes;
-    for row in rows {
-        let (part, after) = rest.split_at(usize::from(row.1));
-        if is_padding(&row.2) && !is_zero(part) {
-            return false;
-        }
-        rest = after;
-    }
-    true
-}
-
-/// Returns whether bytes are a record: they have the size of its fields, and padding is zero.
+/// Returns whether bytes are a record: they have the size of its fields.
 pub fn is_record(rows: &[Field], bytes: &[u8]) -> bool
     ensures { result ≡ is_record (fields_of (λ b. b.now) rows.now) bytes.now }
 {
-    match after_fields(rows, bytes) {
-        Some([]) => has_zero_padding(rows, bytes),
-        _ => false,
-    }
+    matches!(after_fields(rows, bytes), Some([]))
 }
 
 /// Returns the sum of the fields' sizes in bytes, or `usize::MAX` if it is larger than that.

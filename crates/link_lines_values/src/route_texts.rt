@@ -7,7 +7,7 @@ ghost use Rattle.link_lines_values.specs.NumberTexts.{route_texts};
 use crate::number_tables::{NumberText, Numbers};
 
 /// Address families (socket.h, AF_*; RTNL_FAMILY_* of rtnetlink.h).
-pub const FAMILY: Numbers = Numbers(30);
+pub const FAMILY: Numbers = Numbers(64);
 
 pub(crate) const FAMILY_TEXTS: &[NumberText] = &[
     (0, b"AF_UNSPEC"),
@@ -25,7 +25,7 @@ pub(crate) const FAMILY_TEXTS: &[NumberText] = &[
 ];
 
 /// How far the destination of a route or an address is (rtnetlink.h, `enum rt_scope_t`).
-pub const RT_SCOPE: Numbers = Numbers(31);
+pub const RT_SCOPE: Numbers = Numbers(65);
 
 pub(crate) const RT_SCOPE_TEXTS: &[NumberText] = &[
     (0, b"universe"),
@@ -36,7 +36,7 @@ pub(crate) const RT_SCOPE_TEXTS: &[NumberText] = &[
 ];
 
 /// Routing tables (rtnetlink.h, `enum rt_class_t`).
-pub const RT_TABLE: Numbers = Numbers(32);
+pub const RT_TABLE: Numbers = Numbers(66);
 
 pub(crate) const RT_TABLE_TEXTS: &[NumberText] = &[
     (0, b"unspec"),
@@ -47,7 +47,7 @@ pub(crate) const RT_TABLE_TEXTS: &[NumberText] = &[
 ];
 
 /// Who made a route (rtnetlink.h, RTPROT_*).
-pub const RT_PROTOCOL: Numbers = Numbers(33);
+pub const RT_PROTOCOL: Numbers = Numbers(67);
 
 pub(crate) const RT_PROTOCOL_TEXTS: &[NumberText] = &[
     (0, b"unspec"),
@@ -77,7 +77,7 @@ pub(crate) const RT_PROTOCOL_TEXTS: &[NumberText] = &[
 ];
 
 /// Types of routes (rtnetlink.h, RTN_*).
-pub const RTN_TYPE: Numbers = Numbers(34);
+pub const RTN_TYPE: Numbers = Numbers(68);
 
 pub(crate) const RTN_TYPE_TEXTS: &[NumberText] = &[
     (0, b"unspec"),
@@ -95,7 +95,7 @@ pub(crate) const RTN_TYPE_TEXTS: &[NumberText] = &[
 ];
 
 /// Why a route was deleted (rtnetlink.h, `enum rt_del_reason`).
-pub const RT_DEL_REASON: Numbers = Numbers(35);
+pub const RT_DEL_REASON: Numbers = Numbers(69);
 
 pub(crate) const RT_DEL_REASON_TEXTS: &[NumberText] = &[
     (0, b"unspec"),
@@ -104,7 +104,7 @@ pub(crate) const RT_DEL_REASON_TEXTS: &[NumberText] = &[
 ];
 
 /// Preferences of routers (icmpv6.h, ICMPV6_ROUTER_PREF_*).
-pub const ROUTER_PREF: Numbers = Numbers(36);
+pub const ROUTER_PREF: Numbers = Numbers(70);
 
 pub(crate) const ROUTER_PREF_TEXTS: &[NumberText] = &[
     (0, b"medium"),
@@ -114,7 +114,7 @@ pub(crate) const ROUTER_PREF_TEXTS: &[NumberText] = &[
 ];
 
 /// Who made an address (if_addr.h, IFAPROT_*).
-pub const IFA_PROTO: Numbers = Numbers(37);
+pub const IFA_PROTO: Numbers = Numbers(71);
 
 pub(crate) const IFA_PROTO_TEXTS: &[NumberText] = &[
     (0, b"unspec"),
@@ -124,7 +124,7 @@ pub(crate) const IFA_PROTO_TEXTS: &[NumberText] = &[
 ];
 
 /// Protocols over IP (in.h, IPPROTO_*).
-pub const IP_PROTO: Numbers = Numbers(38);
+pub const IP_PROTO: Numbers = Numbers(72);
 
 pub(crate) const IP_PROTO_TEXTS: &[NumberText] = &[
     (1, b"icmp"),
@@ -135,7 +135,7 @@ pub(crate) const IP_PROTO_TEXTS: &[NumberText] = &[
 ];
 
 /// Encapsulations of a route (lwtunnel.h, `enum lwtunnel_encap_types`).
-pub const ENCAP_TYPE: Numbers = Numbers(39);
+pub const ENCAP_TYPE: Numbers = Numbers(73);
 
 pub(crate) const ENCAP_TYPE_TEXTS: &[NumberText] = &[
     (0, b"none"),
@@ -152,7 +152,7 @@ pub(crate) const ENCAP_TYPE_TEXTS: &[NumberText] = &[
 ];
 
 /// Actions of a local segment (seg6_local.h, SEG6_LOCAL_ACTION_*).
-pub const SEG6_LOCAL_ACTION: Numbers = Numbers(40);
+pub const SEG6_LOCAL_ACTION: Numbers = Numbers(74);
 
 pub(crate) const SEG6_LOCAL_ACTION_TEXTS: &[NumberText] = &[
     (0, b"unspec"),
@@ -174,13 +174,24 @@ pub(crate) const SEG6_LOCAL_ACTION_TEXTS: &[NumberText] = &[
     (16, b"end_dt46"),
 ];
 
+/// How packets get a segment routing header (seg6_iptunnel.h, SEG6_IPTUN_MODE_*).
+pub const SEG6_MODE: Numbers = Numbers(75);
+
+pub(crate) const SEG6_MODE_TEXTS: &[NumberText] = &[
+    (0, b"inline"),
+    (1, b"encap"),
+    (2, b"l2encap"),
+    (3, b"encap.red"),
+    (4, b"l2encap.red"),
+];
+
 /// Ways in which IOAM is added (ioam6_iptunnel.h, IOAM6_IPTUNNEL_MODE_*).
-pub const IOAM6_MODE: Numbers = Numbers(41);
+pub const IOAM6_MODE: Numbers = Numbers(76);
 
 pub(crate) const IOAM6_MODE_TEXTS: &[NumberText] = &[(1, b"inline"), (2, b"encap"), (3, b"auto")];
 
 /// Flags of addresses (if_addr.h, IFA_F_*).
-pub const IFA_FLAGS: Numbers = Numbers(42);
+pub const IFA_FLAGS: Numbers = Numbers(77);
 
 pub(crate) const IFA_FLAGS_TEXTS: &[NumberText] = &[
     (0x1, b"SECONDARY"),
@@ -198,7 +209,7 @@ pub(crate) const IFA_FLAGS_TEXTS: &[NumberText] = &[
 ];
 
 /// Flags of next hops (rtnetlink.h, RTNH_F_*).
-pub const NEXTHOP_FLAGS: Numbers = Numbers(43);
+pub const NEXTHOP_FLAGS: Numbers = Numbers(78);
 
 pub(crate) const NEXTHOP_FLAGS_TEXTS: &[NumberText] = &[
     (0x1, b"DEAD"),
@@ -211,7 +222,7 @@ pub(crate) const NEXTHOP_FLAGS_TEXTS: &[NumberText] = &[
 ];
 
 /// Flags of routes (rtnetlink.h, RTM_F_* and RTNH_F_*).
-pub const ROUTE_FLAGS: Numbers = Numbers(44);
+pub const ROUTE_FLAGS: Numbers = Numbers(79);
 
 pub(crate) const ROUTE_FLAGS_TEXTS: &[NumberText] = &[
     (0x1, b"DEAD"),
@@ -233,7 +244,7 @@ pub(crate) const ROUTE_FLAGS_TEXTS: &[NumberText] = &[
 ];
 
 /// Metrics that are locked, by their number as a bit (rtnetlink.h, RTAX_*).
-pub const RTAX_LOCK: Numbers = Numbers(45);
+pub const RTAX_LOCK: Numbers = Numbers(80);
 
 pub(crate) const RTAX_LOCK_TEXTS: &[NumberText] = &[
     (0x4, b"MTU"),
@@ -253,7 +264,7 @@ pub(crate) const RTAX_LOCK_TEXTS: &[NumberText] = &[
 ];
 
 /// Features of a route (rtnetlink.h, RTAX_FEATURE_*).
-pub const RTAX_FEATURES: Numbers = Numbers(46);
+pub const RTAX_FEATURES: Numbers = Numbers(81);
 
 pub(crate) const RTAX_FEATURES_TEXTS: &[NumberText] = &[
     (0x1, b"ECN"),
@@ -264,13 +275,23 @@ pub(crate) const RTAX_FEATURES_TEXTS: &[NumberText] = &[
 ];
 
 /// Flavours of a local segment, by their number as a bit (seg6_local.h, SEG6_LOCAL_FLV_OP_*).
-pub const SEG6_FLAVORS: Numbers = Numbers(47);
+pub const SEG6_FLAVORS: Numbers = Numbers(82);
 
 pub(crate) const SEG6_FLAVORS_TEXTS: &[NumberText] = &[
     (0x2, b"PSP"),
     (0x4, b"USP"),
     (0x8, b"USD"),
     (0x10, b"NEXT_CSID"),
+];
+
+/// Flags of a segment routing header (seg6.h, SR6_FLAG1_*).
+pub const SEG6_FLAGS: Numbers = Numbers(83);
+
+pub(crate) const SEG6_FLAGS_TEXTS: &[NumberText] = &[
+    (0x8, b"HMAC"),
+    (0x10, b"ALERT"),
+    (0x20, b"OAM"),
+    (0x40, b"PROTECTED"),
 ];
 
 /// Returns the numbers of a table with their names, by its index from that of the first table here on.
@@ -289,13 +310,15 @@ pub(crate) fn texts(index: u8) -> &'static [NumberText]
         8 => IP_PROTO_TEXTS,
         9 => ENCAP_TYPE_TEXTS,
         10 => SEG6_LOCAL_ACTION_TEXTS,
-        11 => IOAM6_MODE_TEXTS,
-        12 => IFA_FLAGS_TEXTS,
-        13 => NEXTHOP_FLAGS_TEXTS,
-        14 => ROUTE_FLAGS_TEXTS,
-        15 => RTAX_LOCK_TEXTS,
-        16 => RTAX_FEATURES_TEXTS,
-        17 => SEG6_FLAVORS_TEXTS,
+        11 => SEG6_MODE_TEXTS,
+        12 => IOAM6_MODE_TEXTS,
+        13 => IFA_FLAGS_TEXTS,
+        14 => NEXTHOP_FLAGS_TEXTS,
+        15 => ROUTE_FLAGS_TEXTS,
+        16 => RTAX_LOCK_TEXTS,
+        17 => RTAX_FEATURES_TEXTS,
+        18 => SEG6_FLAVORS_TEXTS,
+        19 => SEG6_FLAGS_TEXTS,
         _ => &[],
     }
 }

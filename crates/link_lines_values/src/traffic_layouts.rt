@@ -4,24 +4,24 @@ ghost use Rattle.std.specs.Prelude.{◌≡◌, [], get_or};
 ghost use Rattle.link_lines_values.specs.Records.{fields_of};
 ghost use Rattle.link_lines_values.specs.Layouts.{traffic_layouts};
 
-use crate::fields::FieldShownBy::{Flags, Handle, Number, Signed};
+use crate::fields::FieldShownBy::{BigEndianFlags, Flags, Handle, Number, Padding, Signed};
 use crate::fields::{FieldOf, Fields, Layout};
 use crate::neighbour_texts::TC_PARENT;
 use crate::number_texts::PLAIN;
-use crate::traffic_texts::{MIRRED_ACTION, TC_ACTION};
+use crate::traffic_texts::{MIRRED_ACTION, TC_ACTION, U32_FLAGS};
 
 /// A handle by itself, in an attribute of 4 bytes.
-pub const TC_HANDLE: Layout = Layout(69);
+pub const TC_HANDLE: Layout = Layout(128);
 
 pub(crate) const TC_HANDLE_FIELDS: Fields = &[FieldOf(b"handle", 4, Handle(TC_PARENT))];
 
 /// pkt_sched.h, `struct tc_fifo_qopt`.
-pub const TC_FIFO_QOPT: Layout = Layout(70);
+pub const TC_FIFO_QOPT: Layout = Layout(129);
 
 pub(crate) const TC_FIFO_QOPT_FIELDS: Fields = &[FieldOf(b"limit", 4, Number(PLAIN))];
 
 /// pkt_sched.h, `struct tc_prio_qopt`.
-pub const TC_PRIO_QOPT: Layout = Layout(71);
+pub const TC_PRIO_QOPT: Layout = Layout(130);
 
 pub(crate) const TC_PRIO_QOPT_FIELDS: Fields = &[
     FieldOf(b"bands", 4, Signed),
@@ -44,7 +44,7 @@ pub(crate) const TC_PRIO_QOPT_FIELDS: Fields = &[
 ];
 
 /// pkt_sched.h, `struct tc_tbf_qopt`, with two `struct tc_ratespec`.
-pub const TC_TBF_QOPT: Layout = Layout(72);
+pub const TC_TBF_QOPT: Layout = Layout(131);
 
 pub(crate) const TC_TBF_QOPT_FIELDS: Fields = &[
     FieldOf(b"rate_cell_log", 1, Number(PLAIN)),
@@ -65,7 +65,7 @@ pub(crate) const TC_TBF_QOPT_FIELDS: Fields = &[
 ];
 
 /// pkt_sched.h, `struct tc_htb_opt`, with two `struct tc_ratespec`.
-pub const TC_HTB_OPT: Layout = Layout(73);
+pub const TC_HTB_OPT: Layout = Layout(132);
 
 pub(crate) const TC_HTB_OPT_FIELDS: Fields = &[
     FieldOf(b"rate_cell_log", 1, Number(PLAIN)),
@@ -88,7 +88,7 @@ pub(crate) const TC_HTB_OPT_FIELDS: Fields = &[
 ];
 
 /// pkt_sched.h, `struct tc_htb_glob`.
-pub const TC_HTB_GLOB: Layout = Layout(74);
+pub const TC_HTB_GLOB: Layout = Layout(133);
 
 pub(crate) const TC_HTB_GLOB_FIELDS: Fields = &[
     FieldOf(b"version", 4, Number(PLAIN)),
@@ -99,7 +99,7 @@ pub(crate) const TC_HTB_GLOB_FIELDS: Fields = &[
 ];
 
 /// pkt_cls.h, `struct tc_u32_mark`.
-pub const TC_U32_MARK: Layout = Layout(75);
+pub const TC_U32_MARK: Layout = Layout(134);
 
 pub(crate) const TC_U32_MARK_FIELDS: Fields = &[
     FieldOf(b"val", 4, Flags(PLAIN)),
@@ -107,8 +107,33 @@ pub(crate) const TC_U32_MARK_FIELDS: Fields = &[
     FieldOf(b"success", 4, Number(PLAIN)),
 ];
 
+/// pkt_cls.h, `struct tc_u32_sel`, without its keys.
+pub const TC_U32_SEL: Layout = Layout(135);
+
+pub(crate) const TC_U32_SEL_FIELDS: Fields = &[
+    FieldOf(b"flags", 1, Flags(U32_FLAGS)),
+    FieldOf(b"offshift", 1, Number(PLAIN)),
+    FieldOf(b"nkeys", 1, Number(PLAIN)),
+    FieldOf(b"padding", 1, Padding),
+    FieldOf(b"offmask", 2, BigEndianFlags),
+    FieldOf(b"off", 2, Number(PLAIN)),
+    FieldOf(b"offoff", 2, Signed),
+    FieldOf(b"hoff", 2, Signed),
+    FieldOf(b"hmask", 4, BigEndianFlags),
+];
+
+/// pkt_cls.h, `struct tc_u32_key`.
+pub const TC_U32_KEY: Layout = Layout(136);
+
+pub(crate) const TC_U32_KEY_FIELDS: Fields = &[
+    FieldOf(b"mask", 4, BigEndianFlags),
+    FieldOf(b"val", 4, BigEndianFlags),
+    FieldOf(b"off", 4, Signed),
+    FieldOf(b"offmask", 4, Signed),
+];
+
 /// pkt_cls.h, `struct tcf_t`.
-pub const TCF_T: Layout = Layout(76);
+pub const TCF_T: Layout = Layout(137);
 
 pub(crate) const TCF_T_FIELDS: Fields = &[
     FieldOf(b"install", 8, Number(PLAIN)),
@@ -118,7 +143,7 @@ pub(crate) const TCF_T_FIELDS: Fields = &[
 ];
 
 /// tc_act/tc_gact.h, `struct tc_gact`. The index is that of the action, not of a link.
-pub const TC_GACT: Layout = Layout(77);
+pub const TC_GACT: Layout = Layout(138);
 
 pub(crate) const TC_GACT_FIELDS: Fields = &[
     FieldOf(b"action_index", 4, Number(PLAIN)),
@@ -129,7 +154,7 @@ pub(crate) const TC_GACT_FIELDS: Fields = &[
 ];
 
 /// tc_act/tc_gact.h, `struct tc_gact_p`.
-pub const TC_GACT_P: Layout = Layout(78);
+pub const TC_GACT_P: Layout = Layout(139);
 
 pub(crate) const TC_GACT_P_FIELDS: Fields = &[
     FieldOf(b"ptype", 2, Number(PLAIN)),
@@ -138,7 +163,7 @@ pub(crate) const TC_GACT_P_FIELDS: Fields = &[
 ];
 
 /// tc_act/tc_mirred.h, `struct tc_mirred`. The first index is that of the action.
-pub const TC_MIRRED: Layout = Layout(79);
+pub const TC_MIRRED: Layout = Layout(140);
 
 pub(crate) const TC_MIRRED_FIELDS: Fields = &[
     FieldOf(b"action_index", 4, Number(PLAIN)),
@@ -162,10 +187,12 @@ pub(crate) fn fields(index: u8) -> Fields
         4 => TC_HTB_OPT_FIELDS,
         5 => TC_HTB_GLOB_FIELDS,
         6 => TC_U32_MARK_FIELDS,
-        7 => TCF_T_FIELDS,
-        8 => TC_GACT_FIELDS,
-        9 => TC_GACT_P_FIELDS,
-        10 => TC_MIRRED_FIELDS,
+        7 => TC_U32_SEL_FIELDS,
+        8 => TC_U32_KEY_FIELDS,
+        9 => TCF_T_FIELDS,
+        10 => TC_GACT_FIELDS,
+        11 => TC_GACT_P_FIELDS,
+        12 => TC_MIRRED_FIELDS,
         _ => &[],
     }
 }

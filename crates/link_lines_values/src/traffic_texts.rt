@@ -8,7 +8,7 @@ ghost use Rattle.link_lines_values.specs.NumberTexts.{traffic_texts};
 use crate::number_tables::{NumberText, Numbers};
 
 /// What to do with a packet (pkt_cls.h, TC_ACT_*).
-pub const TC_ACTION: Numbers = Numbers(83);
+pub const TC_ACTION: Numbers = Numbers(192);
 
 pub(crate) const TC_ACTION_TEXTS: &[NumberText] = &[
     (0, b"ok"),
@@ -24,7 +24,7 @@ pub(crate) const TC_ACTION_TEXTS: &[NumberText] = &[
 ];
 
 /// Where an action sends packets (tc_act/tc_mirred.h, TCA_EGRESS_*, TCA_INGRESS_*).
-pub const MIRRED_ACTION: Numbers = Numbers(84);
+pub const MIRRED_ACTION: Numbers = Numbers(193);
 
 pub(crate) const MIRRED_ACTION_TEXTS: &[NumberText] = &[
     (1, b"egress_redir"),
@@ -34,12 +34,12 @@ pub(crate) const MIRRED_ACTION_TEXTS: &[NumberText] = &[
 ];
 
 /// Lifetimes of addresses and prefixes (addrconf.h, INFINITY_LIFE_TIME).
-pub const LIFETIME: Numbers = Numbers(85);
+pub const LIFETIME: Numbers = Numbers(194);
 
 pub(crate) const LIFETIME_TEXTS: &[NumberText] = &[(4294967295, b"forever")];
 
 /// Flags of filters (pkt_cls.h, TCA_CLS_FLAGS_*).
-pub const CLS_FLAGS: Numbers = Numbers(86);
+pub const CLS_FLAGS: Numbers = Numbers(195);
 
 pub(crate) const CLS_FLAGS_TEXTS: &[NumberText] = &[
     (0x1, b"SKIP_HW"),
@@ -49,13 +49,23 @@ pub(crate) const CLS_FLAGS_TEXTS: &[NumberText] = &[
     (0x10, b"VERBOSE"),
 ];
 
+/// Flags of `u32` filters (pkt_cls.h, TC_U32_*).
+pub const U32_FLAGS: Numbers = Numbers(196);
+
+pub(crate) const U32_FLAGS_TEXTS: &[NumberText] = &[
+    (0x1, b"TERMINAL"),
+    (0x2, b"OFFSET"),
+    (0x4, b"VAROFFSET"),
+    (0x8, b"EAT"),
+];
+
 /// Flags of filters by a program (pkt_cls.h, TCA_BPF_FLAG_*).
-pub const BPF_FLAGS: Numbers = Numbers(87);
+pub const BPF_FLAGS: Numbers = Numbers(197);
 
 pub(crate) const BPF_FLAGS_TEXTS: &[NumberText] = &[(0x1, b"ACT_DIRECT")];
 
 /// States of tracked connections (pkt_cls.h, TCA_FLOWER_KEY_CT_FLAGS_*).
-pub const CT_STATE: Numbers = Numbers(88);
+pub const CT_STATE: Numbers = Numbers(198);
 
 pub(crate) const CT_STATE_TEXTS: &[NumberText] = &[
     (0x1, b"NEW"),
@@ -76,8 +86,9 @@ pub(crate) fn texts(index: u8) -> &'static [NumberText]
         1 => MIRRED_ACTION_TEXTS,
         2 => LIFETIME_TEXTS,
         3 => CLS_FLAGS_TEXTS,
-        4 => BPF_FLAGS_TEXTS,
-        5 => CT_STATE_TEXTS,
+        4 => U32_FLAGS_TEXTS,
+        5 => BPF_FLAGS_TEXTS,
+        6 => CT_STATE_TEXTS,
         _ => &[],
     }
 }

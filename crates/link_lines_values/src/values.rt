@@ -11,9 +11,9 @@ ghost use Rattle.link_lines_values.specs.Values.{port_range_value, format_of, si
 
 use crate::addresses::push_address;
 use crate::bytes::{push_boolean, push_bytes, push_hardware_address, push_text};
-use crate::digits::{big_endian, is_signed_size, little_endian, push_decimal, push_hex};
+use crate::digits::{big_endian, is_signed_size, little_endian, push_decimal};
 use crate::fields::Layout;
-use crate::flags::{FlagName, push_flags_of, push_word_flags};
+use crate::flags::{FlagName, push_big_endian_flags_of, push_flags_of, push_word_flags};
 use crate::number_tables::{NumberText, Numbers};
 use crate::numbers::{push_number, push_signed_number};
 use crate::records::push_record;
@@ -112,14 +112,14 @@ fn push_signed_value(
     }
 }
 
-/// Appends a space and big-endian flags in hex, or bytes if no number has their size.
+/// Appends a space and big-endian flags without names, or bytes if no number has their size.
 fn push_big_endian_flags(payload: &[u8], out: &mut Vec<u8>) -> Result<(), AllocError>
     ensures { Appends out.old out.new result (big_endian_flags_value payload.now) }
 {
     match big_endian(payload) {
         Some(flags) => {
             out.push(b' ')?;
-            push_hex(flags, out)
+            push_big_endian_flags_of(flags, payload, out)
         }
         None => push_bytes(payload, out),
     }

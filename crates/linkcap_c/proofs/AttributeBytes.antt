@@ -1,7 +1,7 @@
 -- The attributes of a message: names with zeros after them, and where a payload is in the capture.
-use Rattle.std.proofs.Common.{◌≡◌, ℕ, ◌+◌, ◌-◌, ◌≤◌, List, ◌++◌, length, drop, take, Some, refl, sym, ap, ◌∙◌, arith}
+use Rattle.std.proofs.Common.{◌≡◌, ℕ, ◌+◌, List, ◌++◌, length, drop, take, Some, refl, sym, ap, ◌∙◌, arith}
 use Rattle.std.specs.Prelude.{min, replicate}
-use Rattle.std.proofs.lemmas.List.{drop-drop, drop-replicate, drop_at, length-take, take_at, take_min}
+use Rattle.std.proofs.lemmas.List.{drop-drop, drop-replicate, drop_at, take_at, take_min}
 use Rattle.netlink_packet_core_grammar.specs.Frames.{IsFrame}
 use Rattle.link_capture_attributes.specs.AttributeLaws.{AttributesAreWhereTheySay}
 use Rattle.link_capture_attributes.specs.Attributes.{Found, first_from, frame_attributes}

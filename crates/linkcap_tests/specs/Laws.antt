@@ -1,6 +1,22 @@
--- The names that lines show for numbers and flags, compared with the typed displays and with the words of `--only`.
-use Rattle.std.specs.Prelude.{◌≡◌, ℕ, List, ◌∷◌, Some, codes, map, true}
+-- The names that lines show for numbers and flags, compared with the typed displays and with the words of `--only`; and
+-- the names by which JSON and `--without` know what lines hold, compared with the tables of attributes and headers.
+use Rattle.std.specs.Prelude.{◌≡◌, ℕ, ◌||◌, not, Bool, true, false, List, ◌∷◌, Some, codes, map}
 use Rattle.std.specs.List.{Contains}
+use Rattle.link_lines_json.specs.Names.{bytes_names, number_list_names}
+use Rattle.link_lines_parts.specs.Names.{header_names, is_among}
+use Rattle.link_lines_raw.specs.declared.bodies.Header.{Header}
+use Rattle.link_lines_raw.specs.declared.rows.RawBy.TheVariants as R
+use Rattle.link_lines_raw.specs.Bodies.{header_line, is_same}
+use Rattle.link_lines_raw.specs.Coverage.{is_value}
+use Rattle.link_lines_raw.specs.Coverage as raw_tables
+use Rattle.link_lines_raw.specs.Names.{Named, all_named_rows}
+use Rattle.link_lines_raw.specs.Rows.{Raw}
+use Rattle.link_lines_texts.specs.AttributeNames.{Name}
+use Rattle.link_lines_texts.specs.Coverage as link_tables
+use Rattle.link_lines_texts.specs.Format.{Inside.Value, Inside.Settings, Inside.Held}
+use Rattle.link_lines_values.specs.declared.exact.ExactBy.TheVariants as X
+use Rattle.link_lines_values.specs.declared.values.ShownBy.TheVariants as V
+use Rattle.link_lines_values.specs.Values.{Shown}
 use Rattle.link_lines_values.specs.Names.{Text}
 use Rattle.link_lines_values.specs.NumberTexts.{number_texts}
 use Rattle.link_lines_values.specs.declared.flag_names.TheConstants.{LINK_FLAGS}
@@ -78,3 +94,49 @@ pub record NumbersAreDisplayed : Type 0 where
 pub record TypesHaveNames : Type 0 where
   pub by_name : (r : Text) (word : List ℕ) → Contains (number_texts MESSAGE_TYPE) r →
       is_word_of r.1 word ≡ true → named_type word ≡ Some r.0
+
+-- ---- names of attributes and headers
+
+-- Whether a value is shown as bytes in hex.
+abbrev pub is_shown_in_hex : Shown → Bool
+is_shown_in_hex V.Bytes = true
+is_shown_in_hex V.HardwareAddress = true
+is_shown_in_hex shown = false
+
+-- Whether the value of a raw attribute is shown as bytes in hex.
+abbrev pub is_raw_in_hex : Raw → Bool
+is_raw_in_hex (R.Value X.Bytes) = true
+is_raw_in_hex (R.Value X.HardwareAddress) = true
+is_raw_in_hex (R.Value X.BridgeId) = true
+is_raw_in_hex (R.Value (X.Sized size shown)) = is_shown_in_hex shown
+is_raw_in_hex raw = false
+
+-- Whether the value of a raw attribute is any number of numbers.
+abbrev pub is_raw_of_numbers : Raw → Bool
+is_raw_of_numbers (R.Value (X.Numbers size)) = true
+is_raw_of_numbers raw = false
+
+-- Whether an attribute that has a value is known by its name to be as a test says.
+abbrev pub is_known : List (List ℕ) → List ℕ → Raw → (Raw → Bool) → Bool
+is_known names name raw test = not (is_value raw) || is_same (is_among names name) (test raw)
+
+-- The same for the row of a raw attribute, whatever its kind.
+abbrev pub is_row_known : List (List ℕ) → (Raw → Bool) → ℕ → Named Raw → Bool
+is_row_known names test kind row = is_known names row.0 row.1 test
+
+-- The same for the row of an attribute of links.
+abbrev pub is_name_known : List (List ℕ) → (Shown → Bool) → (Raw → Bool) → ℕ → Name → Bool
+is_name_known names test raw_test kind (name, Value shown) = is_same (is_among names name) (test shown)
+is_name_known names test raw_test kind (name, Settings shown) = is_same (is_among names name) (test shown)
+is_name_known names test raw_test kind (name, Held raw) = is_known names name raw raw_test
+is_name_known names test raw_test kind (name, inside) = true
+
+-- An attribute whose value is shown as bytes in hex, or is any number of numbers, is known by its name, and no other
+-- attribute that has a value has such a name. The record at the start of each body has the name of a header.
+pub record ValuesAreKnownByName : Type 0 where
+  pub raw_bytes : raw_tables.in_each (all_named_rows (is_row_known bytes_names is_raw_in_hex)) ≡ true
+  pub raw_numbers : raw_tables.in_each (all_named_rows (is_row_known number_list_names is_raw_of_numbers)) ≡ true
+  pub link_bytes : link_tables.in_each (all_named_rows (is_name_known bytes_names is_shown_in_hex is_raw_in_hex)) ≡ true
+  pub link_numbers :
+      link_tables.in_each (all_named_rows (is_name_known number_list_names (λ shown. false) is_raw_of_numbers)) ≡ true
+  pub headers : (header : Header) → is_among header_names (header_line header).0 ≡ true

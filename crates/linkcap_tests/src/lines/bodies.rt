@@ -6,7 +6,7 @@ use link_lines_raw::push_body;
 use std::test::Fail;
 
 /// The type of a message, and whether it is a request; and its body in hex, followed by the lines.
-const CASES: [(u16, bool, &str); 27] = [
+const CASES: [(u16, bool, &str); 33] = [
     // Objects, by their fields.
     (
         20,
@@ -61,6 +61,46 @@ const CASES: [(u16, bool, &str); 27] = [
     padding 01
 ",
     ),
+    // Unused bytes of a header that aren't zero.
+    (
+        28,
+        false,
+        "020000ff0300000002000001
+  ndmsg family 2 (AF_INET) padding 0000ff ifindex 3 state 0x2 (REACHABLE) flags 0x0 type \
+        1 (unicast)
+",
+    ),
+    // A selector of `u32` with two keys.
+    (
+        44,
+        true,
+        "000000000300000000000100ffffffff00000000080001007533320038000200340005000100020000000000000000000000ffffffffffff0a0000010c0000000000000000ff00000011000008000000ffffffff
+  tcmsg family 0 (AF_UNSPEC) ifindex 3 handle 0x10000 parent ffff:ffff (root) protocol 0 prio 0
+  TCA_KIND \"u32\"
+  TCA_OPTIONS
+    TCA_U32_SEL
+      tc_u32_sel flags 0x1 (TERMINAL) offshift 0 nkeys 2 offmask 0x0 off 0 offoff 0 hoff \
+        0 hmask 0xffff
+      tc_u32_key mask 0xffffffff (all) val 0xa000001 off 12 offmask 0
+      tc_u32_key mask 0xff0000 val 0x110000 off 8 offmask -1
+",
+    ),
+    // A segment routing header with two segments.
+    (
+        24,
+        true,
+        "0a800000fe030001000000000600150005000000340016003000010001000000000404010100000220010db800000000000000000000000120010db8000000000000000000000002
+  rtmsg family 10 (AF_INET6) dst_len 128 src_len 0 tos 0 table 254 (main) protocol 3 \
+        (boot) scope 0 (universe) type 1 (unicast) flags 0x0
+  RTA_ENCAP_TYPE 5 (seg6)
+  RTA_ENCAP
+    SEG6_IPTUNNEL_SRH
+      seg6_iptunnel_encap mode 1 (encap) nexthdr 0 hdrlen 4 type 4 segments_left 1 \
+        first_segment 1 flags 0x0 tag 2
+      segment addr 2001:db8::1
+      segment addr 2001:db8::2
+",
+    ),
     // Options of queueing disciplines, filters and actions, by their kind.
     (
         36,
@@ -81,7 +121,9 @@ const CASES: [(u16, bool, &str); 27] = [
   TCA_KIND \"u32\"
   TCA_OPTIONS
     TCA_U32_CLASSID handle=1:10
-    TCA_U32_SEL 01000100000000000000000000000000ffff00000a0400001000000000000000
+    TCA_U32_SEL
+      tc_u32_sel flags 0x1 (TERMINAL) offshift 0 nkeys 1 offmask 0x0 off 0 offoff 0 hoff 0 hmask 0x0
+      tc_u32_key mask 0xffff0000 val 0xa040000 off 16 offmask 0
 ",
     ),
     (
@@ -187,6 +229,14 @@ const CASES: [(u16, bool, &str); 27] = [
     ),
     // Requests, by their fields.
     (26, true, "02000000\n  rtgenmsg family 2 (AF_INET)\n"),
+    (22, true, "0a\n  rtgen family 10 (AF_INET6)\n"),
+    (
+        22,
+        true,
+        "02000000030000000100000000000000
+  ifinfomsg family 2 (AF_INET) type 0 index 3 flags 0x1 (Up) change 0x0
+",
+    ),
     (
         22,
         true,
@@ -199,9 +249,14 @@ const CASES: [(u16, bool, &str); 27] = [
         true,
         "0000000000000000\n  br_port_msg family 0 (AF_UNSPEC) ifindex 0\n",
     ),
+    (
+        26,
+        true,
+        "02000001\n  rtgenmsg family 2 (AF_INET) padding 000001\n",
+    ),
     // Bodies that are not shown.
-    (28, false, "020001000300000002000001\n"),
-    (26, true, "02000001\n"),
+    (28, false, "0200000003000000020000\n"),
+    (26, true, "0200000100\n"),
     (24, false, "02000000\n"),
     (20, false, "0218800002000000040003\n"),
     (20, false, "02188000020000\n"),

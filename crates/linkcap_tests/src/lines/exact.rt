@@ -73,7 +73,7 @@ const CASES: [(Exact, &str); 42] = [
     ),
     (
         ExactBy::Record(GNET_STATS_BASIC),
-        "05000000000000000200000001000000: bytes 05000000000000000200000001000000",
+        "05000000000000000200000001000000: bytes=5 packets=2 padding=01000000",
     ),
     (
         ExactBy::Record(GNET_STATS_BASIC),

@@ -27,9 +27,9 @@ const ROUTE: &str = "RTM_NEWROUTE flags 0x605 (REQUEST | ACK | EXCL | CREATE) se
   rtmsg family 2 (AF_INET) dst_len 24 src_len 0 tos 0 table 254 (main) protocol 3 (boot) scope 0 (universe) type 1 (unicast) flags 0x0
   RTA_DST 198.51.100.0
   RTA_MULTIPATH
-    rtnexthop flags 0x0 hops 0 ifindex 0
+    rtnexthop flags 0x0 hops 0 (weight 1) ifindex 0
       RTA_GATEWAY 192.0.2.2
-    rtnexthop flags 0x0 hops 9 ifindex 0
+    rtnexthop flags 0x0 hops 9 (weight 10) ifindex 0
       RTA_GATEWAY 192.0.2.3
 ";
 
@@ -130,8 +130,8 @@ const REMAINING: [RemainingCase; 17] = [
   rtmsg family 2 (AF_INET) dst_len 24 src_len 0 tos 0 table 254 (main) protocol 3 (boot) scope 0 (universe) type 1 (unicast) flags 0x0
   RTA_DST 198.51.100.0
   RTA_MULTIPATH
-    rtnexthop flags 0x0 hops 0 ifindex 0
-    rtnexthop flags 0x0 hops 9 ifindex 0
+    rtnexthop flags 0x0 hops 0 (weight 1) ifindex 0
+    rtnexthop flags 0x0 hops 9 (weight 10) ifindex 0
 ",
     ),
     (END, &[b"RTA_GATEWAY"], true, true, END),
@@ -184,9 +184,9 @@ const REMAINING: [RemainingCase; 17] = [
   rtmsg family 2 (AF_INET) dst_len 24 src_len 0 tos 0 table 254 (main) protocol 3 (boot) scope 0 (universe) type 1 (unicast) flags 0x0
   RTA_DST 198.51.100.0
   RTA_MULTIPATH
-    rtnexthop flags 0x0 hops 0
+    rtnexthop flags 0x0 hops 0 (weight 1)
       RTA_GATEWAY 192.0.2.2
-    rtnexthop flags 0x0 hops 9
+    rtnexthop flags 0x0 hops 9 (weight 10)
       RTA_GATEWAY 192.0.2.3
 ",
     ),

@@ -44,7 +44,7 @@ const CASES: [(RawTable, u16, &str); 27] = [
         9,
         "1c0000000300000006001500010000000c0016000800010000064100
 RTA_MULTIPATH
-  rtnexthop flags 0x0 hops 0 ifindex 3
+  rtnexthop flags 0x0 hops 0 (weight 1) ifindex 3
     RTA_ENCAP_TYPE 1 (mpls)
     RTA_ENCAP
       MPLS_IPTUNNEL_DST 100 tc 0 s 1 ttl 0
@@ -55,7 +55,7 @@ RTA_MULTIPATH
         9,
         "1c000000030000000c00160008000100000641000600150001000000
 RTA_MULTIPATH
-  rtnexthop flags 0x0 hops 0 ifindex 3
+  rtnexthop flags 0x0 hops 0 (weight 1) ifindex 3
     RTA_ENCAP
       MPLS_IPTUNNEL_DST 100 tc 0 s 1 ttl 0
     RTA_ENCAP_TYPE 1 (mpls)
@@ -66,7 +66,7 @@ RTA_MULTIPATH
         9,
         "1c0000000300000006001580010000000c0016800500020007000000
 RTA_MULTIPATH
-  rtnexthop flags 0x0 hops 0 ifindex 3
+  rtnexthop flags 0x0 hops 0 (weight 1) ifindex 3
     RTA_ENCAP_TYPE nested 1 (mpls)
     RTA_ENCAP nested
       MPLS_IPTUNNEL_TTL 7
@@ -77,7 +77,7 @@ RTA_MULTIPATH
         9,
         "1c0000000300000006001500630000000c0016000800010000064100
 RTA_MULTIPATH
-  rtnexthop flags 0x0 hops 0 ifindex 3
+  rtnexthop flags 0x0 hops 0 (weight 1) ifindex 3
     RTA_ENCAP_TYPE 99
     RTA_ENCAP bytes 0800010000064100
 ",
@@ -87,7 +87,7 @@ RTA_MULTIPATH
         9,
         "1c0000000300000005001500010000000c0016000800010000064100
 RTA_MULTIPATH
-  rtnexthop flags 0x0 hops 0 ifindex 3
+  rtnexthop flags 0x0 hops 0 (weight 1) ifindex 3
     RTA_ENCAP_TYPE bytes 01
     RTA_ENCAP bytes 0800010000064100
 ",
@@ -98,9 +98,9 @@ RTA_MULTIPATH
         9,
         "100000000300000008000500c0000201100001000400000008000500c0000202
 RTA_MULTIPATH
-  rtnexthop flags 0x0 hops 0 ifindex 3
+  rtnexthop flags 0x0 hops 0 (weight 1) ifindex 3
     RTA_GATEWAY 192.0.2.1
-  rtnexthop flags 0x1 (DEAD) hops 0 ifindex 4
+  rtnexthop flags 0x1 (DEAD) hops 0 (weight 1) ifindex 4
     RTA_GATEWAY 192.0.2.2
 ",
     ),

@@ -1,5 +1,5 @@
 -- The message that is read back is written as the body that it was read from.
-use Rattle.std.proofs.Common.{◌≡◌, ◌+◌, ◌≤◌, ◌<◌, ◌^◌, length, IfOk, sym, subst, ◌∙◌, arith}
+use Rattle.std.proofs.Common.{◌≡◌, ◌+◌, ◌≤◌, ◌^◌, length, IfOk, sym, subst, ◌∙◌, arith}
 use Rattle.link_capture.specs.Routes.{route_entry}
 use Rattle.examples.proofs.LegalRequests.{read_back}
 use Rattle.examples.proofs.RequestFrames.{ok_normal, only_memory, short_body}

@@ -21,4 +21,4 @@ returns-then-ends_term-clause-json c =
     let name = c.split_at.result.0.now in
     let number = c.split_at-2.result.0.now in
     let simple : list_all is_simple name ≡ true = cc (run_is_simple c.in-Some.words.now, c.simple_len.ensures, c.split_at.ensures.front) in
-    field_json name number simple (sym c.is_number.ensures ∙ c.if-is_number.true)
+    field_json name number simple (sym c.is_text_field.ensures ∙ c.if-not-is_text_field.true) (sym c.is_number.ensures ∙ c.if-is_number.true)

@@ -1,4 +1,4 @@
-use Rattle.std.proofs.Common.{◌≡◌, ◌∷◌, List, ℕ, Option, None, append-nil, option_map, refl, rules}
+use Rattle.std.proofs.Common.{◌≡◌, ◌∷◌, None, append-nil, option_map, refl, rules}
 use Rattle.netlink_packet_core_grammar.specs.Attributes.{Attribute}
 use Rattle.link_lines_values.proofs.Appending.{as_text, done, start, step}
 use Rattle.link_lines_raw.specs.Attributes.{raw_row}

@@ -1,4 +1,4 @@
-use Rattle.std.proofs.Common.{[], ◌∷◌, append-nil, option_map, refl, sym, ap, ◌∙◌}
+use Rattle.std.proofs.Common.{◌∷◌, append-nil, option_map, refl, sym, ap, ◌∙◌}
 use Rattle.std.specs.Prelude.{◌++◌}
 use Rattle.link_lines_values.proofs.Appending.{as_text, done, failed, last, start, step}
 use Rattle.link_lines_raw.specs.Attributes.{after_name}

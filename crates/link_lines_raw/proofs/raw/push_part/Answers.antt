@@ -1,7 +1,6 @@
-use Rattle.std.proofs.Common.{◌≡◌, List, ℕ, Option, append-nil, option_map, refl, sym, ap, ◌∙◌, ◌+◌, take, drop, rules}
+use Rattle.std.proofs.Common.{append-nil, option_map, refl, sym, ap, ◌∙◌, ◌+◌, take, drop}
 use Rattle.netlink_packet_core_grammar.specs.Attributes.{Attribute}
 use Rattle.link_lines_values.proofs.Appending.{as_text, done, start, step}
-use Rattle.link_lines_raw.specs.declared.lists.ListedBy.TheVariants as L
 use Rattle.link_lines_raw.specs.Attributes.{next_hop_line, record_words}
 use Rattle.link_lines_raw.specs.Lists.{head_text, padding_words, part_head, part_text, part_with_head}
 use Rattle.link_lines_raw.specs.Views.{listed_of}

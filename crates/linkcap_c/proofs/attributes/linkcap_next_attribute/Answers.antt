@@ -1,4 +1,4 @@
-use Rattle.std.proofs.Common.{◌≡◌, Some, None, inr, length, drop, refl, sym, ap, subst, ◌∙◌, arith, rules}
+use Rattle.std.proofs.Common.{◌≡◌, None, inr, drop, refl, sym, ap, subst, ◌∙◌, rules}
 use Rattle.std.proofs.lemmas.List.{take_rest}
 use Rattle.netlink_packet_core_grammar.specs.Frames.{IsFrame, frame_type}
 use Rattle.link_capture_attributes.specs.Attributes.{first_from, frame_attributes}

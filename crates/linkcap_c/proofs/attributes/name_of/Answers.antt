@@ -1,4 +1,4 @@
-use Rattle.std.proofs.Common.{◌≡◌, ℕ, List, Some, option_map, sym, ap, ◌∙◌}
+use Rattle.std.proofs.Common.{ℕ, List, option_map, sym, ap, ◌∙◌}
 use denote.Bor.{Bor}
 use Rattle.linkcap_c.specs.Attributes.{name_of}
 use Rattle.std.specs.Prelude.{take}

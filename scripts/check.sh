@@ -468,7 +468,7 @@ else
         grep -q "lo:" output' "$linkrec"
     succeeds "a setup isn't recorded" bash -c '"$0" run --setup "ip link set lo up" -o made -- ip link show up && ! "$LINKSHOW" made | grep -q "index 1 "' "$linkrec"
     succeeds "a setup that fails" bash -c '"$0" run --setup "exit 3" --setup "(exit 3)" -o made -- ip link; [ $? -eq 3 ] &&
-        "$0" run --setup "(exit 3)" -o made -- ip link 2> report; [ $? -eq 125 ] && grep -qx "linkrec: the setup failed: (exit 3)" report' "$linkrec"
+        "$0" run --setup "(exit 3)" -o made -- ip link 2> report; [ $? -eq 125 ] && [ "$(cat report)" = "linkrec: the setup failed: (exit 3)" ]' "$linkrec"
     succeeds "a failing command's status" bash -c '"$0" run -o made -- sh -c "exit 7" 2> /dev/null; [ $? -eq 7 ]' "$linkrec"
     succeeds "a command that a signal ends" bash -c '"$0" run -o made -- sh -c "kill -9 \$\$" 2> /dev/null; [ $? -eq 137 ]' "$linkrec"
     succeeds "no route message" bash -c '"$0" run -o made -- true 2> report && grep -qx "linkrec: no route message was sent" report' "$linkrec"

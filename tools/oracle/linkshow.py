@@ -448,7 +448,8 @@ def is_about_index(level, words, link):
 
 
 def leave_out(texts, omitted):
-    """A message's lines without the attributes of these names, and without indexes and padding in headers if these are among them."""
+    """A message's lines without the attributes of these names, and without indexes and padding in headers, and padding in
+    records, if these are among them."""
     out, hidden = [], None
     for text in texts:
         level, first = level_of(text), text.split()[0]
@@ -459,6 +460,8 @@ def leave_out(texts, omitted):
             fields = HIDDEN_FIELDS if level and first in HEADERS else {}
             for group, field in fields.items():
                 text = re.sub(field, "", text) if group in omitted else text
+            if "padding" in omitted and not fields and '"' not in text:
+                text = re.sub(" padding=[0-9a-f]+", "", text)
             out.append(text)
     return out
 

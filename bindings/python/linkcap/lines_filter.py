@@ -291,6 +291,8 @@ _GROUPS = {"numbers": frozenset({"numbers"}), "counters": COUNTERS, "padding": f
 # An index, or what lines_record.py shows instead: a name, or a number in order of appearance.
 _INDEX = re.compile(r' (?:if)?index (?:-?[0-9]+|#[0-9]+|"(?:[^"\\]|\\.)*")(?= |$)')
 _PADDING = re.compile(r" padding [0-9a-f]+(?= |$)")
+# Padding in the record of an attribute.
+_RECORD_PADDING = re.compile(r" padding=[0-9a-f]+(?= |$)")
 _NO_STRUCT = {"kind", "code", "request", "rest", "body", "refused:", "padding"}
 
 
@@ -338,7 +340,7 @@ def _is_struct(line: str) -> bool:
 
 def without(lines: Iterable[str], names: Set[str]) -> List[str]:
     """The lines without some attributes and what is nested in them. The names `numbers`, `indexes` and `padding` also take these
-    out of headers."""
+    out of headers, and `padding` out of the records of attributes."""
     result: List[str] = []
     dropped_level = None
     for line in lines:
@@ -356,8 +358,9 @@ def _without_fields(line: str, level: int, names: Set[str]) -> str:
         return NUMBERS.sub("", line)
     if _is_struct(line):
         line = _INDEX.sub("", line) if "indexes" in names else line
-        line = _PADDING.sub("", line) if "padding" in names else line
-    return line
+        return _PADDING.sub("", line) if "padding" in names else line
+    # A text, which is in quotes, may have any words.
+    return _RECORD_PADDING.sub("", line) if "padding" in names and '"' not in line else line
 
 
 def quoted(name: str) -> str:

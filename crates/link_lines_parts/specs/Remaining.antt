@@ -1,6 +1,7 @@
 -- The lines of a message without some attributes.
-use Rattle.std.specs.Prelude.{ℕ, ◌&&◌, ◌||◌, nat_lt, Bool, false, cond, bytes_eq, codes, List, [], ◌∷◌, ◌++◌, map}
-use Rattle.std.specs.Prelude.{Option, Some, None}
+use Rattle.std.specs.Prelude.{ℕ, ◌==◌, ◌&&◌, ◌||◌, not, nat_eq, nat_lt, Bool, false, cond, bytes_eq, codes, List, [], ◌∷◌}
+use Rattle.std.specs.Prelude.{◌++◌, map, Option, Some, None}
+use Rattle.std.specs.List.{list_any, starts_with}
 use Rattle.link_lines_parts.specs.declared.remaining.Without.{Without}
 use Rattle.link_lines_parts.specs.Lines.{first_word, level, lines_of, words_of}
 use Rattle.link_lines_parts.specs.Names.{counter_names, header_names, index_names, is_among}
@@ -69,6 +70,19 @@ omits_padding o = is_among o.names (codes "padding")
 abbrev pub is_omitted_field : Omitted → List ℕ → Bool
 is_omitted_field o word = (o.indexes && is_index_field word) || (bytes_eq word (codes " padding") && omits_padding o)
 
+-- Whether a word, with the space before it, is a field of padding in the record of an attribute, name and value.
+abbrev pub is_padding_field : List ℕ → Bool
+is_padding_field word = starts_with nat_eq word (codes " padding=")
+
+-- Whether a line has a text: texts are in quotes, and may have any words.
+abbrev pub has_text : List ℕ → Bool
+has_text line = list_any (λ c. c == 34) line
+
+-- The text of words without fields of padding in the record of an attribute.
+abbrev pub without_padding : List (List ℕ) → List ℕ
+without_padding [] = []
+without_padding (word ∷ words) = cond (is_padding_field word) [] word ++ without_padding words
+
 -- The text of words without the fields that are left out, name and value; `after_name` says whether the first word is
 -- the value of one.
 abbrev pub without_fields : Omitted → Bool → List (List ℕ) → List ℕ
@@ -78,10 +92,12 @@ without_fields o after_name (word ∷ words) =
 
 -- ---- lines
 
--- A line that isn't left out: of a header perhaps without its index and its padding.
+-- A line that isn't left out: of a header perhaps without its index and its padding, of an attribute that has no text
+-- perhaps without the padding of its record.
 abbrev pub remaining_line : Omitted → List ℕ → List ℕ
 remaining_line o line =
-    cond ((o.indexes || omits_padding o) && is_header line) (without_fields o false (words_of line)) line
+    cond ((o.indexes || omits_padding o) && is_header line) (without_fields o false (words_of line))
+    (cond (omits_padding o && not (has_text line)) (without_padding (words_of line)) line)
 
 -- What remains of a line, given the level of the omitted attribute that it belongs to, if there is one.
 abbrev pub line_text : Omitted → Option ℕ → List ℕ → List ℕ

@@ -3,9 +3,10 @@
 ghost use Rattle.std.specs.Prelude.{◌≡◌, ◌↔◌, ◌++◌, false, IsTrue, OnOk};
 ghost use Rattle.link_lines_values.specs.Appends.{Appends};
 ghost use Rattle.link_lines_parts.specs.Lines.{words_of};
-ghost use Rattle.link_lines_parts.specs.Remaining.{is_header, is_index_field, is_omitted, is_omitted_field, is_omitted_name};
-ghost use Rattle.link_lines_parts.specs.Remaining.{line_text, nothing_omitted, numbers_omitted, omits_padding, omitted_level};
-ghost use Rattle.link_lines_parts.specs.Remaining.{omitted_of, remaining_line, remaining_lines, without_fields};
+ghost use Rattle.link_lines_parts.specs.Remaining.{has_text, is_header, is_index_field, is_omitted, is_omitted_field};
+ghost use Rattle.link_lines_parts.specs.Remaining.{is_omitted_name, is_padding_field, line_text, nothing_omitted};
+ghost use Rattle.link_lines_parts.specs.Remaining.{numbers_omitted, omits_padding, omitted_level, omitted_of, remaining_line};
+ghost use Rattle.link_lines_parts.specs.Remaining.{remaining_lines, without_fields, without_padding};
 
 use crate::cuts::{line_parts, split_line, split_word};
 use crate::names::{is_among, is_counter, is_header_word, is_index};
@@ -16,7 +17,8 @@ use std::alloc::AllocError;
 #[derive(Clone, Debug, PartialEq, Eq, Drop)]
 pub struct Without {
     /// The kernel's names of attributes that are left out, each with all deeper lines that follow
-    /// it directly. `padding` is one: of its lines, and of the fields of this name in headers.
+    /// it directly. `padding` is one: of its lines, and of the fields of this name in headers and in
+    /// the records of attributes.
     pub names: ArrayVec<&'static [u8], 32>,
     /// Whether sequence numbers and netlink port IDs are left out, which `push_remaining` keeps:
     /// they are left out where a line is written.
@@ -138,13 +140,45 @@ fn push_without_fields(without: &Without, line: &[u8], out: &mut Vec<u8>) -> Res
     Ok(())
 }
 
-/// Appends a line that isn't left out, if it is that of a header perhaps without its index and its
-/// padding.
+/// Returns whether a word, with the space before it, is a field of padding in the record of an
+/// attribute, name and value.
+fn is_padding_field(word: &[u8]) -> bool
+    ensures { result ≡ is_padding_field word.now }
+{
+    word.starts_with(b" padding=")
+}
+
+/// Returns whether a line has a text, in quotes.
+fn has_text(line: &[u8]) -> bool
+    ensures { result ≡ has_text line.now }
+{
+    line.contains(&b'"')
+}
+
+/// Appends a line without the fields of padding in the record of an attribute.
+fn push_without_padding(line: &[u8], out: &mut Vec<u8>) -> Result<(), AllocError>
+    ensures { Appends out.old out.new result (without_padding (words_of line.now)) }
+{
+    let mut rest = line;
+    while let Some((word, following)) = split_word(rest) {
+        if !is_padding_field(word) {
+            out.extend_from_slice(word)?;
+        }
+        rest = following;
+    }
+    Ok(())
+}
+
+/// Appends a line that isn't left out: that of a header perhaps without its index and its padding,
+/// that of an attribute that has no text perhaps without the padding of its record.
 fn push_remaining_line(without: &Without, line: &[u8], out: &mut Vec<u8>) -> Result<(), AllocError>
     ensures { Appends out.old out.new result (remaining_line (omitted_of without.now) line.now) }
 {
     if (without.indexes || omits_padding(without)) && is_header(line) {
         return push_without_fields(without, line, out);
+    }
+    if omits_padding(without) && !has_text(line) {
+        return push_without_padding(line, out);
     }
     out.extend_from_slice(line)
 }

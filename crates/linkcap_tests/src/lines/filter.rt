@@ -70,6 +70,19 @@ const SETTINGS: &str = "RTM_NEWNETCONF flags 0x0 seq 1 port 0
   NETCONFA_FORWARDING 12
 ";
 
+/// The lines of a queueing discipline, whose statistics have padding that isn't zero; and of a link
+/// whose alias has the same word in it.
+const QDISC: &str = "RTM_NEWQDISC flags 0x0 seq 0 port 0
+  tcmsg family 0 (AF_UNSPEC) ifindex 3 handle 1:0 parent ffff:ffff (root) info 0
+  TCA_STATS2
+    TCA_STATS_BASIC bytes=5 packets=2 padding=01000000
+";
+
+const ALIAS: &str = "RTM_NEWLINK flags 0x0 seq 0 port 0
+  ifinfomsg family 0 (AF_UNSPEC) type 1 (ether) index 3 flags 0x0 change 0x0
+  IFLA_IFALIAS \"bytes=5 padding=00\"
+";
+
 /// The lines of the end of a dump.
 const END: &str = "NLMSG_DONE flags 0x2 (MULTI) seq 3 port 30
   code 0
@@ -85,7 +98,7 @@ type RemainingCase = (
     &'static str,
 );
 
-const REMAINING: [RemainingCase; 17] = [
+const REMAINING: [RemainingCase; 19] = [
     // Attributes by name.
     (
         LINK,
@@ -200,6 +213,19 @@ const REMAINING: [RemainingCase; 17] = [
   NDA_DST ff02::2
 ",
     ),
+    // Padding, in records of attributes too, but not in texts.
+    (
+        QDISC,
+        &[b"padding"],
+        false,
+        false,
+        "RTM_NEWQDISC flags 0x0 seq 0 port 0
+  tcmsg family 0 (AF_UNSPEC) ifindex 3 handle 1:0 parent ffff:ffff (root) info 0
+  TCA_STATS2
+    TCA_STATS_BASIC bytes=5 packets=2
+",
+    ),
+    (ALIAS, &[b"padding"], false, false, ALIAS),
     // Nothing is left out.
     (LINK, &[], false, false, LINK),
     (OTHER_LINK, &[], false, false, OTHER_LINK),

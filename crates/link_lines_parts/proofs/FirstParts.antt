@@ -13,7 +13,7 @@ prefix_within p t = prefix_len-le-length p t
 
 -- ---- newlines
 
-isnt : (b : Bool) → (b ≡ true → ⊥) → not b ≡ true
+pub isnt : (b : Bool) → (b ≡ true → ⊥) → not b ≡ true
 isnt true h = absurd (h refl)
 isnt false h = refl
 

@@ -1,2 +1,3 @@
+pub mod BytesInLines
 pub mod FirstParts
 pub mod WholeLists

@@ -74,9 +74,13 @@ is_omitted_field o word = (o.indexes && is_index_field word) || (bytes_eq word (
 abbrev pub is_padding_field : List ℕ → Bool
 is_padding_field word = starts_with nat_eq word (codes " padding=")
 
--- Whether a line has a text: texts are in quotes, and may have any words.
-abbrev pub has_text : List ℕ → Bool
-has_text line = list_any (λ c. c == 34) line
+-- Whether a line has a byte.
+abbrev pub has_byte : ℕ → List ℕ → Bool
+has_byte byte line = list_any (λ c. c == byte) line
+
+-- Whether a line may have fields of a record, `name=value`, and has no text: texts are in quotes, and may have any words.
+abbrev pub is_record_line : List ℕ → Bool
+is_record_line line = has_byte 61 line && not (has_byte 34 line)
 
 -- The text of words without fields of padding in the record of an attribute.
 abbrev pub without_padding : List (List ℕ) → List ℕ
@@ -92,12 +96,12 @@ without_fields o after_name (word ∷ words) =
 
 -- ---- lines
 
--- A line that isn't left out: of a header perhaps without its index and its padding, of an attribute that has no text
--- perhaps without the padding of its record.
+-- A line that isn't left out: of a header perhaps without its index and its padding, of the record of an attribute
+-- perhaps without its padding.
 abbrev pub remaining_line : Omitted → List ℕ → List ℕ
 remaining_line o line =
     cond ((o.indexes || omits_padding o) && is_header line) (without_fields o false (words_of line))
-    (cond (omits_padding o && not (has_text line)) (without_padding (words_of line)) line)
+    (cond (omits_padding o && is_record_line line) (without_padding (words_of line)) line)
 
 -- What remains of a line, given the level of the omitted attribute that it belongs to, if there is one.
 abbrev pub line_text : Omitted → Option ℕ → List ℕ → List ℕ

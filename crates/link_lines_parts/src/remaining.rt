@@ -3,14 +3,15 @@
 ghost use Rattle.std.specs.Prelude.{◌≡◌, ◌↔◌, ◌++◌, false, IsTrue, OnOk};
 ghost use Rattle.link_lines_values.specs.Appends.{Appends};
 ghost use Rattle.link_lines_parts.specs.Lines.{words_of};
-ghost use Rattle.link_lines_parts.specs.Remaining.{has_text, is_header, is_index_field, is_omitted, is_omitted_field};
-ghost use Rattle.link_lines_parts.specs.Remaining.{is_omitted_name, is_padding_field, line_text, nothing_omitted};
+ghost use Rattle.link_lines_parts.specs.Remaining.{has_byte, is_header, is_index_field, is_omitted, is_omitted_field};
+ghost use Rattle.link_lines_parts.specs.Remaining.{is_omitted_name, is_padding_field, is_record_line, line_text, nothing_omitted};
 ghost use Rattle.link_lines_parts.specs.Remaining.{numbers_omitted, omits_padding, omitted_level, omitted_of, remaining_line};
 ghost use Rattle.link_lines_parts.specs.Remaining.{remaining_lines, without_fields, without_padding};
 
 use crate::cuts::{line_parts, split_line, split_word};
 use crate::names::{is_among, is_counter, is_header_word, is_index};
 use arrayvec::ArrayVec;
+use memchr::memchr;
 use std::alloc::AllocError;
 
 /// What is left out of a message's lines: attributes, and groups of them.
@@ -148,11 +149,19 @@ fn is_padding_field(word: &[u8]) -> bool
     word.starts_with(b" padding=")
 }
 
-/// Returns whether a line has a text, in quotes.
-fn has_text(line: &[u8]) -> bool
-    ensures { result ≡ has_text line.now }
+/// Returns whether a line has a byte.
+fn has_byte(byte: u8, line: &[u8]) -> bool
+    ensures { result ≡ has_byte byte line.now }
 {
-    line.contains(&b'"')
+    memchr(byte, line).is_some()
+}
+
+/// Returns whether a line may have fields of a record, and has no text, which is in quotes. Few
+/// lines have them, and only these are gone through by words.
+fn is_record_line(line: &[u8]) -> bool
+    ensures { result ≡ is_record_line line.now }
+{
+    has_byte(b'=', line) && !has_byte(b'"', line)
 }
 
 /// Appends a line without the fields of padding in the record of an attribute.
@@ -170,14 +179,14 @@ fn push_without_padding(line: &[u8], out: &mut Vec<u8>) -> Result<(), AllocError
 }
 
 /// Appends a line that isn't left out: that of a header perhaps without its index and its padding,
-/// that of an attribute that has no text perhaps without the padding of its record.
+/// that of the record of an attribute perhaps without its padding.
 fn push_remaining_line(without: &Without, line: &[u8], out: &mut Vec<u8>) -> Result<(), AllocError>
     ensures { Appends out.old out.new result (remaining_line (omitted_of without.now) line.now) }
 {
     if (without.indexes || omits_padding(without)) && is_header(line) {
         return push_without_fields(without, line, out);
     }
-    if omits_padding(without) && !has_text(line) {
+    if omits_padding(without) && is_record_line(line) {
         return push_without_padding(line, out);
     }
     out.extend_from_slice(line)

@@ -5,7 +5,7 @@ pub use Rattle.link_capture_grammar.specs.Captures
 pub use Rattle.link_capture_grammar.specs.Faults
 pub use Rattle.link_capture_grammar.specs.Laws
 pub use Rattle.link_capture_grammar.specs.Numbers
-pub use Rattle.link_capture_checks.specs.Listings
+pub use Rattle.link_capture_walks.specs.Listings
 pub use Rattle.link_capture_checks.specs.Measures
 pub use Rattle.link_capture_checks.specs.Sides
 pub use Rattle.link_capture_walks.specs.Walks

@@ -10,7 +10,7 @@ use Rattle.netlink_packet_core_grammar.specs.Frames.{IsFrame, frame_body, frame_
 use Rattle.netlink_packet_core_grammar.specs.Laws.{FirstIsWithin}
 use Rattle.netlink_packet_core_grammar.proofs.Attributes.{Headed, headed}
 use Rattle.link_capture_grammar.specs.Bodies.{is_link_type}
-use Rattle.link_capture_checks.proofs.Listings.{rest_shorter}
+use Rattle.link_capture_walks.proofs.Listings.{rest_shorter}
 use Rattle.link_capture_lists.specs.ListTables.{list_rest}
 use Rattle.link_tables.specs.declared.rows.Form.{Form}
 use Rattle.link_tables.specs.declared.rows.Form.TheVariants.{FirstOnly}

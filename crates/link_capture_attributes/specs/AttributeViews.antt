@@ -1,7 +1,7 @@
 -- The values of attributes and levels in code.
 use Rattle.std.specs.Prelude.{◌+◌, ◌≤◌, Option, option_map}
 use Rattle.link_interpreter.specs.Sameness.{attribute_of}
-use Rattle.link_capture_checks.specs.Listings.{listing}
+use Rattle.link_capture_walks.specs.Listings.{listing}
 use Rattle.link_capture_lists.specs.ListTables.{depth}
 use Rattle.link_capture_attributes.specs.Attributes.{Found, Level}
 use Rattle.link_capture_attributes.specs.declared.attribute_at.AttributeAt.{AttributeAt}

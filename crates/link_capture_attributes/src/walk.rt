@@ -9,9 +9,8 @@ ghost use Rattle.link_capture_attributes.specs.AttributeViews.{IsShallow, all_fo
 
 use crate::attribute_at::AttributeAt;
 use crate::laws::lists_unfold_by_attributes;
-use link_capture_checks::Listed;
 use link_capture_lists::{Inside, ListTable, list_rest, next_list, row_in, whole};
-use link_capture_walks::following;
+use link_capture_walks::{Listed, following};
 use link_interpreter::{Attribute, KIND_BOUND, first_attribute};
 use link_tables::{
     Form, IFLA_INFO_DATA, IFLA_INFO_SLAVE_DATA, IFLA_INFO_XSTATS, LINK_HEADER_LEN, family_table,

@@ -1,4 +1,3 @@
-pub mod Listings
 pub mod Types
 pub mod Written
 pub mod Steps

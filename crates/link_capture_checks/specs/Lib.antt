@@ -1,4 +1,3 @@
-pub mod Listings
 pub mod Measures
 pub mod Partings
 pub mod Sides

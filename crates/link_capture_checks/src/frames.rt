@@ -1,8 +1,9 @@
 //! The first frame of some bytes.
 
-ghost use Rattle.std.specs.Prelude.{◌≡◌, ◌≢◌, ◌≤◌, ◌<◌, ◌+◌, ◌^◌, ◌++◌, ℕ, List, true, length};
+ghost use Rattle.std.specs.Prelude.{◌≡◌, ◌≢◌, ◌≤◌, ◌<◌, ◌+◌, ◌^◌, ◌++◌, ℕ, List, true, length, take, drop};
 ghost use Rattle.std.specs.Prelude.{is_ok, vec_capacity, IfOk, IfErr, OnErr, Ok, Err};
 ghost use Rattle.netlink_packet_core_grammar.specs.Attributes.{nla_align};
+ghost use Rattle.netlink_packet_core.specs.Numbers.{le4};
 ghost use Rattle.netlink_packet_core.specs.Frames.{IsFrame, frame_length, frame_type, frame_body, frame_text};
 ghost use Rattle.link_message_grammar.specs.Body.{link_peer};
 ghost use Rattle.link_message_checks.specs.Prefixes.{IsBodyPrefix};
@@ -87,6 +88,17 @@ pub fn measure_frame(bytes: &[u8], limit: u32) -> Result<MeasuredFrame, FaultKin
     })
 }
 
+// Returns the header at the start of `bytes`, with this length in it.
+fn header_with(size: u32, bytes: &[u8]) -> [u8; NETLINK_HEADER_LEN]
+    requires { 16 ≤ length bytes.now }
+    ensures { result ≡ le4 size ++ take 12 (drop 4 bytes.now) }
+{
+    let mut header = [0u8; NETLINK_HEADER_LEN];
+    header.copy_from_slice(&bytes[..NETLINK_HEADER_LEN]);
+    header[..4].copy_from_slice(&size.to_le_bytes());
+    header
+}
+
 // Appends the text of the first frame, whose body has one, with this size in its header. `out` must
 // have capacity for it.
 fn write_frame_text(
@@ -108,8 +120,7 @@ fn write_frame_text(
         ++ frame_text bytes.now (written (body_text (frame_type bytes.now) (frame_body bytes.now))) }
     ensures capacity { vec_capacity out.old ≤ vec_capacity out.new }
 {
-    append(&size.to_le_bytes(), out);
-    append(&bytes[4..NETLINK_HEADER_LEN], out);
+    append(&header_with(size, bytes), out);
     let message_type = NetlinkBuffer::new(bytes).message_type();
     write_frame_body(
         message_type,

@@ -13,7 +13,7 @@ use Rattle.link_tables.specs.declared.kinds.TheConstants.{AMT, MACVLAN_ADDRESS}
 use Rattle.link_tables.specs.declared.table.TheConstants.{VF_INFOS, VF_PORTS, VLAN}
 use Rattle.link_tables.specs.InForce.{held_in_force}
 use Rattle.link_tables.specs.Tables.{is_link_info}
-use Rattle.link_capture_checks.specs.Listings.{Listing as ListingOf, whole as whole_of}
+use Rattle.link_capture_walks.specs.Listings.{Listing as ListingOf, whole as whole_of}
 use Rattle.link_capture_lists.specs.declared.rows.TheConstants.{DATA_ROWS, MESSAGE_ROWS}
 use Rattle.link_capture_lists.specs.declared.tables.Inside.{Inside}
 use Rattle.link_capture_lists.specs.declared.tables.Inside.TheVariants as I

@@ -7,4 +7,4 @@ mod names;
 mod rows;
 mod tables;
 
-pub use tables::{Inside, ListTable, MissingKind, is_kept, list_rest, next_list, row_in, whole};
+pub use tables::{Inside, ListTable, MissingKind, list_rest, next_list, row_in, whole};

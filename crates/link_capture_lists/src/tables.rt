@@ -1,20 +1,18 @@
 //! The lists of links, and the contents of their attributes.
 
-ghost use Rattle.std.specs.Prelude.{◌≡◌, ◌<◌, ◌≤◌, ◌-◌, [], get_or, ℕ, List, option_map, IfSome};
-ghost use Rattle.attribute_tables_grammar.specs.Lists as Lists;
+ghost use Rattle.std.specs.Prelude.{◌≡◌, ◌<◌, ◌≤◌, ◌-◌, [], get_or, option_map, IfSome};
 ghost use Rattle.link_tables.specs.declared.table.TheConstants.{LINK_INFO};
 ghost use Rattle.link_tables.specs.declared.kinds.TheConstants.{AMT};
 ghost use Rattle.link_tables.specs.InForce.{held_in_force, in_force};
-ghost use Rattle.link_tables.specs.Rows.{form_of};
-ghost use Rattle.link_capture_checks.specs.Listings.{listing};
+ghost use Rattle.link_capture_walks.specs.Listings.{listing};
 ghost use Rattle.link_capture_lists.specs.ListTables.{IsLower, data_rows, find, info_inside, info_row, inside_of};
 ghost use Rattle.link_capture_lists.specs.ListTables.{list_rest, message_rows, row_in, table_row, table_rows, whole};
 ghost use Rattle.link_capture_lists.specs.RowRules.{following};
 
 use crate::names::{find, rows_at, text_of};
 use crate::rows::{DATA_ROWS, MESSAGE_ROWS, NamedRow};
-use link_capture_checks::Listed;
-use link_interpreter::KIND_BOUND;
+use link_capture_walks::Listed;
+use link_interpreter::{KIND_BOUND, is_kept};
 use link_tables::kinds::AMT;
 use link_tables::table::LINK_INFO;
 use link_tables::{
@@ -148,16 +146,6 @@ pub fn row_in(list: Listed<'_, ListTable>, kind: u16) -> Option<(&'static str, I
         info_row(list.force, kind)
     } else {
         table_row(list.table.rows, kind)
-    }
-}
-
-/// Returns whether a list of this kind keeps an attribute of a kind, which may have flag bits.
-pub fn is_kept(form: Form, kind: u16) -> bool
-    ensures { (p : List ℕ) → result ≡ Lists.is_kept (form_of form) (record { kind = kind; payload = p }) }
-{
-    match form {
-        Form::OfKindOne | Form::Ports => kind % KIND_BOUND == 1,
-        Form::Any | Form::NonEmpty | Form::FirstOnly => true,
     }
 }
 

@@ -1,4 +1,4 @@
--- Captures with zeros for their sequence and port numbers.
+-- Captures with zeros for their sequence numbers and netlink port IDs.
 use Rattle.std.specs.Prelude.{ℕ, ◌+◌, ◌&&◌, nat_eq, nat_le, Bool, cond, List, ◌++◌, take, drop, flat_map}
 use Rattle.netlink_packet_core_grammar.specs.Attributes.{zeros}
 use Rattle.netlink_packet_core_grammar.specs.Frames.{frame_length, frame_type}

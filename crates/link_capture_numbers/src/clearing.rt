@@ -1,4 +1,4 @@
-//! Clears the sequence and port numbers of messages.
+//! Clears the sequence numbers and netlink port IDs of messages.
 
 ghost use Rattle.std.specs.Prelude.{◌≡◌, ◌+◌, ◌≤◌, length};
 ghost use Rattle.netlink_packet_core_grammar.specs.Frames.{frame_length};
@@ -49,9 +49,9 @@ fn clear_first_frame(bytes: &mut [u8], size: usize)
     }
 }
 
-/// Writes zeros over the sequence and port number of each message, and over those of the request's
-/// header that an NLMSG_ERROR repeats after its code, up to the first offset without a whole
-/// message.
+/// Writes zeros over the sequence number and the netlink port ID of each message, and over those of
+/// the request's header that an NLMSG_ERROR repeats after its code, up to the first offset without a
+/// whole message.
 ///
 /// The bytes are read as a capture: each message is at a multiple of 4, and has a header of 16
 /// bytes (netlink.h, struct nlmsghdr), with the numbers in the bytes 8 to 16.

@@ -1,4 +1,4 @@
-//! Captures without sequence and port numbers, which change from run to run.
+//! Captures without sequence numbers and netlink port IDs, which change from run to run.
 #![tactic(auto)]
 
 mod clearing;

@@ -10,7 +10,7 @@ use Rattle.link_message_grammar.proofs.Body.{written_header}
 use Rattle.link_capture_quirks.specs.declared.quirk_at.Quirk.TheVariants.{HeaderByte}
 use Rattle.link_tables.specs.declared.table.TheConstants.{LINK_UNSPEC, LINK_BRIDGE, LINK_INET6, LINK_OTHER}
 use Rattle.link_capture_quirks.specs.QuirkRows.{quirk_if, header_quirk}
-use Rattle.link_capture_checks.specs.Listings.{whole}
+use Rattle.link_capture_walks.specs.Listings.{whole}
 use Rattle.link_capture_quirks.specs.QuirkTables.{family_table, link_attributes}
 use Rattle.link_capture_quirks.specs.QuirkLists.{quirks_at, list_quirks}
 use Rattle.link_capture_quirks.specs.QuirkLaws.{ListsUnfoldByAttributes, link_list, WrittenAttributesHaveNone}

@@ -30,7 +30,7 @@ use Rattle.link_capture_quirks.specs.QuirkRows.{quirk_if, over_one_byte, over_on
 use Rattle.link_capture_walks.specs.Walks.{collected_inside}
 use Rattle.link_capture_quirks.specs.QuirkLists.{quirks_at, direct_quirks, inside_of, list_kind_after, list_quirks}
 use Rattle.link_capture_quirks.specs.declared.tables.Table.{Table}
-use Rattle.link_capture_checks.specs.Listings.{whole}
+use Rattle.link_capture_walks.specs.Listings.{whole}
 use Rattle.link_capture_quirks.specs.QuirkTables.{Listing, family_table, inside}
 use Rattle.link_capture_quirks.proofs.Inside.{at_kind, either, split}
 use Rattle.link_capture_quirks.specs.QuirkLaws.{ListsUnfoldByAttributes, link_list, IsDataTable, WrittenAttributesHaveNone}

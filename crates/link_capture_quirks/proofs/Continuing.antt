@@ -3,7 +3,7 @@ use Rattle.std.proofs.Common.{◌≡◌, ℕ, ◌+◌, ◌-◌, ◌^◌, ◌≤�
 use Rattle.netlink_packet_core_grammar.specs.Attributes.{Attribute, nla_align, attribute_length, proper_kind, first_attribute}
 use Rattle.link_capture_quirks.specs.declared.quirk_at.QuirkAt.{QuirkAt}
 use Rattle.link_capture_quirks.specs.declared.walk.Level.{Level}
-use Rattle.link_capture_checks.specs.Listings.{listing}
+use Rattle.link_capture_walks.specs.Listings.{listing}
 use Rattle.link_capture_quirks.specs.QuirkTables.{depth}
 use Rattle.link_capture_quirks.specs.QuirkRows.{bit_quirk, payload_quirk}
 use Rattle.link_capture_walks.specs.Walks.{collected_inside}

@@ -11,7 +11,7 @@ use Rattle.link_capture_quirks.specs.declared.quirk_at.Quirk.{Quirk}
 use Rattle.link_capture_quirks.specs.declared.quirk_at.QuirkAt.{QuirkAt}
 use Rattle.link_capture_quirks.specs.declared.tables.Table.{Table}
 use Rattle.link_capture_quirks.specs.QuirkRows.{nested_bit_quirk, payload_quirk}
-use Rattle.link_capture_checks.specs.Listings.{whole}
+use Rattle.link_capture_walks.specs.Listings.{whole}
 use Rattle.link_capture_quirks.specs.QuirkTables.{Listing, family_table, inside, inside_table, at_payload_start, has_peer}
 use Rattle.link_capture_walks.specs.Walks.{OfLists, collected, collected_inside, collected_next, collected_within}
 use Rattle.link_capture_quirks.specs.QuirkLists.{quirks_at, direct_quirks, inside_of, list_kind_after, list_quirks, quirk_walk}

@@ -26,7 +26,7 @@ use Rattle.link_info_grammar.specs.Families.{vxlan, geneve, gre, gre6, ip_tunnel
 use Rattle.link_capture_quirks.specs.declared.tables.Data.{Data}
 use Rattle.link_capture_quirks.specs.declared.tables.Data.TheVariants.{Other, Vxlan, Geneve, Gre, Gre6, IpTunnel, BareUdp, Batadv, Netkit, Pair}
 use Rattle.link_capture_quirks.specs.declared.tables.Table.TheVariants.{OfKind}
-use Rattle.link_capture_checks.specs.Listings.{whole}
+use Rattle.link_capture_walks.specs.Listings.{whole}
 use Rattle.link_capture_quirks.specs.QuirkTables.{Listing, data_of, data_in, data_list, held_list, at_payload_start, family_table, inside, next_data, has_peer}
 use Rattle.link_capture_walks.specs.Walks.{collected_inside}
 use Rattle.link_capture_quirks.specs.QuirkLists.{inside_of, list_kind_after, list_quirks}

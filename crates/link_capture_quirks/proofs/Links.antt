@@ -19,7 +19,7 @@ use Rattle.link_message_grammar.specs.NestedTables.{inet, specific, xdp, vf_info
 use Rattle.link_message_grammar.proofs.Parts.{attributes_are_looked_up}
 use Rattle.link_capture_quirks.specs.declared.tables.Table.{Table}
 use Rattle.link_capture_quirks.specs.declared.tables.Table.TheVariants.{Unspec, Info, Families, Inet, Programs, Functions}
-use Rattle.link_capture_checks.specs.Listings.{whole}
+use Rattle.link_capture_walks.specs.Listings.{whole}
 use Rattle.link_capture_quirks.specs.QuirkTables.{Listing, held_list, at_payload_start, inside_link, inside_table, has_peer, next_list}
 use Rattle.link_capture_quirks.specs.QuirkLaws.{ListsUnfoldByAttributes, link_list, WrittenAttributesHaveNone}
 use Rattle.link_capture_quirks.proofs.Lists.{HasNone, NoneInside, WritesNoQuirks, list-none, rows-none}

@@ -19,7 +19,7 @@ use Rattle.link_capture_quirks.specs.declared.tables.Table.{Table}
 use Rattle.link_capture_quirks.specs.declared.tables.Table.TheVariants.{Unspec, Bridge, Link, Inet, Programs, Functions}
 use Rattle.link_capture_quirks.specs.declared.tables.Table.TheVariants.{OfKind}
 use Rattle.link_capture_quirks.specs.QuirkRows.{header_quirk}
-use Rattle.link_capture_checks.specs.Listings.{whole}
+use Rattle.link_capture_walks.specs.Listings.{whole}
 use Rattle.link_capture_walks.specs.Walks.{UnfoldsByAttributes}
 use Rattle.link_capture_quirks.specs.QuirkLists.{direct_quirks, list_quirks, quirk_walk}
 use Rattle.link_capture_quirks.specs.CaptureQuirks.{frame_quirks, quirks_from}

@@ -12,7 +12,7 @@ use Rattle.link_tables.specs.declared.kinds.TheConstants.{VXLAN, GENEVE, GRE, GR
 use Rattle.link_tables.specs.declared.kinds.TheConstants.{IP4_TUNNEL, IP6_TUNNEL, BAREUDP, BATADV, NETKIT, VETH, VXCAN}
 use Rattle.link_tables.specs.InForce.{held_in_force}
 use Rattle.link_tables.specs.Tables as tables
-use Rattle.link_capture_checks.specs.Listings.{Listing as ListingOf, whole}
+use Rattle.link_capture_walks.specs.Listings.{Listing as ListingOf, whole}
 use Rattle.link_capture_quirks.specs.declared.tables.Data.{Data}
 use Rattle.link_capture_quirks.specs.declared.tables.Data.TheVariants.{Other, Vxlan, Geneve, Gre, Gre6, IpTunnel}
 use Rattle.link_capture_quirks.specs.declared.tables.Data.TheVariants.{BareUdp, Batadv, Netkit, Pair, AfterFirst}

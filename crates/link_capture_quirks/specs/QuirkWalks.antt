@@ -5,7 +5,7 @@ use Rattle.link_capture_grammar.specs.declared.fault.CaptureFault.{CaptureFault}
 use Rattle.link_capture_grammar.specs.Captures.{first_fault, shifted}
 use Rattle.link_capture_quirks.specs.declared.quirk_at.QuirkAt.{QuirkAt}
 use Rattle.link_capture_quirks.specs.declared.walk.Level.{Level}
-use Rattle.link_capture_checks.specs.Listings.{listing}
+use Rattle.link_capture_walks.specs.Listings.{listing}
 use Rattle.link_capture_quirks.specs.QuirkTables.{depth}
 use Rattle.link_capture_quirks.specs.QuirkLists.{list_quirks}
 use Rattle.link_capture_quirks.specs.CaptureQuirks.{quirks_from}

@@ -2,13 +2,13 @@
 
 ghost use Rattle.std.specs.Prelude.{◌≡◌, ◌≤◌, ◌<◌, length, option_map, IfSome};
 ghost use Rattle.link_tables.specs.InForce.{in_force};
-ghost use Rattle.link_capture_checks.specs.Listings.{listing};
+ghost use Rattle.link_capture_walks.specs.Listings.{listing};
 ghost use Rattle.link_capture_quirks.specs.QuirkTables.{data_of, data_in, data_list, info_list};
 ghost use Rattle.link_capture_quirks.specs.QuirkTables.{family_table, next_list, inside_link, inside_table};
 ghost use Rattle.link_capture_quirks.specs.QuirkTables.{has_peer, inside, depth};
 
 use crate::kinds::{AF_INET, IFLA_AF_SPEC, IFLA_LINKINFO, IFLA_VFINFO_LIST, IFLA_XDP};
-use link_capture_checks::Listed;
+use link_capture_walks::Listed;
 use link_tables::kinds::{
     BAREUDP, BATADV, GENEVE, GRE, GRE6, IP4_TUNNEL, IP6_TUNNEL, NETKIT, VETH, VXCAN, VXLAN,
 };

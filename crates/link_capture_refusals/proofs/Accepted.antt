@@ -21,7 +21,7 @@ use Rattle.link_capture_lists.specs.RowRules.{LinksAreTables, RowsAreTheTables, 
 use Rattle.link_capture_refusals.specs.Refusals.{Found, attribute_refusal, found_at, inside_refusal, link_refusal, list_refusal, named, next_refusal, or_else, row_refusal, whole_refusal}
 use Rattle.link_capture_refusals.specs.RefusalLaws.{LinksAreAccepted, ListsAreAccepted, ListsUnfoldByAttributes}
 use Rattle.std.proofs.lemmas.Bool.{ltb-true, ltb-false, le-leb, lt-leb}
-use Rattle.link_capture_checks.proofs.Listings.{rest_shorter}
+use Rattle.link_capture_walks.proofs.Listings.{rest_shorter}
 
 -- ---- refusals
 

@@ -9,7 +9,7 @@ use Rattle.link_message_grammar.specs.Body.{body_rule}
 use Rattle.link_capture_lists.specs.declared.tables.Inside.{Inside}
 use Rattle.link_capture_lists.specs.declared.tables.Inside.TheVariants as I
 use Rattle.link_capture_refusals.specs.declared.reason.Reason.TheVariants as R
-use Rattle.link_capture_checks.proofs.Listings.{rest_shorter}
+use Rattle.link_capture_walks.proofs.Listings.{rest_shorter}
 use Rattle.link_capture_walks.proofs.Steps.{GoesInward, Same, Steps, by_step}
 use Rattle.link_capture_lists.specs.ListTables.{Listing, list_rest, row_in, whole}
 use Rattle.link_tables.specs.Tables.{family_table}

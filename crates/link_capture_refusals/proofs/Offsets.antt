@@ -15,7 +15,7 @@ use Rattle.link_capture_lists.specs.RowRules.{following, is_accepted}
 use Rattle.link_capture_refusals.specs.RefusalLaws.{IsBetween, ListsUnfoldByAttributes}
 use Rattle.link_capture_refusals.specs.Refusals.{Found, attribute_refusal, found_at, inside_refusal, link_refusal, list_refusal, named, next_refusal, or_else, row_refusal, whole_refusal}
 use Rattle.link_capture_lists.proofs.Lookups.{shorter_rest}
-use Rattle.link_capture_checks.proofs.Listings.{rest_shorter}
+use Rattle.link_capture_walks.proofs.Listings.{rest_shorter}
 
 -- the offset of a refusal, if there is one, is between two offsets
 abbrev pub IsPlacedBetween : ℕ → ℕ → Option Found → Type 0

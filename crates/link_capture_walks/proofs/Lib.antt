@@ -1,2 +1,3 @@
 pub mod Choices
 pub mod Steps
+pub mod Listings

@@ -1,1 +1,2 @@
 pub mod Walks
+pub mod Listings

@@ -1,6 +1,7 @@
 pub mod Held
 pub mod Loop
 pub mod CanonicalParts
+pub mod CanonicalSteps
 pub mod SameShapes
 pub mod WriteSteps
 pub mod PrefixSteps

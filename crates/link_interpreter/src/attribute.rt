@@ -23,6 +23,7 @@ pub struct Attribute<'a> {
 pub fn first_attribute(bytes: &[u8]) -> Option<(Attribute<'_>, &[u8])>
     ensures first { first_attribute bytes.now ≡ option_map (λ r. (attribute_of r.0, r.1.now)) result }
     ensures within { IfSome result (λ r. 4 + length r.0.payload.now ≤ length bytes.now) }
+    ensures short { IfSome result (λ r. 4 + length r.0.payload.now ≤ 65535) }
     ensures following { IfSome result
         (λ r. length r.1.now ≡ length bytes.now - nla_align (4 + length r.0.payload.now)) }
 {

@@ -21,7 +21,7 @@ pub fn append_zeros(count: usize, out: &mut Vec<u8>)
     ensures text { out.new.items ≡ out.old.items ++ zeros count }
     ensures capacity { vec_capacity out.old ≤ vec_capacity out.new }
 {
-    if out.resize(out.len() + count, 0).is_err() {
+    if count > 0 && out.resize(out.len() + count, 0).is_err() {
         unreachable!();
     }
 }

@@ -3,6 +3,7 @@
 #![tactic(auto)]
 
 mod attribute;
+mod canonical;
 mod capacity;
 mod data;
 mod info;
@@ -22,7 +23,7 @@ pub use data::{accepts_data, accepts_port_data, data_error};
 pub use link_info::{
     ListMeasure, check_list, check_list_with, list_error_with, same_list, same_list_with,
 };
-pub use measure::{measure_held, walk_list};
+pub use measure::{is_kept, measure_held, walk_list};
 pub use peers::{BytesPeer, PeerMeasure, PeerRule, PeerSet, Ruled, WritePeer};
 pub use same::same_held;
 pub use shapes::{Measured, measure_shape};

@@ -1,16 +1,16 @@
 //! Measures of lists, without typed values.
 
-ghost use Rattle.std.specs.Prelude.{◌≡◌, ◌<◌, ◌+◌, ◌*◌, ◌^◌, ◌&&◌, ℕ, true, false, cond, nat_lt, option_map, IfSome};
+ghost use Rattle.std.specs.Prelude.{◌≡◌, ◌<◌, ◌+◌, ◌*◌, ◌^◌, ◌&&◌, ℕ, List, true, false, cond, nat_lt, option_map, IfSome};
 ghost use Rattle.attribute_tables_grammar.specs.Lists.{is_kept, first_only, list_rule};
 ghost use Rattle.attribute_tables_grammar.specs.LookUps.{payload_rule};
 ghost use Rattle.attribute_tables_grammar.specs.Walks.{measure, plus, with_header, dropped, closed};
 ghost use Rattle.link_interpreter.specs.Prefixes.{IsCanonicalPrefix};
 ghost use Rattle.link_interpreter.specs.Measures.{view, rows_of, table_list, info_list};
-ghost use Rattle.link_interpreter.specs.Sameness.{attribute_of};
 ghost use Rattle.link_tables.specs.Rows.{form_of};
 ghost use Rattle.link_tables.specs.Tables.{held_rule, info_payload, table_of};
 
-use crate::attribute::{Attribute, KIND_BOUND, first_attribute, is_canonical_attribute};
+use crate::attribute::{KIND_BOUND, first_attribute, is_canonical_attribute};
+use crate::canonical::skip_canonical;
 use crate::info::{info_is_a_list_inside, link_info_is_lawful, written_info_kind};
 use crate::peers::PeerSet;
 use crate::shapes::{Measured, NOTHING_YET, measure_shape};
@@ -20,12 +20,13 @@ use attribute_tables_grammar::laws::{
 };
 use link_tables::{Form, Held, NO_KINDS, Table, indexed_rows, info_held, next_force};
 
-/// Returns whether a list of this kind keeps an attribute.
-pub fn is_kept(form: Form, attribute: Attribute<'_>) -> bool
-    ensures { result ≡ is_kept (form_of form) (attribute_of attribute.entry) }
+/// Returns whether a list of this kind keeps an attribute of a kind, which may have flag bits.
+pub fn is_kept(form: Form, kind: u16) -> bool
+    ensures { (payload : List ℕ) → result
+        ≡ is_kept (form_of form) (record { kind = kind; payload = payload }) }
 {
     match form {
-        Form::OfKindOne | Form::Ports => attribute.kind % KIND_BOUND == 1,
+        Form::OfKindOne | Form::Ports => kind % KIND_BOUND == 1,
         Form::Any | Form::NonEmpty | Form::FirstOnly => true,
     }
 }
@@ -172,15 +173,15 @@ pub fn walk_list<P: PeerSet>(peers: &P, form: Form, table: Table, bytes: &[u8]) 
         }
         Form::Any | Form::OfKindOne => {}
     }
-    let mut total = NOTHING_YET;
-    let mut left = bytes.len();
-    let mut rest = bytes;
+    // Most attributes hold no others and are already canonical; these are passed without a measure.
+    let (mut total, mut rest) = skip_canonical(peers, form, table, bytes);
+    let mut left = rest.len();
     let rows = indexed_rows(table);
     while !rest.is_empty() {
         let Some((attribute, after)) = first_attribute(rest) else {
             return None;
         };
-        if is_kept(form, attribute) {
+        if is_kept(form, attribute.kind) {
             let found = find_in(peers, rows, attribute.kind);
             let Some(inside) = measure_held(peers, found.held, attribute.payload) else {
                 return None;

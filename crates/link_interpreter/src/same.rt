@@ -43,7 +43,7 @@ fn next_kept(form: Form, bytes: &[u8]) -> Next<'_>
         let Some((attribute, after)) = first_attribute(rest) else {
             return Next::Cut;
         };
-        if is_kept(form, attribute) {
+        if is_kept(form, attribute.kind) {
             return Next::Kept(attribute, after);
         }
         rest = after;

@@ -2,7 +2,7 @@
 
 ghost use Rattle.std.specs.Prelude.{◌≡◌, true, option_map, IfSome};
 ghost use Rattle.attribute_tables_grammar.specs.Rules.{shape_rule};
-ghost use Rattle.attribute_tables_grammar.specs.Shapes.{accepts, text};
+ghost use Rattle.attribute_tables_grammar.specs.Shapes.{accepts};
 ghost use Rattle.attribute_tables_grammar.specs.Walks.{measure};
 ghost use Rattle.link_tables.specs.Rows.{shape_of};
 ghost use Rattle.link_interpreter.specs.Measures.{view};
@@ -39,27 +39,8 @@ pub const NOTHING_YET: Measured = Measured {
     prefix: 0,
 };
 
-fn measure_text(payload: &[u8]) -> Option<Measured>
-    ensures measure { option_map view result ≡ measure (shape_rule text) payload.now }
-    ensures already_canonical { IfSome result
-        (λ m. m.is_canonical ≡ true → (shape_rule text).canonical payload.now ≡ payload.now) }
-{
-    if !is_text(payload) {
-        return None;
-    }
-    let len = without_nul(payload).len();
-    Some(Measured {
-        text_len: len as u128 + 1,
-        attributes: 0,
-        fits: true,
-        empty_ports: false,
-        is_canonical: len < payload.len(),
-        prefix: 0,
-    })
-}
-
-// Whether an accepted payload is the canonical one of its shape; false for shapes that aren't
-// examined.
+// Whether an accepted payload is the canonical one of its shape.
+#[inline(always)]
 fn is_canonical_payload(shape: Shape, payload: &[u8]) -> bool
     requires { accepts (shape_of shape) payload.now ≡ true }
     ensures { result ≡ true → (shape_rule (shape_of shape)).canonical payload.now ≡ payload.now }
@@ -72,7 +53,8 @@ fn is_canonical_payload(shape: Shape, payload: &[u8]) -> bool
         Shape::FixedRecord(m, n) => payload.len() == n as usize && is_zero(&payload[m as usize..]),
         Shape::BooleanOfFour => payload[0] <= 1 && is_zero(&payload[1..]),
         Shape::IdAndBoolean => payload.len() == 8 && payload[4] <= 1 && is_zero(&payload[5..]),
-        Shape::Text | Shape::Never => false,
+        Shape::Text => without_nul(payload).len() < payload.len(),
+        Shape::Never => false,
     }
 }
 
@@ -92,7 +74,7 @@ pub fn measure_shape(shape: Shape, payload: &[u8]) -> Option<Measured>
         Shape::NonzeroByte | Shape::OneByte => (len == 1, 1),
         Shape::BooleanOfFour => (len == 4, 4),
         Shape::Presence => (true, 0),
-        Shape::Text => return measure_text(payload),
+        Shape::Text => (is_text(payload), without_nul(payload).len() + 1),
         Shape::Raw => (true, len),
         Shape::Never => (false, len),
         Shape::FixedRecord(m, n) => (len >= m as usize, m.max(n) as usize),

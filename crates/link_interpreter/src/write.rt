@@ -89,7 +89,7 @@ fn write_list<P: WritePeer>(peers: &P, form: Form, table: Table, bytes: &[u8], o
         let Some((attribute, after)) = first_attribute(rest) else {
             unreachable!();
         };
-        if is_kept(form, attribute) {
+        if is_kept(form, attribute.kind) {
             let found = find_in(peers, rows, attribute.kind);
             write_attribute(peers, found.held, found.kind, attribute.payload, out);
         }

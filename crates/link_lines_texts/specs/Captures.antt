@@ -5,7 +5,8 @@ use Rattle.link_capture_grammar.specs.Captures.{texts}
 use Rattle.link_capture_grammar.specs.WholeFrames.{whole_frames}
 use Rattle.link_lines_texts.specs.Frames.{frame_lines}
 
--- A choice of what is shown: whether sequence and port numbers are, and the types of the shown messages if not all are.
+-- A choice of what is shown: whether sequence numbers and netlink port IDs are, and the types of the shown messages if
+-- not all are.
 pub record Choice : Type 0 where
   pub numbers : Bool
   pub only : Option (List ℕ)
@@ -14,7 +15,7 @@ pub record Choice : Type 0 where
 abbrev pub everything : Choice
 everything = record { numbers = true; only = None }
 
--- The choice that shows every message, without sequence and port numbers.
+-- The choice that shows every message, without sequence numbers and netlink port IDs.
 abbrev pub without_numbers : Choice
 without_numbers = record { numbers = false; only = None }
 

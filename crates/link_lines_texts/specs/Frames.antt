@@ -162,6 +162,6 @@ body_lines numbers t flags b =
     cond (is_link_type t) (link_lines (in_message (has_request_flag flags)) b) (cond (t == 2 ||
     t == 3) (code_lines numbers t flags b) (other_lines t (has_request_flag flags) b))
 
--- The lines of a frame, given by its bytes without the padding; with sequence and port numbers, or without.
+-- The lines of a frame, given by its bytes without the padding; with sequence number and netlink port ID, or without.
 unfoldable pub frame_lines : Bool → List ℕ → List ℕ
 frame_lines numbers f = header_line numbers f ++ body_lines numbers (u16_at 4 f) (u16_at 6 f) (drop 16 f)

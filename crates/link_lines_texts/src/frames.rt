@@ -89,7 +89,7 @@ fn push_type(message_type: u16, out: &mut Vec<u8>) -> Result<(), AllocError>
     push_decimal(message_type as u64, out)
 }
 
-/// Appends the sequence and port number of a message if `numbers` is true.
+/// Appends the sequence number and the netlink port ID of a message if `numbers` is true.
 fn push_numbers(numbers: bool, frame: &[u8], out: &mut Vec<u8>) -> Result<(), AllocError>
     requires { 16 ≤ length frame.now }
     ensures { Appends out.old out.new result (numbers_text numbers frame.now) }
@@ -352,9 +352,9 @@ fn push_body(
     }
 }
 
-/// Appends the lines of a frame, given by its bytes without the padding. Its sequence and port
-/// number, and those of the request's header that an NLMSG_ERROR repeats, are shown only if
-/// `numbers` is true.
+/// Appends the lines of a frame, given by its bytes without the padding. Its sequence number and
+/// netlink port ID, and those of the request's header that an NLMSG_ERROR repeats, are shown only
+/// if `numbers` is true.
 ///
 /// # Errors
 ///

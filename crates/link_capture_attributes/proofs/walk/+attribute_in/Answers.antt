@@ -2,7 +2,7 @@ use Rattle.std.proofs.Common.{◌≡◌, ◌+◌, length, Some, None, sym, ap, �
 use Rattle.std.proofs.lemmas.Bool.{le-leb, lt-leb}
 use Rattle.netlink_packet_core_grammar.specs.Attributes.{Attribute, attribute_length, nla_align}
 use Rattle.link_interpreter.specs.Sameness.{attribute_of}
-use Rattle.link_capture_checks.specs.Listings.{listing}
+use Rattle.link_capture_walks.specs.Listings.{listing}
 use Rattle.link_capture_lists.proofs.Lookups.{shorter_rest}
 use Rattle.link_capture_lists.specs.ListTables.{Listing, list_rest}
 use Rattle.link_capture_lists.specs.RowRules.{following}

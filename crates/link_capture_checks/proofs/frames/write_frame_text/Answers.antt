@@ -2,7 +2,6 @@ use Rattle.std.proofs.Common.{◌≡◌, ◌-◌, ◌++◌, take, drop, ap, ◌�
 use Rattle.netlink_packet_core_grammar.specs.Attributes.{nla_align, zeros}
 use Rattle.netlink_packet_core_grammar.specs.Frames.{frame_type, frame_body, frame_text}
 use Rattle.netlink_packet_core_grammar.specs.Numbers.{le4}
-use Rattle.netlink_packet_core_grammar.proofs.Numbers.{le4-bytes}
 use Rattle.link_capture_grammar.specs.Bodies.{body_text}
 use Rattle.link_capture_checks.specs.Measures.{written}
 use Rattle.link_capture_checks.proofs.frames.write_frame_text.Goals as goal
@@ -19,7 +18,8 @@ returns-clause-text c =
     let head = take 12 (drop 4 bytes) in
     let rest = zeros (nla_align size - size) in
     c.append_zeros.ensures.text ∙ ap (λ n. c.write_frame_body.new.out.items ++ zeros (n - size)) c.nla_align.ensures
-    ∙ ap (λ x. x ++ rest) (c.write_frame_body.ensures.text ∙ (λ i. c.append-2.new.out.items ++ written (body_text (kind i) (body i)))
-    ∙ ap (λ x. x ++ text) (c.append-2.ensures.text ∙ ap (λ x. x ++ head) (c.append.ensures.text ∙ ap (λ x. out ++ x) (c.to_le_bytes.ensures ∙ le4-bytes size c.ranges.size.fits))))
-    ∙ append_assoc ((out ++ le4 size) ++ head) text rest ∙ append_assoc (out ++ le4 size) head (text ++ rest) ∙ append_assoc out (le4 size) (head ++ (text ++ rest))
+    ∙ ap (λ x. x ++ rest) (c.write_frame_body.ensures.text ∙ (λ i. c.append.new.out.items ++ written (body_text (kind i) (body i)))
+    ∙ ap (λ x. x ++ text) (c.append.ensures.text ∙ ap (λ x. out ++ x) c.header_with.ensures))
+    ∙ append_assoc (out ++ (le4 size ++ head)) text rest ∙ append_assoc out (le4 size ++ head) (text ++ rest)
+    ∙ ap (λ x. out ++ x) (append_assoc (le4 size) head (text ++ rest))
     ∙ ap (λ n. out ++ (le4 n ++ (head ++ (text ++ zeros (nla_align n - n))))) c.requires.size

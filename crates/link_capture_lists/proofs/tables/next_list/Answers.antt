@@ -1,5 +1,5 @@
 use Rattle.std.proofs.Common.{sym, ◌∙◌}
-use Rattle.link_capture_checks.specs.Listings.{listing}
+use Rattle.link_capture_walks.specs.Listings.{listing}
 use Rattle.link_capture_lists.proofs.Lookups.{info_rest}
 use Rattle.link_capture_lists.proofs.tables.next_list.Goals as goal
 

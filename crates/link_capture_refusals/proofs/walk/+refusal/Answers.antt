@@ -1,6 +1,6 @@
 use Rattle.std.proofs.Common.{◌≡◌, ◌+◌, length, Some, sym, ap, ◌∙◌, arith}
 use Rattle.netlink_packet_core_grammar.specs.Attributes.{Attribute, attribute_length, nla_align}
-use Rattle.link_capture_checks.specs.Listings.{listing}
+use Rattle.link_capture_walks.specs.Listings.{listing}
 use Rattle.link_capture_lists.specs.ListTables.{Listing, list_rest}
 use Rattle.link_capture_lists.specs.RowRules.{following}
 use Rattle.link_capture_refusals.specs.Refusals.{found_at, list_refusal}

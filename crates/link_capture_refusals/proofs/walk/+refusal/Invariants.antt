@@ -1,5 +1,5 @@
 use Rattle.std.proofs.Common.{◌≡◌, ◌<◌, ◌≤◌, ◌+◌, ◌*◌, ◌^◌, length}
-use Rattle.link_capture_checks.specs.Listings.{listing}
+use Rattle.link_capture_walks.specs.Listings.{listing}
 use Rattle.link_capture_refusals.specs.Refusals.{list_refusal}
 use Rattle.link_capture_refusals.proofs.walk.+refusal.Given as goal
 

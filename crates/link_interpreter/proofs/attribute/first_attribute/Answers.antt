@@ -30,5 +30,6 @@ returns c =
     record {
       first = first;
       within = c.first_attributes_are_within.ensures.within bytes _ _ first;
+      short = let low = c.type_inv.bytes 0 in let high = c.type_inv.bytes 1 in omega (arith, low, high);
       following = c.first_attributes_are_within.ensures.rest_length bytes _ _ first;
     }

@@ -48,7 +48,7 @@ measure_first-returns-clause-already_canonical g t c = λ h.
 
 pub walk_list-returns-in_default-measure_held-clause-measure : goal.walk_list-returns-in_default-measure_held-clause-measure
 walk_list-returns-in_default-measure_held-clause-measure g t c =
-    c.measures_unfold.ensures.refused _ _ _ _ _ _ _ _ c.loop-rest.invariant.walked c.in-Some.ensures.first (sym c.is_kept.ensures ∙ c.if-is_kept.true)
+    c.measures_unfold.ensures.refused _ _ _ _ _ _ _ _ c.loop-rest.invariant.walked c.in-Some.ensures.first (sym (c.is_kept.ensures _) ∙ c.if-is_kept.true)
     (measured_as _ _ _ _ (c.find_in-found.ensures c.args.table c.indexed_rows-rows.ensures).rule c.in_default-measure_held.ensures.measure) c.loop-rest.invariant.so_far
 
 pub walk_list-loop-rest-preserved-in-Some-measure_held : goal.walk_list-loop-rest-preserved-in-Some-measure_held
@@ -61,7 +61,7 @@ walk_list-loop-rest-preserved-in-Some-measure_held g t c =
     let after = c.in-Some.after.now in
     let e = attribute_of c.in-Some.attribute in
     let f = c.in-Some.ensures.first in
-    let k = sym c.is_kept.ensures ∙ c.if-is_kept.true in
+    let k = sym (c.is_kept.ensures _) ∙ c.if-is_kept.true in
     let inside = measured_as _ _ e.payload (Some (view c.in-Some-measure_held.inside)) found.rule c.in-Some-measure_held.ensures.measure in
     let s = c.measures_unfold.ensures.small _ found.lawful rest e after (view c.in-Some-measure_held.inside) f inside in
     let is = c.with_attribute-total.ensures.measure in
@@ -99,7 +99,7 @@ walk_list-loop-rest-preserved g t c =
     record {
       walked = c.loop-rest.invariant.walked;
       so_far = subst (λ m. MeasuredSoFar (form_of c.args.form) (rows_of g.P.PeerSet.peer (table_of c.args.table.0)) c.args.bytes.now m nothing c.in-Some.after.now) (sym is)
-          (c.measures_unfold.ensures.past _ _ _ _ _ _ _ _ c.in-Some.ensures.first (sym c.is_kept.ensures ∙ c.if-is_kept.false) c.loop-rest.invariant.so_far);
+          (c.measures_unfold.ensures.past _ _ _ _ _ _ _ _ c.in-Some.ensures.first (sym (c.is_kept.ensures _) ∙ c.if-is_kept.false) c.loop-rest.invariant.so_far);
       already_canonical = λ h. absurd (cc c.with_dropped-total.ensures.already_canonical);
       prefix = c.loop-rest.invariant.prefix;
       left = c.loop-rest.invariant.left;

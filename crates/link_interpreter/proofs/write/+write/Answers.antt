@@ -56,7 +56,7 @@ write_list-unreachable-requires g t c =
 pub write_list-write_attribute-requires : goal.write_list-write_attribute-requires
 write_list-write_attribute-requires g t c κs within =
     let found = c.find_in-found.ensures c.args.table c.indexed_rows-rows.ensures in
-    let w = c.writing_unfolds.ensures.writable _ _ _ _ _ _ _ _ _ c.in-Some.ensures.first (sym c.is_kept.ensures ∙ c.if-is_kept.true) c.loop-rest.invariant.so_far in
+    let w = c.writing_unfolds.ensures.writable _ _ _ _ _ _ _ _ _ c.in-Some.ensures.first (sym (c.is_kept.ensures _) ∙ c.if-is_kept.true) c.loop-rest.invariant.so_far in
     (omega (arith, c.in-Some.ensures.within), (within, (writable_as _ _ _ _ _ found.rule (omega arith) w)))
 
 pub write_list-loop-rest-preserved-then-is_kept : goal.write_list-loop-rest-preserved-then-is_kept
@@ -64,7 +64,7 @@ write_list-loop-rest-preserved-then-is_kept g t c =
     let found = c.find_in-found.ensures c.args.table c.indexed_rows-rows.ensures in
     let written = rewritten_as _ _ (attribute_of c.in-Some.attribute) _ _ _ found.rule found.written c.write_attribute.ensures.text in
     record {
-      so_far = c.writing_unfolds.ensures.more _ _ _ _ _ _ _ _ _ _ c.in-Some.ensures.first (sym c.is_kept.ensures ∙ c.if-is_kept.true) written c.loop-rest.invariant.so_far;
+      so_far = c.writing_unfolds.ensures.more _ _ _ _ _ _ _ _ _ _ c.in-Some.ensures.first (sym (c.is_kept.ensures _) ∙ c.if-is_kept.true) written c.loop-rest.invariant.so_far;
       capacity = omega arith;
       within = omega (arith, c.in-Some.ensures.within, c.in-Some.ensures.following);
     }
@@ -72,7 +72,7 @@ write_list-loop-rest-preserved-then-is_kept g t c =
 pub write_list-loop-rest-preserved : goal.write_list-loop-rest-preserved
 write_list-loop-rest-preserved g t c =
     record {
-      so_far = c.writing_unfolds.ensures.past _ _ _ _ _ _ _ _ _ c.in-Some.ensures.first (sym c.is_kept.ensures ∙ c.if-is_kept.false) c.loop-rest.invariant.so_far;
+      so_far = c.writing_unfolds.ensures.past _ _ _ _ _ _ _ _ _ c.in-Some.ensures.first (sym (c.is_kept.ensures _) ∙ c.if-is_kept.false) c.loop-rest.invariant.so_far;
       capacity = c.loop-rest.invariant.capacity;
       within = omega (arith, c.in-Some.ensures.within, c.in-Some.ensures.following);
     }

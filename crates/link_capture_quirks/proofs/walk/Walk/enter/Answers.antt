@@ -2,7 +2,7 @@ use Rattle.std.proofs.Common.{◌≡◌, ◌+◌, ◌++◌, ◌∷◌, [], true,
 use Rattle.netlink_packet_core_grammar.specs.Frames.{frame_type}
 use Rattle.link_capture_grammar.specs.Bodies.{is_link_type}
 use Rattle.link_capture_quirks.specs.declared.walk.Level.{Level}
-use Rattle.link_capture_checks.specs.Listings.{whole}
+use Rattle.link_capture_walks.specs.Listings.{whole}
 use Rattle.link_capture_quirks.specs.QuirkLists.{quirks_at, list_quirks}
 use Rattle.link_capture_quirks.proofs.Entering.{not-entered, entered}
 use Rattle.link_capture_quirks.proofs.walk.Walk.enter.Goals as goal

@@ -1,7 +1,7 @@
 use Rattle.std.proofs.Common.{option_map, ◌≡◌, ◌+◌, ◌++◌, ◌∷◌, [], length, None, sym, ap, subst, ◌∙◌, refl, arith, rules, length-drop, length-append}
 use Rattle.netlink_packet_core_grammar.specs.Attributes.{Attribute}
 use Rattle.link_capture_quirks.specs.declared.walk.Level.{Level}
-use Rattle.link_capture_checks.specs.Listings.{listing}
+use Rattle.link_capture_walks.specs.Listings.{listing}
 use Rattle.link_capture_quirks.specs.QuirkLists.{quirks_at, list_quirks}
 use Rattle.link_capture_quirks.specs.QuirkWalks.{AreWithin, walk_quirks, weight}
 use Rattle.link_capture_quirks.proofs.Stacks.{within-leading, within-last}

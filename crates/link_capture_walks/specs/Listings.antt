@@ -3,7 +3,7 @@ use Rattle.std.specs.Prelude.{ℕ, Bool, List}
 use Rattle.attribute_tables_grammar.specs.Lists.{Context, nothing}
 use Rattle.attribute_tables_grammar.specs.Tables.{info_next}
 use Rattle.link_tables.specs.InForce.{in_force}
-use Rattle.link_capture_checks.specs.declared.listed.Listed.{Listed}
+use Rattle.link_capture_walks.specs.declared.listed.Listed.{Listed}
 
 -- A list from some attribute on: which list it is, by its table, the kinds of link and of port in force there, and
 -- whether peers inside the list are judged.

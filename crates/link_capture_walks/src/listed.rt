@@ -1,7 +1,7 @@
 //! Lists of attributes, from some attribute on: for walks through the nested lists of a link.
 
 ghost use Rattle.std.specs.Prelude.{◌≡◌};
-ghost use Rattle.link_capture_checks.specs.Listings.{after_info, listing, whole};
+ghost use Rattle.link_capture_walks.specs.Listings.{after_info, listing, whole};
 
 use link_tables::{InForce, NO_KINDS, next_force};
 

@@ -59,6 +59,7 @@ pub fn frame_body(bytes: &[u8]) -> &[u8]
 /// # Errors
 ///
 /// The fault of the frame.
+#[inline(always)]
 pub fn measure_frame(bytes: &[u8], limit: u32) -> Result<MeasuredFrame, FaultKind>
     ensures ok { IfOk result (λ m. IsFrameText limit bytes.now m) }
     ensures bounds { IfOk result (λ m. (16 ≤ m.len) × (m.len ≤ length bytes.now)) }

@@ -33,11 +33,11 @@ fn after_canonical<'a, P: PeerSet>(
     let Some((attribute, after)) = first_attribute(bytes) else {
         return None;
     };
-    if !is_kept(form, attribute.kind) {
+    if !is_canonical_attribute(bytes, attribute, after) || !is_kept(form, attribute.kind) {
         return None;
     }
     let found = find_in(peers, rows, attribute.kind);
-    if found.kind != attribute.kind || !is_canonical_attribute(bytes, attribute, after) {
+    if found.kind != attribute.kind {
         return None;
     }
     let Held::Plain(shape) = found.held else {
@@ -49,10 +49,33 @@ fn after_canonical<'a, P: PeerSet>(
     }
 }
 
+// Returns how many attributes at the start of a list of this kind hold no others and are already
+// canonical, and the bytes after them. Not inlined, so that its loop's state stays in registers.
+#[inline(never)]
+fn count_canonical<'a, P: PeerSet>(
+    peers: &P,
+    form: Form,
+    table: Table,
+    bytes: &'a [u8],
+) -> (u64, &'a [u8])
+    ensures passed { PassesCanonical (form_of form) (table_row P.peer (table_of table.0)) bytes.now
+        result.0 result.1.now }
+{
+    measures_unfold();
+    canonical_lists_unfold();
+    let rows = indexed_rows(table);
+    let mut count = 0;
+    let mut rest = bytes;
+    while let Some(after) = after_canonical(peers, form, rows, rest) {
+        count += 1;
+        rest = after;
+    }
+    (count, rest)
+}
+
 /// Returns the measure of the attributes at the start of a list of this kind that hold no others and
 /// are already canonical, and the bytes after them.
-// Not inlined, so that the state of its short loop stays in registers.
-#[inline(never)]
+#[inline(always)]
 pub(crate) fn skip_canonical<'a, P: PeerSet>(
     peers: &P,
     form: Form,
@@ -65,15 +88,7 @@ pub(crate) fn skip_canonical<'a, P: PeerSet>(
         ≡ canonical_measure (length bytes.now - length result.1.now) result.0.attributes }
     ensures already_canonical { result.0.is_canonical ≡ true }
 {
-    measures_unfold();
-    canonical_lists_unfold();
-    let rows = indexed_rows(table);
-    let mut count = 0;
-    let mut rest = bytes;
-    while let Some(after) = after_canonical(peers, form, rows, rest) {
-        count += 1;
-        rest = after;
-    }
+    let (count, rest) = count_canonical(peers, form, table, bytes);
     let total = Measured {
         text_len: (bytes.len() - rest.len()) as u128,
         attributes: count,

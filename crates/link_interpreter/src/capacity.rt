@@ -41,13 +41,17 @@ pub fn write_header(at: usize, kind: u16, size: usize, out: &mut Vec<u8>)
 }
 
 /// Appends the padding after a payload of `size` bytes, as zeros.
+#[inline(always)]
 pub fn append_padding(size: usize, out: &mut Vec<u8>)
     requires size { 4 + size ≤ 65535 }
     requires capacity { length out.old.items + (nla_align (4 + size) - (4 + size)) ≤ vec_capacity out.old }
     ensures text { out.new.items ≡ out.old.items ++ zeros (nla_align (4 + size) - (4 + size)) }
     ensures capacity { vec_capacity out.old ≤ vec_capacity out.new }
 {
-    if size % 4 != 0 {
-        append(&[0, 0, 0][..4 - size % 4], out);
+    match size % 4 {
+        1 => append(&[0, 0, 0], out),
+        2 => append(&[0, 0], out),
+        3 => append(&[0], out),
+        _ => {}
     }
 }

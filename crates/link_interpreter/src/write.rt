@@ -23,7 +23,26 @@ use link_tables::{Form, Held, NO_KINDS, Table, indexed_rows, info_held, next_for
 
 /// Appends the canonical encoding of an accepted payload that fits; `out` has to have the capacity.
 #[cycle(write)]
+#[inline(always)]
 pub fn write_held<P: WritePeer>(peers: &P, held: Held, bytes: &[u8], out: &mut Vec<u8>)
+    requires accepted { (held_rule P.peer held).accepted bytes.now
+        ≡ true }
+    requires fits { (held_rule P.peer held).fits bytes.now ≡ true }
+    requires capacity { HasCapacity out.old ((held_rule P.peer held).canonical bytes.now) }
+    ensures text { out.new.items ≡ out.old.items
+        ++ (held_rule P.peer held).canonical bytes.now }
+    ensures capacity { vec_capacity out.old ≤ vec_capacity out.new }
+{
+    match held {
+        Held::Plain(shape) => write_shape(shape, bytes, out),
+        // The shape stays in registers, since no call gets a pointer to it.
+        _ => write_inside(peers, held, bytes, out),
+    }
+}
+
+// The same, for payloads that mostly hold attributes.
+#[cycle(write)]
+fn write_inside<P: WritePeer>(peers: &P, held: Held, bytes: &[u8], out: &mut Vec<u8>)
     requires accepted { (held_rule P.peer held).accepted bytes.now
         ≡ true }
     requires fits { (held_rule P.peer held).fits bytes.now ≡ true }
@@ -44,6 +63,7 @@ pub fn write_held<P: WritePeer>(peers: &P, held: Held, bytes: &[u8], out: &mut V
 /// Appends an attribute of this kind, with the canonical encoding of an accepted payload that fits.
 /// Its length is written after the payload.
 #[cycle(write)]
+#[inline(always)]
 pub fn write_attribute<P: WritePeer>(
     peers: &P,
     held: Held,

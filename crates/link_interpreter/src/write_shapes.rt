@@ -34,6 +34,7 @@ fn append_boolean(number: &[u8], out: &mut Vec<u8>)
 }
 
 /// Appends the canonical payload of an accepted one; `out` has to have the capacity.
+#[inline(always)]
 pub fn write_shape(shape: Shape, payload: &[u8], out: &mut Vec<u8>)
     requires accepted { accepts (shape_of shape) payload.now ≡ true }
     requires capacity { HasCapacity out.old ((shape_rule (shape_of shape)).canonical payload.now) }

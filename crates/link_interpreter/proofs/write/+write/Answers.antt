@@ -14,14 +14,14 @@ use Rattle.link_tables.specs.InForce.{in_force}
 use Rattle.link_tables.specs.Tables.{held_rule, table_of}
 use Rattle.link_interpreter.proofs.write.+write.Goals as goal
 
-pub write_held-write_list-requires : goal.write_held-write_list-requires
-write_held-write_list-requires g t c κs within =
+pub write_inside-write_list-requires : goal.write_inside-write_list-requires
+write_inside-write_list-requires g t c κs within =
     let is = list_held c.rows_are_looked_up.ensures g.P.PeerSet.peer c.args.held c.in-List.form c.in-List.table c.in-List.is in
     let size = ap (λ r. length (r.canonical c.args.bytes.now)) is in
     (omega arith, (within, (ap (λ r. r.accepted c.args.bytes.now) is ∙ c.requires.accepted, (ap (λ r. r.fits c.args.bytes.now) is ∙ c.requires.fits, omega (arith, size, c.requires.capacity)))))
 
-pub write_held-returns-in-List-clause-text : goal.write_held-returns-in-List-clause-text
-write_held-returns-in-List-clause-text g t c = c.write_list.ensures.text ∙ ap (λ r. c.args.out.now.items ++ r.canonical c.args.bytes.now) (list_held c.rows_are_looked_up.ensures g.P.PeerSet.peer c.args.held c.in-List.form c.in-List.table c.in-List.is)
+pub write_inside-returns-in-List-clause-text : goal.write_inside-returns-in-List-clause-text
+write_inside-returns-in-List-clause-text g t c = c.write_list.ensures.text ∙ ap (λ r. c.args.out.now.items ++ r.canonical c.args.bytes.now) (list_held c.rows_are_looked_up.ensures g.P.PeerSet.peer c.args.held c.in-List.form c.in-List.table c.in-List.is)
 
 pub write_attribute-returns-clause-text : goal.write_attribute-returns-clause-text
 write_attribute-returns-clause-text g t c =

@@ -13,6 +13,9 @@ use Rattle.link_interpreter.proofs.write.+write.Given as goal
 abbrev pub decreases-write_held : goal.decreases-write_held
 decreases-write_held g l = 4 * length l.bytes.now + 3
 
+abbrev pub decreases-write_inside : goal.decreases-write_inside
+decreases-write_inside g l = 4 * length l.bytes.now + 2
+
 abbrev pub decreases-write_list : goal.decreases-write_list
 decreases-write_list g l = 4 * length l.bytes.now + 1
 
@@ -43,7 +46,7 @@ abbrev pub decreases-write_info-loop-rest : goal.decreases-write_info-loop-rest
 decreases-write_info-loop-rest g l = length l.rest
 
 abbrev pub decreases-write_link_info : goal.decreases-write_link_info
-decreases-write_link_info g l = 4 * length l.bytes.now + 2
+decreases-write_link_info g l = 4 * length l.bytes.now + 1
 
 abbrev pub decreases-write_info : goal.decreases-write_info
-decreases-write_info g l = 4 * length l.bytes.now + 1
+decreases-write_info g l = 4 * length l.bytes.now

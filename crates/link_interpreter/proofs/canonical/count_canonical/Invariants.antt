@@ -4,7 +4,7 @@ use Rattle.attribute_tables_grammar.specs.LookUps.{table_row}
 use Rattle.link_tables.specs.Rows.{form_of}
 use Rattle.link_tables.specs.Tables.{table_of}
 use Rattle.link_interpreter.specs.Prefixes.{PassesCanonical}
-use Rattle.link_interpreter.proofs.canonical.skip_canonical.Given as goal
+use Rattle.link_interpreter.proofs.canonical.count_canonical.Given as goal
 
 abbrev pub invariant-loop-after : goal.invariant-loop-after
 invariant-loop-after g l = PassesCanonical (form_of l.form) (table_row g.P.PeerSet.peer (table_of l.fn.table.0)) l.fn.bytes l.count l.rest

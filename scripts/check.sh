@@ -222,6 +222,14 @@ expect "a file of lines with offsets and without numbers" 0 "linkdiff: mixed: $r
     "$linkdiff" --keep-going --without numbers mixed.lines mixed < /dev/null
 succeeds "an index in a heading" bash -c '"$0" --without indexes routes prefix | grep -qx "@@ .* @@ RTM_NEWADDR index 3"' "$linkdiff"
 succeeds "an offset in a heading" bash -c '"$0" --offsets routes prefix | grep -qx "@@ .* @@ RTM_NEWADDR index 3 at 48 of routes"' "$linkdiff"
+"$LINKSHOW" "$work/prefix" > "$work/prefix.lines"
+succeeds "an offset of the other side in a heading" bash -c '"$0" --offsets prefix.lines routes |
+    grep -qx "@@ .* @@ RTM_NEWADDR index 3 at 48 of routes"' "$linkdiff"
+sed '1s/.*/RTM_GETADDR flags 0x1 (REQUEST) seq 5 port 0/' "$work/prefix.lines" > "$work/other-type.lines"
+succeeds "no offset of another message in a heading" bash -c '"$0" --offsets other-type.lines routes |
+    grep -qx "@@ .* @@ RTM_GETADDR v0"' "$linkdiff"
+expect "without diff" 2 "linkdiff: there is no program diff, which Debian has in the package diffutils" \
+    env PATH=/nonexistent "$(python3 -c 'import sys; print(sys.executable)')" "$linkdiff" routes prefix < /dev/null
 for arguments in a "a a a" "--unknown a a" "- -" "--without IFLA_NAM a a" "--label a --label b --label c a a"; do
     succeeds "usage: $arguments" bash -c '"$0" $1 2> usage; [ $? -eq 2 ] && grep -q "^usage: linkdiff" usage' "$linkdiff" "$arguments"
 done

@@ -42,7 +42,7 @@ _NO_INDEX = {0, 0xFFFFFFFF}  # no link; and TCM_IFINDEX_MAGIC_BLOCK of linux/rtn
 
 _REFUSAL = re.compile(r"  refused: (?:E[A-Z0-9]+|error [0-9]+)(?: \(.*\))?")
 
-# What iproute2 sends before it changes a link, to learn whether the kernel checks requests strictly. It is always refused.
+# What iproute2's `ip link` sends first, to learn whether the kernel supports RTM_NEWLINK. It is always refused.
 _PROBE = re.compile(r"RTM_NEWLINK flags 0x5 \(REQUEST \| ACK\)(?: seq 0 port 0)?(?: namespace [0-9]+)?(?: offset [0-9]+)?")
 _PROBE_HEADER = re.compile(r'  ifinfomsg family 0 \(AF_UNSPEC\) type 0(?: index 0)? flags 0x0 change 0x0')
 

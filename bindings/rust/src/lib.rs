@@ -79,7 +79,7 @@ pub fn format() -> u32 {
     unsafe { ffi::linkcap_format() }
 }
 
-/// Returns `Ok` if a capture is legal. It allocates nothing.
+/// Returns `Ok` if a capture is legal. It allocates nothing, unless a body isn't valid.
 ///
 /// # Errors
 ///
@@ -94,7 +94,7 @@ pub fn check(capture: &[u8]) -> Result<(), Error> {
     Options::new().check(capture)
 }
 
-/// Returns the sizes of a legal capture. It allocates nothing.
+/// Returns the sizes of a legal capture. It allocates nothing, unless a body isn't valid.
 ///
 /// # Errors
 ///

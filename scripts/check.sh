@@ -226,6 +226,9 @@ succeeds "an offset in a heading" bash -c '"$0" --offsets routes prefix | grep -
 succeeds "an offset of the other side in a heading" bash -c '"$0" --offsets prefix.lines routes |
     grep -qx "@@ .* @@ RTM_NEWADDR index 3 at 48 of routes"' "$linkdiff"
 sed '1s/.*/RTM_GETADDR flags 0x1 (REQUEST) seq 5 port 0/' "$work/prefix.lines" > "$work/other-type.lines"
+sed 's/flags 0x605 (REQUEST | ACK | EXCL | CREATE)/flags 0x5 (REQUEST | ACK)/' "$work/prefix.lines" > "$work/other-flags.lines"
+succeeds "an offset of the other side if the flags differ" bash -c '"$0" --offsets other-flags.lines routes |
+    grep -qx "@@ .* @@ RTM_NEWADDR index 3 at 48 of routes"' "$linkdiff"
 succeeds "no offset of another message in a heading" bash -c '"$0" --offsets other-type.lines routes |
     grep -qx "@@ .* @@ RTM_GETADDR v0"' "$linkdiff"
 expect "without diff" 2 "linkdiff: there is no program diff, which Debian has in the package diffutils" \

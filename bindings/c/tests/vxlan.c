@@ -1,5 +1,5 @@
 /*
- * Prints whether the captures on standard input ask for a vxlan with a VNI:
+ * Prints whether a link message in the captures on standard input has an IFLA_VXLAN_ID with a given VNI:
  *
  *     vxlan VNI < CAPTURE
  */

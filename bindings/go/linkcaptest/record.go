@@ -50,8 +50,10 @@ func Record(t testing.TB, cmd *exec.Cmd) []byte {
 // in place of indexes, network namespaces, and what the kernel refused. It runs the command as Record does.
 //
 // The program has to be on the PATH, or named by LINKGOLD. The test is skipped if there is none, or if it can't record here.
+// It stops if there is no such command.
 func GoldenCommand(t testing.TB, cmd *exec.Cmd, path string) {
 	t.Helper()
+	requireCommand(t, cmd)
 	linkgold := findProgram(t, "linkgold", "LINKGOLD")
 	// The command may run in another folder.
 	path, err := filepath.Abs(path)
@@ -74,6 +76,18 @@ func GoldenCommand(t testing.TB, cmd *exec.Cmd, path string) {
 		t.Skipf("linkcap: nothing is recorded here: %s", out)
 	default:
 		t.Fatalf("linkcap: %s: %v: %s", cmd.Path, err, out)
+	}
+}
+
+// requireCommand stops the test if the command isn't an executable file: linkgold reports this as if it couldn't record.
+func requireCommand(t testing.TB, cmd *exec.Cmd) {
+	t.Helper()
+	path := cmd.Path
+	if cmd.Dir != "" && !filepath.IsAbs(path) && filepath.Base(path) != path {
+		path = filepath.Join(cmd.Dir, path)
+	}
+	if _, err := exec.LookPath(path); err != nil {
+		t.Fatalf("linkcap: %v", err)
 	}
 }
 

@@ -515,7 +515,8 @@ else
         "$0" golden/up.lines -- ip link set lo mtu 5000 && grep -q "IFLA_MTU 5000" golden/up.lines' "$linkgold"
     succeeds "a command that fails" bash -c '"$0" golden/lo.lines -- ip link show dev none 2> report; [ $? -eq 2 ] && grep -q "^linkgold: ip: ended with status 1; --may-fail" report' "$linkgold"
     succeeds "a command that may fail" bash -c '"$0" --may-fail --update golden/fails.lines -- ip link show dev none; "$0" --may-fail golden/fails.lines -- ip link show dev none' "$linkgold"
-    succeeds "no such command to compare" bash -c '"$0" golden/lo.lines -- no-such-command 2> report; [ $? -eq 2 ] && grep -q "no-such-command: no such command" report' "$linkgold"
+    succeeds "no such command to compare" bash -c '"$0" golden/lo.lines -- no-such-command 2> report; [ $? -eq 2 ] && grep -q "no-such-command: no such command" report &&
+        grep -qx "linkgold: no-such-command: ended with status 127" report' "$linkgold"
     succeeds "an effect" bash -c '"$0" --effect --update golden/effect.lines -- ip link set lo up && "$0" --effect golden/effect.lines -- ip link set dev lo up' "$linkgold"
     succeeds "another effect" bash -c '"$0" --effect golden/effect.lines -- ip link set lo up mtu 5000 > diff; [ $? -eq 1 ] && grep -q "^@@.*RTM_NEWLINK lo" diff && grep -qx "+  IFLA_MTU 5000" diff' "$linkgold"
     if unshare --map-root-user --net ip link add v0 type veth 2> /dev/null; then

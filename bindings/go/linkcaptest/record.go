@@ -53,7 +53,6 @@ func Record(t testing.TB, cmd *exec.Cmd) []byte {
 // It stops if there is no such command.
 func GoldenCommand(t testing.TB, cmd *exec.Cmd, path string) {
 	t.Helper()
-	requireCommand(t, cmd)
 	linkgold := findProgram(t, "linkgold", "LINKGOLD")
 	// The command may run in another folder.
 	path, err := filepath.Abs(path)
@@ -76,18 +75,6 @@ func GoldenCommand(t testing.TB, cmd *exec.Cmd, path string) {
 		t.Skipf("linkcap: nothing is recorded here: %s", out)
 	default:
 		t.Fatalf("linkcap: %s: %v: %s", cmd.Path, err, out)
-	}
-}
-
-// requireCommand stops the test if the command isn't an executable file: linkgold reports this as if it couldn't record.
-func requireCommand(t testing.TB, cmd *exec.Cmd) {
-	t.Helper()
-	path := cmd.Path
-	if cmd.Dir != "" && !filepath.IsAbs(path) && filepath.Base(path) != path {
-		path = filepath.Join(cmd.Dir, path)
-	}
-	if _, err := exec.LookPath(path); err != nil {
-		t.Fatalf("linkcap: %v", err)
 	}
 }
 

@@ -109,23 +109,6 @@ func TestGoldenCommand(t *testing.T) {
 	}
 }
 
-func TestGoldenCommandThatIsMissing(t *testing.T) {
-	installScript(t, "exit 0")
-	t.Setenv("LINKGOLD", os.Getenv("LINKREC"))
-	folder := t.TempDir()
-	if err := os.WriteFile(filepath.Join(folder, "tool"), []byte("#!/bin/sh\n"), 0o755); err != nil {
-		t.Fatal(err)
-	}
-	for name, message := range map[string]string{"no-such-command": "linkcap: exec: ", "./no-such-file": "linkcap: exec: ", "./tool": ""} {
-		cmd := exec.Command(name)
-		cmd.Dir = folder
-		f := runFake(func(inner testing.TB) { GoldenCommand(inner, cmd, "made.lines") })
-		if f.stopped != (message != "") || !strings.HasPrefix(f.message, message) || message == "" && f.message != "" {
-			t.Errorf("%s: %q", name, f.message)
-		}
-	}
-}
-
 // TestGoldenCommandOfIP compares ip(8) with golden files by the repository's linkgold; it is skipped without linkshow, or if
 // linkrec can't record here.
 func TestGoldenCommandOfIP(t *testing.T) {
@@ -147,6 +130,10 @@ func TestGoldenCommandOfIP(t *testing.T) {
 		t.Fatal(err)
 	}
 	GoldenCommand(t, exec.Command("ip", "link", "set", "lo", "up"), path)
+	missing := runFake(func(inner testing.TB) { GoldenCommand(inner, exec.Command("./no-such-file"), path) })
+	if !missing.stopped || strings.HasPrefix(missing.message, "skipped") {
+		t.Error(missing.message)
+	}
 	f := runFake(func(inner testing.TB) { GoldenCommand(inner, exec.Command("ip", "link", "set", "lo", "down"), path) })
 	if !strings.Contains(f.message, "@@ RTM_NEWLINK lo\n") {
 		t.Error(f.message)

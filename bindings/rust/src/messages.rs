@@ -30,8 +30,7 @@ pub struct Messages<'a> {
 }
 
 /// Returns the messages of a capture, which are read one after the other. Each item is an `Ok` with a message, or an `Err` with
-/// the capture's first fault, which is the last item. It allocates nothing,
-/// unless a body isn't valid.
+/// the capture's first fault, which is the last item. It allocates nothing, unless a body isn't valid.
 ///
 /// ```
 /// let capture = b"\x11\0\0\0\x14\0\0\0\x02\0\0\0\0\0\0\0a\0\0\0\x10\0\0\0\x01\0\0\0\x01\0\0\0\0\0\0\0";

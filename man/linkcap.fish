@@ -50,7 +50,7 @@ complete -c linkshow -l kernels -d "first note on standard error each encoding t
 complete -c linkshow -s h -l help -d "this text"
 complete -c linkshow -l version -d "the version of linkshow, and the format version of its lines"
 complete -c linkdiff -s h -l help -d "show this help message and exit"
-complete -c linkdiff -s q -l quiet -d "prints nothing"
+complete -c linkdiff -s q -l quiet -d "prints no diff"
 complete -c linkdiff -l without-numbers -d "ignores sequence numbers and netlink port IDs"
 complete -c linkdiff -l without -x -a '(__linkcap_groups)' -d "ignores these attributes, or groups"
 complete -c linkdiff -l replace -x -d "replaces names of links and hardware addresses"

@@ -17,7 +17,7 @@ local -a _linkcap_options_linkshow=(
 )
 local -a _linkcap_options_linkdiff=(
     '(-h --help)'{-h,--help}"[show this help message and exit]"
-    '(-q --quiet)'{-q,--quiet}"[prints nothing]"
+    '(-q --quiet)'{-q,--quiet}"[prints no diff]"
     --without-numbers"[ignores sequence numbers and netlink port IDs]"
     --without"[ignores these attributes, or groups]:without:_linkcap_groups"
     --replace"[replaces names of links and hardware addresses]:replace:"

@@ -147,6 +147,9 @@ if unshare --map-root-user --net ip link add v0 type veth 2> /dev/null; then
         "$0" effect --all -o lost.made -- sh -c "$2" && "$1" --only newaddr lost.made > lost.lines && grep -q "ifaddrmsg family 10 " lost.lines && ! grep TENTATIVE lost.lines || exit; done' "$linkrec" "$LINKSHOW" "$lost"
     succeeds "another route" bash -c '"$0" --effect --all all.made -- sh -c "$1; ip route add 198.51.100.0/24 via 192.0.2.9" > diff; [ $? -eq 1 ] &&
         grep -qx -- "+  RTA_DST 198.51.100.0" diff' "$linkgold" "$ports"
+    near="$ports; ip neigh add 192.0.2.7 lladdr 02:00:00:00:00:09 dev br0 nud permanent; ip neigh add 192.0.2.8 lladdr 02:00:00:00:00:08 dev br0 nud permanent"
+    succeeds "an effect without what the golden file leaves out" bash -c '"$0" --effect --all --without NDA_DST --update near.made -- sh -c "$1" 2> report &&
+        "$0" --effect --all near.made -- sh -c "$1"' "$linkgold" "$near"
     succeeds "links of random names" bash -c '"$0" --effect --update random.made -- sh -c "ip link add veth\$(od -An -N4 -tx4 /dev/urandom | tr -d \" \") type veth peer name p" 2> report
         [ $? -eq 2 ] && grep -q "^linkgold: the links of two runs have other names (\"veth.*\"): --replace gives them fixed ones" report' "$linkgold"
     succeeds "links of random names, which are replaced" bash -c 'for option in --update ""; do

@@ -68,6 +68,7 @@ else
     succeeds "an effect that doesn't settle" bash -c 'timeout 60 "$0" effect -o made -- sh -c "for i in \$(seq 45); do ip link set lo up; sleep 0.15; ip link set lo down
             sleep 0.15; done > /dev/null 2>&1 &" 2> report && [ "$(cat report)" = "linkrec: links or addresses still change after 10 s: another dump may differ" ] &&
         "$LINKSHOW" made | grep -q "^RTM_NEWLINK"' "$linkrec"
+    expect "an effect that can't be written" 125 "linkrec: No space left on device" "$linkrec" effect -o /dev/full -- true < /dev/null
     succeeds "an effect without permission to trace" bash -c '"$0" ptrace "$1" effect -o made -- ip link set lo up &&
         "$LINKSHOW" --link lo made | grep -q "flags 0x.*Up"' "$refuse" "$linkrec"
     succeeds "no permission to make a namespace" bash -c '"$0" unshare "$1" run --netns -o made -- ip link 2> report; [ $? -eq 125 ] &&

@@ -28,6 +28,7 @@ const (
 func Record(t testing.TB, cmd *exec.Cmd) []byte {
 	t.Helper()
 	linkrec := findProgram(t, "linkrec", "LINKREC")
+	noteForCache(pathOf(cmd))
 	file := filepath.Join(t.TempDir(), "capture")
 	run := exec.Command(linkrec, append([]string{"run", "--netns", "-o", file, "--", cmd.Path}, cmd.Args[1:]...)...)
 	run.Env, run.Dir, run.Stdin = cmd.Env, cmd.Dir, cmd.Stdin
@@ -47,11 +48,12 @@ func Record(t testing.TB, cmd *exec.Cmd) []byte {
 }
 
 // GoldenCommand compares what a command sends with a golden file, by the program linkgold: its lines have the names of links
-// in place of indexes, network namespaces, and what the kernel refused. It runs the command as Record does.
+// in place of indexes, network namespaces, and what the kernel refused. It runs the command as Record does. The options are
+// those of linkgold, for example "--only=newlink", or "--setup=ip link add d0 type dummy".
 //
 // The program has to be on the PATH, or named by LINKGOLD. The test is skipped if there is none, or if it can't record here.
 // It stops if there is no such command.
-func GoldenCommand(t testing.TB, cmd *exec.Cmd, path string) {
+func GoldenCommand(t testing.TB, cmd *exec.Cmd, path string, options ...string) {
 	t.Helper()
 	linkgold := findProgram(t, "linkgold", "LINKGOLD")
 	// The command may run in another folder.
@@ -59,10 +61,13 @@ func GoldenCommand(t testing.TB, cmd *exec.Cmd, path string) {
 	if err != nil {
 		t.Fatalf("linkcap: %v", err)
 	}
-	arguments := []string{path, "--", cmd.Path}
+	var arguments []string
 	if *update {
-		arguments = append([]string{"--update"}, arguments...)
+		arguments = append(arguments, "--update")
 	}
+	arguments = append(arguments, options...)
+	arguments = append(arguments, path, "--", cmd.Path)
+	noteForCache(pathOf(cmd), path)
 	run := exec.Command(linkgold, append(arguments, cmd.Args[1:]...)...)
 	run.Env, run.Dir, run.Stdin = cmd.Env, cmd.Dir, cmd.Stdin
 	out, err := run.CombinedOutput()
@@ -76,6 +81,22 @@ func GoldenCommand(t testing.TB, cmd *exec.Cmd, path string) {
 	default:
 		t.Fatalf("linkcap: %s: %v: %s", cmd.Path, err, out)
 	}
+}
+
+// noteForCache looks at files that only other programs read, so that go test runs the test anew when they have changed: its cache
+// of results depends on the files that the test itself looked at.
+func noteForCache(paths ...string) {
+	for _, path := range paths {
+		_, _ = os.Stat(path)
+	}
+}
+
+// pathOf returns the path of a command's program, which is relative to the command's folder.
+func pathOf(cmd *exec.Cmd) string {
+	if filepath.IsAbs(cmd.Path) {
+		return cmd.Path
+	}
+	return filepath.Join(cmd.Dir, cmd.Path)
 }
 
 // findProgram returns the path of a program, which a variable may name. The test is skipped if there is none.

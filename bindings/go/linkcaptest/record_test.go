@@ -80,11 +80,13 @@ func TestRecordOfIP(t *testing.T) {
 }
 
 // goldenCommand runs GoldenCommand, with a shell script as linkgold.
-func goldenCommand(t *testing.T, script string) *fakeTest {
+func goldenCommand(t *testing.T, script string, options ...string) *fakeTest {
 	t.Helper()
 	installScript(t, script)
 	t.Setenv("LINKGOLD", os.Getenv("LINKREC"))
-	return runFake(func(inner testing.TB) { GoldenCommand(inner, exec.Command("/bin/echo", "a b"), "made.lines") })
+	return runFake(func(inner testing.TB) {
+		GoldenCommand(inner, exec.Command("/bin/echo", "a b"), "made.lines", options...)
+	})
 }
 
 func TestGoldenCommand(t *testing.T) {
@@ -97,6 +99,10 @@ func TestGoldenCommand(t *testing.T) {
 	}
 	f := goldenCommand(t, `printf '%s,' "$@"; exit 1`)
 	if f.stopped || f.message != "linkcap: the command doesn't send what the golden file has\n"+folder+"/made.lines,--,/bin/echo,a b," {
+		t.Error(f.message)
+	}
+	f = goldenCommand(t, `printf '%s,' "$@"; exit 1`, "--only=newlink", "--setup=ip link add d0 type dummy")
+	if !strings.HasSuffix(f.message, "\n--only=newlink,--setup=ip link add d0 type dummy,"+folder+"/made.lines,--,/bin/echo,a b,") {
 		t.Error(f.message)
 	}
 	f = goldenCommand(t, "echo 'linkgold: /bin/echo: ended with status 3'; exit 2")
@@ -118,18 +124,22 @@ func TestGoldenCommandOfIP(t *testing.T) {
 		}
 	}
 	t.Setenv("LINKGOLD", "../../../scripts/linkgold")
-	path := filepath.Join(t.TempDir(), "made.lines")
-	const lines = "# linkcap lines, format 4\n" +
-		"RTM_GETLINK flags 0x1 (REQUEST)\n" +
+	folder := t.TempDir()
+	path, changes := filepath.Join(folder, "made.lines"), filepath.Join(folder, "changes.lines")
+	const first = "# linkcap lines, format 4\n"
+	const asked = "RTM_GETLINK flags 0x1 (REQUEST)\n" +
 		"  ifinfomsg family 0 (AF_UNSPEC) type 0 index 0 flags 0x0 change 0x0\n" +
 		"  IFLA_EXT_MASK 0x9 (Vf | SkipStats)\n" +
-		"  IFLA_IFNAME \"lo\"\n" +
-		"RTM_NEWLINK flags 0x5 (REQUEST | ACK)\n" +
+		"  IFLA_IFNAME \"lo\"\n"
+	const changed = "RTM_NEWLINK flags 0x5 (REQUEST | ACK)\n" +
 		"  ifinfomsg family 0 (AF_UNSPEC) type 0 index \"lo\" flags 0x1 (Up) change 0x1 (Up)\n"
-	if err := os.WriteFile(path, []byte(lines), 0o666); err != nil {
-		t.Fatal(err)
+	for file, lines := range map[string]string{path: first + asked + changed, changes: first + changed} {
+		if err := write(file, lines); err != nil {
+			t.Fatal(err)
+		}
 	}
 	GoldenCommand(t, exec.Command("ip", "link", "set", "lo", "up"), path)
+	GoldenCommand(t, exec.Command("ip", "link", "set", "lo", "up"), changes, "--only=newlink")
 	missing := runFake(func(inner testing.TB) { GoldenCommand(inner, exec.Command("./no-such-file"), path) })
 	if !missing.stopped || strings.HasPrefix(missing.message, "skipped") {
 		t.Error(missing.message)

@@ -44,6 +44,8 @@ REQUIREMENTS = {
     "strace": lambda: succeeds("strace", "-o", "/dev/null", "true"),
     "nlmon": lambda: is_root() and succeeds("unshare", "-n", "ip", "link", "add", "nlmon0", "type", "nlmon"),
     "iproute2": lambda: succeeds("ip", "-V"),
+    "systemd-networkd": lambda: os.path.exists("/usr/lib/systemd/systemd-networkd")
+    and succeeds("unshare", "--net", "--mount", "mount", "-t", "sysfs", "-o", "ro", "sysfs", "/sys"),
     "rtmon": lambda: shutil.which("rtmon") is not None,
     "tcpdump": lambda: succeeds("tcpdump", "--version"),
     "jq": lambda: succeeds("jq", "--version"),

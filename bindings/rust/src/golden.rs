@@ -63,7 +63,7 @@ impl Options<'_> {
     }
 }
 
-fn is_updating() -> bool {
+pub(crate) fn is_updating() -> bool {
     env::var_os(UPDATE).map_or(false, |value| !value.is_empty() && value != "0")
 }
 

@@ -8,7 +8,7 @@
     tools/pages.py --words         prints the number of words of each page
     tools/pages.py --lines         first rewrites the line of each link to a definition
 
-A link to a definition is written [`first_fault_under`](../crates/link_capture_grammar/specs/Captures.antt#L70): line 70 of that
+A link to a definition is written [`first_fault`](../crates/link_capture_grammar/specs/Captures.antt#L70): line 70 of that
 file has to have the name as a whole word, in which a path such as `CaptureReader::feed` counts by its last part. `--lines`
 replaces the number by that of the line on which the file defines the name: in .antt by a signature, or by `record`, `data`,
 `abbrev` or `unfoldable`; in .rt by `fn`, `struct`, `enum` or `trait`. It leaves a name that the file doesn't define, and the

@@ -217,14 +217,14 @@ def lines_of(name, title, comment, rows, tables, variants_by_enum):
 
 # The definitions of the grammar whose rows make up a list, if no definition has the list's name
 PARTS = {
-    "gre": ("gre_ends", "gre", "gre_wrapping"),
-    "gre6": ("gre_ends", "gre6", "gre_wrapping"),
+    "gre": ("gre_before_encap", "gre", "gre_encap"),
+    "gre6": ("gre_before_encap", "gre6", "gre_encap"),
     "ip4_tunnel": ("ip_tunnel",),
     "ip6_tunnel": ("ip_tunnel",),
-    "link_bridge": ("below_protocol", "with_protocol", "above_protocol"),
-    "link_inet6": ("below_protocol", "with_protocol", "above_protocol"),
-    "link_other": ("below_protocol", "above_protocol"),
-    "link_unspec": ("below_protocol", "above_protocol"),
+    "link_bridge": ("before_protinfo", "with_protocol", "after_protinfo"),
+    "link_inet6": ("before_protinfo", "with_protocol", "after_protinfo"),
+    "link_other": ("before_protinfo", "after_protinfo"),
+    "link_unspec": ("before_protinfo", "after_protinfo"),
     "macvlan": ("macvlan_before_addresses", "macvlan", "macvlan_after_addresses"),
     "macvlan_address": ("macvlan_before_addresses", "macvlan_after_addresses"),
     "veth": ("pair",),

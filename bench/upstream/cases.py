@@ -43,7 +43,7 @@ def shaped(rng, name):
     word, *numbers = name.split(" ")
     if word == "text":
         return text(rng)
-    sizes = {"nonzero_byte": [1], "one_byte": [1], "boolean_of_four": [4], "presence": [0, 0, 1], "id_and_boolean": [8, 12],
+    sizes = {"boolean_if_nonzero": [1], "boolean_if_one": [1], "boolean_of_four": [4], "presence": [0, 0, 1], "id_and_boolean": [8, 12],
              "raw": [0, 4, 6, 16, 20], "never": [0, 4]}.get(word) or [int(number) for number in numbers]
     if word in ("resized", "at_most"):
         sizes = [*sizes, sizes[0] // 2 // 4 * 4, sizes[0] + 4]

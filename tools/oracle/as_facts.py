@@ -28,14 +28,14 @@ use Rattle.std.proofs.Common.{◌≡◌, ℕ, true, false, List, [], ◌∷◌, 
 use Rattle.std.specs.Str.{is_utf8, chars}
 use lib.Utf8.{encode}
 use Rattle.netlink_packet_core_grammar.specs.Attributes.{attribute_text, list_text, first_attribute, attributes_within}
-use Rattle.attribute_tables_grammar.specs.Lists.{all_accepted, some_empty_ports, rewritten, all_fit, attributes_inside, all_same}
+use Rattle.attribute_tables_grammar.specs.Lists.{all_accepted, some_empty_ports, canonical_forms, all_fit, attributes_inside, all_same}
 use Rattle.link_message_grammar.specs.NestedTables.{resized}
-use Rattle.link_message_grammar.specs.Body.{body_rule, is_listed, link_body, link_peer, list_rule_of}
+use Rattle.link_message_grammar.specs.Body.{body_rule, has_layer_type_name, link_body, link_peer, attributes_rule}
 
 -- all definitions that are unfolded
 everything : ℕ
 unfolding is_utf8 chars encode attribute_text list_text first_attribute attributes_within all_accepted some_empty_ports \
-rewritten all_fit attributes_inside all_same is_listed list_rule_of body_rule link_peer resized
+canonical_forms all_fit attributes_inside all_same has_layer_type_name attributes_rule body_rule link_peer resized
 everything = 0
 """
 

@@ -97,11 +97,11 @@ SHAPES = {
     "exact": lambda n: (lambda p: len(p) == n, equal, identity),
     "either": lambda m, n: (lambda p: len(p) in (m, n), equal, identity),
     "at_most": lambda n: (lambda p: len(p) <= n, equal, identity),
-    "nonzero_byte": lambda: (
+    "boolean_if_nonzero": lambda: (
         lambda p: len(p) == 1,
         lambda p, q: (p[0] == 0) == (q[0] == 0),
         lambda p: b"\0" if p[0] == 0 else b"\1"),
-    "one_byte": lambda: (
+    "boolean_if_one": lambda: (
         lambda p: len(p) == 1,
         lambda p, q: (p[0] == 1) == (q[0] == 1),
         lambda p: b"\1" if p[0] == 1 else b"\0"),

@@ -2,7 +2,7 @@
 use Rattle.std.proofs.Common.{◌≡◌, ℕ, zero, suc, ◌≤◌, Bool, true, false, cond, List, [], ◌∷◌, length, Option, Some, None, refl, ap, ◌∙◌, arith}
 use Rattle.std.specs.Prelude.{◌&&◌, ◌||◌, is_some}
 use Rattle.netlink_packet_core_grammar.specs.Attributes.{Attribute, first_attribute, if_some}
-use Rattle.netlink_packet_core_grammar.specs.AttributeViews.{IsAttribute, viewed_attribute, viewed_payload, after_first}
+use Rattle.netlink_packet_core_grammar.specs.AttributeViews.{BeginsWithAttribute, viewed_attribute, viewed_payload, after_first}
 use Rattle.netlink_packet_core_grammar.specs.Laws.{FirstIsViewed, FirstIsWithin}
 use Rattle.netlink_packet_core.specs.Families.{family_row, may_allocate, accepts}
 use Rattle.attribute_tables_grammar.specs.Lists.{Row, is_of_kind_one}
@@ -21,21 +21,21 @@ either_accepted true false false e = e
 either_accepted false a h e = e
 
 module _ (first : FirstIsViewed) where
-  begun : (b : List ℕ) → IsAttribute b → begins_with_attribute b ≡ true
+  begun : (b : List ℕ) → BeginsWithAttribute b → begins_with_attribute b ≡ true
   begun b h = ap is_some (first.whole b h)
 
   -- the first attribute is accepted
-  pub begins-accepted : (rows : ℕ → Row) (may : List ℕ → Bool) (b : List ℕ) → IsAttribute b → is_accepted_by rows b ≡ true → begins_readable rows may b ≡ true
+  pub begins-accepted : (rows : ℕ → Row) (may : List ℕ → Bool) (b : List ℕ) → BeginsWithAttribute b → is_accepted_by rows b ≡ true → begins_readable rows may b ≡ true
   unfolding begins_readable
   begins-accepted rows may b h a = ap (λ w. w && (is_accepted_by rows b || may b)) (begun b h) ∙ ap (λ x. x || may b) a
 
   -- reading the first attribute may run out of memory
-  pub begins-allocating : (rows : ℕ → Row) (may : List ℕ → Bool) (b : List ℕ) → IsAttribute b → may b ≡ true → begins_readable rows may b ≡ true
+  pub begins-allocating : (rows : ℕ → Row) (may : List ℕ → Bool) (b : List ℕ) → BeginsWithAttribute b → may b ≡ true → begins_readable rows may b ≡ true
   unfolding begins_readable
   begins-allocating rows may b h m = ap (λ w. w && (is_accepted_by rows b || may b)) (begun b h) ∙ or_right (is_accepted_by rows b) (may b) m
 
   -- either the attribute is accepted, or reading it may run out of memory
-  pub accepted-begins : (rows : ℕ → Row) (b : List ℕ) → IsAttribute b → is_accepted_by rows b ≡ true → begins_accepted rows b ≡ true
+  pub accepted-begins : (rows : ℕ → Row) (b : List ℕ) → BeginsWithAttribute b → is_accepted_by rows b ≡ true → begins_accepted rows b ≡ true
   unfolding begins_accepted
   accepted-begins rows b h a = ap (λ w. w && is_accepted_by rows b) (begun b h) ∙ a
 
@@ -65,7 +65,7 @@ module _ (within : FirstIsWithin) where
   enough x y b k l = refl
 
   module _ (first : FirstIsViewed) where
-    entry_step : (b : List ℕ) → IsAttribute b → first_entry b ≡ cond (is_of_kind_one (viewed_attribute b)) (Some (viewed_attribute b)) (first_entry (after_first b))
+    entry_step : (b : List ℕ) → BeginsWithAttribute b → first_entry b ≡ cond (is_of_kind_one (viewed_attribute b)) (Some (viewed_attribute b)) (first_entry (after_first b))
     unfolding first_entry_within
     entry_step b h =
         let f = first.whole b h in
@@ -75,17 +75,17 @@ module _ (within : FirstIsWithin) where
         ∙ ap (λ r. cond (is_of_kind_one (viewed_attribute b)) (Some (viewed_attribute b)) r) (enough (length b) (length (after_first b)) (after_first b) (omega (arith, r)) (omega arith))
 
     -- the first attribute is an entry
-    pub entries-here : (r : Row) (may : List ℕ → Bool) (b : List ℕ) → IsAttribute b → is_of_kind_one (viewed_attribute b) ≡ true → (r.rule.accepted (viewed_payload b) || may (viewed_payload b)) ≡ true → entries_begin_readable r may b ≡ true
+    pub entries-here : (r : Row) (may : List ℕ → Bool) (b : List ℕ) → BeginsWithAttribute b → is_of_kind_one (viewed_attribute b) ≡ true → (r.rule.accepted (viewed_payload b) || may (viewed_payload b)) ≡ true → entries_begin_readable r may b ≡ true
     unfolding entries_begin_readable
     entries-here r may b h one e = ap (is_readable_entry r may) (entry_step b h ∙ ap (λ t. cond t (Some (viewed_attribute b)) (first_entry (after_first b))) one) ∙ e
 
-    pub entries-accepted : (r : Row) (may : List ℕ → Bool) (b : List ℕ) → IsAttribute b → is_of_kind_one (viewed_attribute b) ≡ true → r.rule.accepted (viewed_payload b) ≡ true → entries_begin_readable r may b ≡ true
+    pub entries-accepted : (r : Row) (may : List ℕ → Bool) (b : List ℕ) → BeginsWithAttribute b → is_of_kind_one (viewed_attribute b) ≡ true → r.rule.accepted (viewed_payload b) ≡ true → entries_begin_readable r may b ≡ true
     entries-accepted r may b h one a = entries-here r may b h one (ap (λ x. x || may (viewed_payload b)) a)
 
-    pub entries-allocating : (r : Row) (may : List ℕ → Bool) (b : List ℕ) → IsAttribute b → is_of_kind_one (viewed_attribute b) ≡ true → may (viewed_payload b) ≡ true → entries_begin_readable r may b ≡ true
+    pub entries-allocating : (r : Row) (may : List ℕ → Bool) (b : List ℕ) → BeginsWithAttribute b → is_of_kind_one (viewed_attribute b) ≡ true → may (viewed_payload b) ≡ true → entries_begin_readable r may b ≡ true
     entries-allocating r may b h one m = entries-here r may b h one (or_right (r.rule.accepted (viewed_payload b)) (may (viewed_payload b)) m)
 
     -- the first attribute is of another kind
-    pub entries-past : (r : Row) (may : List ℕ → Bool) (b : List ℕ) → IsAttribute b → is_of_kind_one (viewed_attribute b) ≡ false → entries_begin_readable r may (after_first b) ≡ true → entries_begin_readable r may b ≡ true
+    pub entries-past : (r : Row) (may : List ℕ → Bool) (b : List ℕ) → BeginsWithAttribute b → is_of_kind_one (viewed_attribute b) ≡ false → entries_begin_readable r may (after_first b) ≡ true → entries_begin_readable r may b ≡ true
     unfolding entries_begin_readable
     entries-past r may b h other e = ap (is_readable_entry r may) (entry_step b h ∙ ap (λ t. cond t (Some (viewed_attribute b)) (first_entry (after_first b))) other) ∙ e

@@ -2,12 +2,12 @@
 use Rattle.std.proofs.Common.{◌≡◌, ℕ, List, true}
 use Rattle.attribute_tables_grammar.specs.Laws.{RowsAreLookedUp, RowsWithoutListsFit}
 use Rattle.attribute_tables_grammar.specs.Lists.{any}
-use Rattle.attribute_tables_grammar.specs.LookUps.{list_of, rows_rule, table_row, holds_no_lists}
+use Rattle.attribute_tables_grammar.specs.LookUps.{table_list_rule, rows_rule, table_row, holds_no_lists}
 use Rattle.attribute_tables_grammar.specs.Peers.{bytes_peer}
 use Rattle.attribute_tables_grammar.specs.Tables.{Table}
 use Rattle.attribute_tables.proofs.Beginnings.{family-begins}
 
-pub family-list : RowsAreLookedUp → (t : Table) → list_of bytes_peer any t ≡ rows_rule any (table_row bytes_peer t)
+pub family-list : RowsAreLookedUp → (t : Table) → table_list_rule bytes_peer any t ≡ rows_rule any (table_row bytes_peer t)
 family-list law t = law.named bytes_peer any t
 
 pub ruleset family_lists = (family-list, family-begins)

@@ -4,7 +4,7 @@ use Rattle.std.specs.Prelude.{is_some}
 use Rattle.netlink_packet_core_grammar.specs.Attributes.{Attribute, first_attribute, if_some, proper_kind}
 use Rattle.netlink_packet_core_grammar.specs.AttributeViews.{viewed_kind, viewed_payload}
 use Rattle.attribute_tables_grammar.specs.Lists.{Row, is_of_kind_one}
-use Rattle.attribute_tables_grammar.specs.LookUps.{Line, line_at, payload_rule, payload_holds_bytes}
+use Rattle.attribute_tables_grammar.specs.LookUps.{Line, line_at, payload_rule, payload_allocates}
 use Rattle.attribute_tables_grammar.specs.Peers.{bytes_peer}
 use Rattle.attribute_tables_grammar.specs.Tables.{Payload, Payload.list, Table}
 use Rattle.netlink_packet_core.specs.Families.{family_row}
@@ -26,7 +26,7 @@ begins_readable rows may b = begins_with_attribute b && (is_accepted_by rows b |
 abbrev pub payload_may_allocate : Option Payload → List ℕ → Bool
 payload_may_allocate None p = true
 payload_may_allocate (Some (list form t)) p = begins_accepted (family_row t) p
-payload_may_allocate (Some s) p = payload_holds_bytes s && (payload_rule bytes_peer s).accepted p
+payload_may_allocate (Some s) p = payload_allocates s && (payload_rule bytes_peer s).accepted p
 
 -- Reading the payload of an entry may run out of memory; the payload of a kind without one is kept as bytes.
 abbrev pub line_may_allocate : Option Line → List ℕ → Bool

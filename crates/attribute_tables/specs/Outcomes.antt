@@ -5,8 +5,8 @@ use Rattle.netlink_packet_core_grammar.specs.Attributes.{Attribute}
 use Rattle.netlink_packet_core.specs.declared.DecodeError.{DecodeError}
 use Rattle.netlink_packet_core.specs.Errors.{is_memory}
 use Rattle.netlink_packet_core.specs.Lists.{text_by, all_fit_by}
-use Rattle.attribute_tables_grammar.specs.Lists.{Row, rewrite}
-use Rattle.attribute_tables_grammar.specs.Readings.{Written}
+use Rattle.attribute_tables_grammar.specs.Lists.{Row, canonical_form}
+use Rattle.attribute_tables_grammar.specs.Readings.{AttributeReading}
 use Rattle.attribute_tables_grammar.specs.Rules.{Rule}
 use Rattle.attribute_tables.specs.Written.{written_as}
 
@@ -47,7 +47,7 @@ ListIsWrittenBy result entry inside_fits rule bytes =
 
 -- A list that was read has this reading.
 abbrev pub ListIsReadAs : {V Z : Type 0} → Result (Vec V Z) DecodeError → (V → Attribute) → (V → Bool) →
-    Option (List Written) → Type 0
+    Option (List AttributeReading) → Type 0
 ListIsReadAs result entry inside_fits reading =
     IfOk result (λ v. reading ≡ Some (map (written_as entry inside_fits) v.items))
 
@@ -55,7 +55,7 @@ ListIsReadAs result entry inside_fits reading =
 -- only if the row says so.
 abbrev pub IsRewrittenBy : {V : Type 0} → Result V DecodeError → (V → Attribute) → (V → Bool) → Row → Attribute → Type 0
 IsRewrittenBy result entry inside_fits row attribute =
-    IfOk result (λ v. (entry v ≡ rewrite row attribute) × (inside_fits v ≡ row.rule.fits attribute.payload))
+    IfOk result (λ v. (entry v ≡ canonical_form row attribute) × (inside_fits v ≡ row.rule.fits attribute.payload))
 
 -- P holds for the value, if one was read.
 abbrev pub IfRead : {T E : Type 0} → Result (Option T) E → (T → Type 0) → Type 0
@@ -66,4 +66,4 @@ IfRead result P = IfOk result (λ o. IfSome o P)
 abbrev pub RowIsRewrittenBy : {V : Type 0} → Result (Option V) DecodeError → (V → Attribute) → (V → Bool) → Row →
     Attribute → Type 0
 RowIsRewrittenBy result entry inside_fits row attribute =
-    IfRead result (λ v. (entry v ≡ rewrite row attribute) × (inside_fits v ≡ row.rule.fits attribute.payload))
+    IfRead result (λ v. (entry v ≡ canonical_form row attribute) × (inside_fits v ≡ row.rule.fits attribute.payload))

@@ -2,7 +2,7 @@
 use Rattle.std.specs.Prelude.{ℕ, Bool, List}
 use Rattle.netlink_packet_core_grammar.specs.Attributes.{Attribute}
 use Rattle.netlink_packet_core_grammar.specs.AttributeViews.{viewed_attribute, viewed_payload}
-use Rattle.attribute_tables_grammar.specs.Lists.{Row, row_at, rewrite}
+use Rattle.attribute_tables_grammar.specs.Lists.{Row, row_at, canonical_form}
 
 -- The row of the first attribute.
 abbrev pub viewed_row : (ℕ → Row) → List ℕ → Row
@@ -18,4 +18,4 @@ fits_by rows b = (viewed_row rows b).rule.fits (viewed_payload b)
 
 -- The canonical form of the first attribute.
 abbrev pub rewritten_by : (ℕ → Row) → List ℕ → Attribute
-rewritten_by rows b = rewrite (viewed_row rows b) (viewed_attribute b)
+rewritten_by rows b = canonical_form (viewed_row rows b) (viewed_attribute b)

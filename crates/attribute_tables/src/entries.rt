@@ -2,10 +2,10 @@
 
 ghost use Rattle.std.specs.Prelude.{◌≡◌, ◌<◌, ℕ, List, Bool, true, length, IfOk, IfErr};
 ghost use Rattle.std.specs.List.{All};
-ghost use Rattle.netlink_packet_core_grammar.specs.AttributeViews.{viewed_attribute, viewed_payload, IsAttribute};
+ghost use Rattle.netlink_packet_core_grammar.specs.AttributeViews.{viewed_attribute, viewed_payload, BeginsWithAttribute};
 ghost use Rattle.netlink_packet_core.specs.NlaBuffers.{storage};
 ghost use Rattle.attribute_tables_grammar.specs.Lists.{Row, of_kind_one, ports, is_of_kind_one, without_context};
-ghost use Rattle.attribute_tables_grammar.specs.LookUps.{rows_rule, only_one};
+ghost use Rattle.attribute_tables_grammar.specs.LookUps.{rows_rule, only_kind_one};
 ghost use Rattle.attribute_tables_grammar.specs.Readings.{reading_as};
 ghost use Rattle.attribute_tables.specs.Beginnings.{entries_begin_readable};
 ghost use Rattle.attribute_tables.specs.Outcomes.{IfMemory, IsRewrittenBy, ListIsReadAs, ListIsWrittenBy, SucceedsIf};
@@ -40,7 +40,7 @@ pub trait EntryReader {
     /// Out of memory only if `may_allocate` holds; any other [`DecodeError`] only if the row
     /// rejects the payload.
     fn read(&self, alloc: Global, buf: &NlaBuffer<&[u8]>) -> Result<Self::Value, DecodeError>
-        requires whole { IsAttribute (storage buf.now).now }
+        requires whole { BeginsWithAttribute (storage buf.now).now }
         requires one { is_of_kind_one (viewed_attribute (storage buf.now).now) ≡ true }
         ensures judged { SucceedsIf result
             ((entry_row self.now).rule.accepted (viewed_payload (storage buf.now).now)) }
@@ -65,11 +65,11 @@ pub fn parse_entries<R: EntryReader>(
     bytes: &[u8],
 ) -> Result<Vec<R::Value>, DecodeError>
     ensures judged { SucceedsIf result
-        ((rows_rule of_kind_one (only_one (R.entry_row reader.now))).accepted bytes.now) }
+        ((rows_rule of_kind_one (only_kind_one (R.entry_row reader.now))).accepted bytes.now) }
     ensures read { ListIsReadAs result R.Value.entry R.Value.inside_fits
-        (reading_as of_kind_one (without_context (only_one (R.entry_row reader.now))) bytes.now) }
+        (reading_as of_kind_one (without_context (only_kind_one (R.entry_row reader.now))) bytes.now) }
     ensures written { ListIsWrittenBy result R.Value.entry R.Value.inside_fits
-        (rows_rule of_kind_one (only_one (R.entry_row reader.now))) bytes.now }
+        (rows_rule of_kind_one (only_kind_one (R.entry_row reader.now))) bytes.now }
     ensures is_row_variant { IfOk result (λ v. All (R.is_row_variant reader.now) v.items) }
     ensures not_empty { IfErr result (λ _. 0 < length bytes.now) }
     ensures memory { IfMemory result
@@ -104,11 +104,11 @@ pub fn parse_ports<R: EntryReader>(
     bytes: &[u8],
 ) -> Result<Vec<R::Value>, DecodeError>
     ensures judged { SucceedsIf result
-        ((rows_rule ports (only_one (R.entry_row reader.now))).accepted bytes.now) }
+        ((rows_rule ports (only_kind_one (R.entry_row reader.now))).accepted bytes.now) }
     ensures read { ListIsReadAs result R.Value.entry R.Value.inside_fits
-        (reading_as ports (without_context (only_one (R.entry_row reader.now))) bytes.now) }
+        (reading_as ports (without_context (only_kind_one (R.entry_row reader.now))) bytes.now) }
     ensures written { ListIsWrittenBy result R.Value.entry R.Value.inside_fits
-        (rows_rule ports (only_one (R.entry_row reader.now))) bytes.now }
+        (rows_rule ports (only_kind_one (R.entry_row reader.now))) bytes.now }
     ensures is_row_variant { IfOk result (λ v. All (R.is_row_variant reader.now) v.items) }
     ensures not_empty { IfMemory result (0 < length bytes.now) }
     ensures memory { IfMemory result

@@ -6,7 +6,7 @@ ghost use Rattle.netlink_packet_core_grammar.specs.Attributes.{attribute_text};
 ghost use Rattle.netlink_packet_core_grammar.specs.Fits.{attribute_fits};
 ghost use Rattle.netlink_packet_core.specs.Families.{family_row, may_allocate};
 ghost use Rattle.attribute_tables_grammar.specs.Lists.{any, first_only, without_context};
-ghost use Rattle.attribute_tables_grammar.specs.LookUps.{list_of};
+ghost use Rattle.attribute_tables_grammar.specs.LookUps.{table_list_rule};
 ghost use Rattle.attribute_tables_grammar.specs.Peers.{bytes_peer};
 ghost use Rattle.attribute_tables_grammar.specs.Readings.{reading_as};
 ghost use Rattle.attribute_tables.specs.Beginnings.{begins_accepted};
@@ -59,11 +59,11 @@ impl<F: Family + Drop> Reader for FamilyReader<F> {
 /// other [`DecodeError`] only if the list isn't accepted.
 #[tactic(auto, using(crate::proofs::Families::family_lists))]
 pub fn parse_family<F: Family + Drop>(alloc: Global, bytes: &[u8]) -> Result<Vec<F>, DecodeError>
-    ensures judged { SucceedsIf result ((list_of bytes_peer any F.rows).accepted bytes.now) }
+    ensures judged { SucceedsIf result ((table_list_rule bytes_peer any F.rows).accepted bytes.now) }
     ensures read { ListIsReadAs result F.field_entry (λ _. true)
         (reading_as any (without_context (family_row F.rows)) bytes.now) }
     ensures written { ListIsWrittenBy result F.field_entry (λ _. true)
-        (list_of bytes_peer any F.rows) bytes.now }
+        (table_list_rule bytes_peer any F.rows) bytes.now }
     ensures is_row_variant { IfOk result (λ v. All F.is_row_variant v.items) }
     ensures not_empty { IfErr result (λ _. 0 < length bytes.now) }
     ensures memory { IfMemory result (begins_accepted (family_row F.rows) bytes.now ≡ true) }
@@ -81,9 +81,9 @@ pub fn parse_family<F: Family + Drop>(alloc: Global, bytes: &[u8]) -> Result<Vec
 /// allocation fails; any other [`DecodeError`] only if it isn't accepted.
 pub fn parse_first<F: Family + Drop>(alloc: Global, bytes: &[u8]) -> Result<F, DecodeError>
     ensures judged { IsRefusedUnless result
-        ((list_of bytes_peer first_only F.rows).accepted bytes.now) }
+        ((table_list_rule bytes_peer first_only F.rows).accepted bytes.now) }
     ensures written { IsWrittenBy result (λ v. attribute_text (F.field_entry v))
-        (λ v. attribute_fits (F.field_entry v)) (list_of bytes_peer first_only F.rows) bytes.now }
+        (λ v. attribute_fits (F.field_entry v)) (table_list_rule bytes_peer first_only F.rows) bytes.now }
     ensures is_row_variant { IfOk result (λ v. F.is_row_variant v) }
     ensures not_empty { IfMemory result (0 < length bytes.now) }
     ensures allocates { IfMemory result (may_allocate F.rows bytes.now ≡ true) }

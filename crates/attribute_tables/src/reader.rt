@@ -3,7 +3,7 @@
 ghost use Rattle.std.specs.Prelude.{◌≡◌, ◌<◌, ◌&&◌, ℕ, List, Bool, true, length, IfOk, IfErr};
 ghost use Rattle.std.specs.List.{All};
 ghost use Rattle.netlink_packet_core_grammar.specs.Attributes.{attribute_text};
-ghost use Rattle.netlink_packet_core_grammar.specs.AttributeViews.{viewed_attribute, IsAttribute};
+ghost use Rattle.netlink_packet_core_grammar.specs.AttributeViews.{viewed_attribute, BeginsWithAttribute};
 ghost use Rattle.netlink_packet_core_grammar.specs.Fits.{attribute_fits};
 ghost use Rattle.netlink_packet_core.specs.NlaBuffers.{storage};
 ghost use Rattle.attribute_tables_grammar.specs.Lists.{Row, any, first_only, without_context};
@@ -40,7 +40,7 @@ pub trait Reader {
     /// Out of memory only if `may_allocate` holds; any other [`DecodeError`] only if the row
     /// rejects the payload.
     fn read(&self, alloc: Global, buf: &NlaBuffer<&[u8]>) -> Result<Self::Value, DecodeError>
-        requires { IsAttribute (storage buf.now).now }
+        requires { BeginsWithAttribute (storage buf.now).now }
         ensures judged { SucceedsIf result
             (is_accepted_by (row_of self.now) (storage buf.now).now) }
         ensures written { IsRewrittenBy result Self.Value.entry Self.Value.inside_fits
@@ -104,7 +104,7 @@ pub fn parse_first_by<R: Reader>(
         (λ v. attribute_fits (R.Value.entry v) && R.Value.inside_fits v)
         (rows_rule first_only (R.row_of reader.now)) bytes.now }
     ensures is_row_variant { IfOk result (λ v. R.is_row_variant reader.now v) }
-    ensures whole { IfMemory result (IsAttribute bytes.now) }
+    ensures whole { IfMemory result (BeginsWithAttribute bytes.now) }
     ensures allocates { IfMemory result (R.may_allocate reader.now bytes.now ≡ true) }
 {
     single_first_attributes_are_read();

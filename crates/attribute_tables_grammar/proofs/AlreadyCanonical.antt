@@ -5,7 +5,7 @@ use Rattle.std.proofs.lemmas.List.{take-append-drop, drop-drop, length-take-le}
 use Rattle.netlink_packet_core_grammar.specs.Attributes.{nla_align, zeros, Attribute, attribute_length, attribute_text, list_text, first_attribute, attributes_within, attributes_of}
 use Rattle.netlink_packet_core_grammar.proofs.Attributes.{IsCut, headed}
 use Rattle.netlink_packet_core_grammar.proofs.FirstAttribute.{attributes_step}
-use Rattle.attribute_tables_grammar.specs.Lists.{Context, nothing, Grammar, row_of, rewrite, rewritten, written_kind, ListForm, is_kept, kept, if_read, list_rule}
+use Rattle.attribute_tables_grammar.specs.Lists.{Context, no_kind_in_force, Grammar, row_of, canonical_form, canonical_forms, canonical_kind, ListForm, is_kept, kept, if_read, list_rule}
 use Rattle.attribute_tables_grammar.specs.Walks.{IsWalked}
 use Rattle.attribute_tables_grammar.specs.AlreadyCanonical.{text_from}
 use Rattle.attribute_tables_grammar.specs.Laws.{CanonicalListsUnfold}
@@ -50,22 +50,22 @@ canonical_attribute bytes e after b f z =
 -- ---- the steps of a list
 
 -- the encoding of an attribute before that of others
-with_first : (form : ListForm) (g : Grammar) (c : Context) (e : Attribute) → is_kept form e ≡ true → (o : Option (List Attribute)) → option_map (λ es. list_text (rewritten g c (kept form es))) (option_map (λ es. e ∷ es) o) ≡ option_map (λ t. attribute_text (rewrite (row_of g c e) e) ++ t) (option_map (λ es. list_text (rewritten g (g.next c e) (kept form es))) o)
-unfolding rewritten list_text
+with_first : (form : ListForm) (g : Grammar) (c : Context) (e : Attribute) → is_kept form e ≡ true → (o : Option (List Attribute)) → option_map (λ es. list_text (canonical_forms g c (kept form es))) (option_map (λ es. e ∷ es) o) ≡ option_map (λ t. attribute_text (canonical_form (row_of g c e) e) ++ t) (option_map (λ es. list_text (canonical_forms g (g.next c e) (kept form es))) o)
+unfolding canonical_forms list_text
 with_first form g c e k None = refl
-with_first form g c e k (Some es) = ap (λ ks. Some (list_text (rewritten g c ks))) (kept_more form e es k)
+with_first form g c e k (Some es) = ap (λ ks. Some (list_text (canonical_forms g c ks))) (kept_more form e es k)
 
-pub step : (form : ListForm) (g : Grammar) (c : Context) (rest : List ℕ) (e : Attribute) (after : List ℕ) → first_attribute rest ≡ Some (e, after) → is_kept form e ≡ true → text_from form g c rest ≡ option_map (λ t. attribute_text (rewrite (row_of g c e) e) ++ t) (text_from form g (g.next c e) after)
+pub step : (form : ListForm) (g : Grammar) (c : Context) (rest : List ℕ) (e : Attribute) (after : List ℕ) → first_attribute rest ≡ Some (e, after) → is_kept form e ≡ true → text_from form g c rest ≡ option_map (λ t. attribute_text (canonical_form (row_of g c e) e) ++ t) (text_from form g (g.next c e) after)
 unfolding text_from
-step form g c rest e after f k = ap (option_map (λ es. list_text (rewritten g c (kept form es)))) (attributes_step rest e after f) ∙ with_first form g c e k (attributes_of after)
+step form g c rest e after f k = ap (option_map (λ es. list_text (canonical_forms g c (kept form es)))) (attributes_step rest e after f) ∙ with_first form g c e k (attributes_of after)
 
 pub at_end : (form : ListForm) (g : Grammar) (c : Context) (rest : List ℕ) → length rest ≡ 0 → text_from form g c rest ≡ Some rest
-unfolding text_from attributes_within rewritten list_text
-at_end form g c [] l = ap (λ ks. Some (list_text (rewritten g c ks))) (kept_none form)
+unfolding text_from attributes_within canonical_forms list_text
+at_end form g c [] l = ap (λ ks. Some (list_text (canonical_forms g c ks))) (kept_none form)
 at_end form g c (b ∷ rest) l = absurd (omega arith)
 
 -- an attribute whose kind and payload are already canonical
-already_canonical : (g : Grammar) (c : Context) (e : Attribute) → written_kind (row_of g c e) e.kind ≡ e.kind → (row_of g c e).rule.canonical e.payload ≡ e.payload → rewrite (row_of g c e) e ≡ e
+already_canonical : (g : Grammar) (c : Context) (e : Attribute) → canonical_kind (row_of g c e) e.kind ≡ e.kind → (row_of g c e).rule.canonical e.payload ≡ e.payload → canonical_form (row_of g c e) e ≡ e
 already_canonical g c e n p = λ i. record { kind = n i; payload = p i }
 
 unfoldable pub text_or : Option (List ℕ) → List ℕ
@@ -73,31 +73,31 @@ text_or None = []
 text_or (Some t) = t
 
 -- the canonical encoding of a list that is walked
-canonical_of : (form : ListForm) (g : Grammar) (o : Option (List Attribute)) → text_or (option_map (λ es. list_text (rewritten g nothing (kept form es))) o) ≡ if_read [] (λ es. list_text (rewritten g nothing (kept form es))) o
+canonical_of : (form : ListForm) (g : Grammar) (o : Option (List Attribute)) → text_or (option_map (λ es. list_text (canonical_forms g no_kind_in_force (kept form es))) o) ≡ if_read [] (λ es. list_text (canonical_forms g no_kind_in_force (kept form es))) o
 unfolding text_or
 canonical_of form g None = refl
 canonical_of form g (Some es) = refl
 
-pub canonical_text : (form : ListForm) (g : Grammar) (bytes : List ℕ) → IsWalked form bytes → text_or (text_from form g nothing bytes) ≡ (list_rule form g).canonical bytes
+pub canonical_text : (form : ListForm) (g : Grammar) (bytes : List ℕ) → IsWalked form bytes → text_or (text_from form g no_kind_in_force bytes) ≡ (list_rule form g).canonical bytes
 unfolding text_from
 canonical_text form g bytes w =
-    canonical_of form g (attributes_of bytes) ∙ ap (if_read [] (λ es. list_text (rewritten g nothing (kept form es)))) (sym (read_walked form bytes w))
+    canonical_of form g (attributes_of bytes) ∙ ap (if_read [] (λ es. list_text (canonical_forms g no_kind_in_force (kept form es)))) (sym (read_walked form bytes w))
 
 text_end : (e : Attribute) (after : List ℕ) → length after ≡ 0 → attribute_text e ++ [] ≡ attribute_text e ++ after
 text_end e [] l = refl
 text_end e (b ∷ after) l = absurd (omega arith)
 
 pub canonical_lists_unfold : CanonicalListsUnfold
-unfolding text_or rewritten list_text
+unfolding text_or canonical_forms list_text
 canonical_lists_unfold = record {
   padded = canonical_attribute;
   start = λ form g bytes. record { whole = λ h. h };
   more = λ form g bytes rest c e after f k n p t s. record {
-    whole = λ h. s.whole (step form g c rest e after f k ∙ ap (option_map (λ x. attribute_text (rewrite (row_of g c e) e) ++ x)) h ∙ ap (λ x. Some (attribute_text x ++ after)) (already_canonical g c e n p) ∙ ap Some (sym t));
+    whole = λ h. s.whole (step form g c rest e after f k ∙ ap (option_map (λ x. attribute_text (canonical_form (row_of g c e) e) ++ x)) h ∙ ap (λ x. Some (attribute_text x ++ after)) (already_canonical g c e n p) ∙ ap Some (sym t));
   };
   done = λ form g bytes rest c w l s. sym (canonical_text form g bytes w) ∙ ap text_or (s.whole (at_end form g c rest l));
   -- the first attribute only
   single = λ g bytes e after f l n p t.
-      ap (λ o. if_read [] (λ es. list_text (rewritten g nothing es)) (option_map (λ (x : Attribute × List ℕ). x.0 ∷ []) o)) f
-      ∙ ap (λ x. attribute_text x ++ []) (already_canonical g nothing e n p) ∙ text_end e after l ∙ sym t;
+      ap (λ o. if_read [] (λ es. list_text (canonical_forms g no_kind_in_force es)) (option_map (λ (x : Attribute × List ℕ). x.0 ∷ []) o)) f
+      ∙ ap (λ x. attribute_text x ++ []) (already_canonical g no_kind_in_force e n p) ∙ text_end e after l ∙ sym t;
 }

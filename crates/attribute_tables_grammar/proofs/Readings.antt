@@ -8,68 +8,68 @@ use Rattle.netlink_packet_core_grammar.specs.Fits.{attribute_fits}
 use Rattle.netlink_packet_core_grammar.specs.AttributeViews.{viewed_attribute, after_first}
 use Rattle.netlink_packet_core_grammar.proofs.FirstAttribute.{first_attribute_is, first_attribute_none, attributes_step, attributes_stop}
 use Rattle.netlink_packet_core_grammar.proofs.Sizes.{length-list_text}
-use Rattle.attribute_tables_grammar.specs.Lists.{Context, nothing, Grammar, without_context, row_of, rewritten, all_accepted, some_empty_ports, all_fit, attributes_inside, ListForm, any, non_empty, of_kind_one, ports, not_empty, read_as, is_kept, kept, is_empty_ports, if_read, list_rule}
+use Rattle.attribute_tables_grammar.specs.Lists.{Context, no_kind_in_force, Grammar, without_context, row_of, canonical_forms, all_accepted, some_empty_ports, all_fit, attributes_inside, ListForm, any, non_empty, of_kind_one, ports, unless_empty, read_as, is_kept, kept, is_empty_ports, if_read, list_rule}
 use Rattle.attribute_tables_grammar.specs.LookUps.{rows_rule}
 use Rattle.attribute_tables_grammar.specs.Laws.{ReadingsUnfold, ReadingsDetermineRules, FirstOnlyIsRead, PortsAreEntries}
 use Rattle.attribute_tables_grammar.specs.Walks.{RequiresAttribute}
-use Rattle.attribute_tables_grammar.specs.Readings.{Written, written_by, written_list, reading, reading_as, all_written_fit, followed_by, Determines}
+use Rattle.attribute_tables_grammar.specs.Readings.{AttributeReading, attribute_reading, attribute_readings, reading, reading_as, all_readings_fit, followed_by, IsReading}
 use Rattle.attribute_tables_grammar.proofs.Kept.{kept_more, kept_past, kept_none, bytes_not_empty, read_none}
 
 -- ---- the steps
 
 onto : (form : ListForm) (o : Option (List Attribute)) (g : Grammar) (c : Context) (e : Attribute) → is_kept form e ≡ true → (row_of g c e).rule.accepted e.payload ≡ true →
-    if_some (option_map (λ es. e ∷ es) o) (λ es. written_list g c (kept form es)) ≡ followed_by (written_by (row_of g c e) e ∷ []) (if_some o (λ es. written_list g (g.next c e) (kept form es)))
-unfolding written_list
+    if_some (option_map (λ es. e ∷ es) o) (λ es. attribute_readings g c (kept form es)) ≡ followed_by (attribute_reading (row_of g c e) e ∷ []) (if_some o (λ es. attribute_readings g (g.next c e) (kept form es)))
+unfolding attribute_readings
 onto form None g c e k a = refl
-onto form (Some es) g c e k a = ap (written_list g c) (kept_more form e es k) ∙ ap (λ b. cond b (option_map (λ ws. written_by (row_of g c e) e ∷ ws) (written_list g (g.next c e) (kept form es))) None) a
+onto form (Some es) g c e k a = ap (attribute_readings g c) (kept_more form e es k) ∙ ap (λ b. cond b (option_map (λ ws. attribute_reading (row_of g c e) e ∷ ws) (attribute_readings g (g.next c e) (kept form es))) None) a
 
 against : (form : ListForm) (o : Option (List Attribute)) (g : Grammar) (c : Context) (e : Attribute) → is_kept form e ≡ true → (row_of g c e).rule.accepted e.payload ≡ false →
-    if_some (option_map (λ es. e ∷ es) o) (λ es. written_list g c (kept form es)) ≡ None
-unfolding written_list
+    if_some (option_map (λ es. e ∷ es) o) (λ es. attribute_readings g c (kept form es)) ≡ None
+unfolding attribute_readings
 against form None g c e k a = refl
-against form (Some es) g c e k a = ap (written_list g c) (kept_more form e es k) ∙ ap (λ b. cond b (option_map (λ ws. written_by (row_of g c e) e ∷ ws) (written_list g (g.next c e) (kept form es))) None) a
+against form (Some es) g c e k a = ap (attribute_readings g c) (kept_more form e es k) ∙ ap (λ b. cond b (option_map (λ ws. attribute_reading (row_of g c e) e ∷ ws) (attribute_readings g (g.next c e) (kept form es))) None) a
 
 beside : (form : ListForm) (o : Option (List Attribute)) (g : Grammar) (c : Context) (e : Attribute) → is_kept form e ≡ false →
-    if_some (option_map (λ es. e ∷ es) o) (λ es. written_list g c (kept form es)) ≡ if_some o (λ es. written_list g c (kept form es))
+    if_some (option_map (λ es. e ∷ es) o) (λ es. attribute_readings g c (kept form es)) ≡ if_some o (λ es. attribute_readings g c (kept form es))
 beside form None g c e k = refl
-beside form (Some es) g c e k = ap (written_list g c) (kept_past form e es k)
+beside form (Some es) g c e k = ap (attribute_readings g c) (kept_past form e es k)
 
 module _ (form : ListForm) (g : Grammar) where
   reading_step : (c : Context) (bytes : List ℕ) (e : Attribute) (rest : List ℕ) → first_attribute bytes ≡ Some (e, rest) → is_kept form e ≡ true → (row_of g c e).rule.accepted e.payload ≡ true →
-      reading form g c bytes ≡ followed_by (written_by (row_of g c e) e ∷ []) (reading form g (g.next c e) rest)
+      reading form g c bytes ≡ followed_by (attribute_reading (row_of g c e) e ∷ []) (reading form g (g.next c e) rest)
   unfolding reading
-  reading_step c bytes e rest f k a = ap (λ o. if_some o (λ es. written_list g c (kept form es))) (attributes_step bytes e rest f) ∙ onto form (attributes_of rest) g c e k a
+  reading_step c bytes e rest f k a = ap (λ o. if_some o (λ es. attribute_readings g c (kept form es))) (attributes_step bytes e rest f) ∙ onto form (attributes_of rest) g c e k a
 
   reading_refused : (c : Context) (bytes : List ℕ) (e : Attribute) (rest : List ℕ) → first_attribute bytes ≡ Some (e, rest) → is_kept form e ≡ true → (row_of g c e).rule.accepted e.payload ≡ false → reading form g c bytes ≡ None
   unfolding reading
-  reading_refused c bytes e rest f k a = ap (λ o. if_some o (λ es. written_list g c (kept form es))) (attributes_step bytes e rest f) ∙ against form (attributes_of rest) g c e k a
+  reading_refused c bytes e rest f k a = ap (λ o. if_some o (λ es. attribute_readings g c (kept form es))) (attributes_step bytes e rest f) ∙ against form (attributes_of rest) g c e k a
 
   reading_past : (c : Context) (bytes : List ℕ) (e : Attribute) (rest : List ℕ) → first_attribute bytes ≡ Some (e, rest) → is_kept form e ≡ false → reading form g c bytes ≡ reading form g c rest
   unfolding reading
-  reading_past c bytes e rest f k = ap (λ o. if_some o (λ es. written_list g c (kept form es))) (attributes_step bytes e rest f) ∙ beside form (attributes_of rest) g c e k
+  reading_past c bytes e rest f k = ap (λ o. if_some o (λ es. attribute_readings g c (kept form es))) (attributes_step bytes e rest f) ∙ beside form (attributes_of rest) g c e k
 
   reading_end : (c : Context) (bytes : List ℕ) → length bytes ≡ 0 → reading form g c bytes ≡ Some []
-  unfolding reading attributes_within written_list
-  reading_end c [] h = ap (written_list g c) (kept_none form)
+  unfolding reading attributes_within attribute_readings
+  reading_end c [] h = ap (attribute_readings g c) (kept_none form)
   reading_end c (b ∷ bytes) h = absurd (omega arith)
 
   reading_stop : (c : Context) (bytes : List ℕ) → first_attribute bytes ≡ None → 0 < length bytes → reading form g c bytes ≡ None
   unfolding reading
-  reading_stop c bytes f l = ap (λ o. if_some o (λ es. written_list g c (kept form es))) (attributes_stop bytes f l)
+  reading_stop c bytes f l = ap (λ o. if_some o (λ es. attribute_readings g c (kept form es))) (attributes_stop bytes f l)
 
 -- ---- the state of a loop: what was read, and the rest in its context
 
-followed_nil : (o : Option (List Written)) → followed_by [] o ≡ o
+followed_nil : (o : Option (List AttributeReading)) → followed_by [] o ≡ o
 followed_nil None = refl
 followed_nil (Some ws) = refl
 
-followed_twice : (us vs : List Written) (o : Option (List Written)) → followed_by us (followed_by vs o) ≡ followed_by (us ++ vs) o
+followed_twice : (us vs : List AttributeReading) (o : Option (List AttributeReading)) → followed_by us (followed_by vs o) ≡ followed_by (us ++ vs) o
 followed_twice us vs None = refl
 followed_twice us vs (Some ws) = ap Some (sym (append_assoc us vs ws))
 
 pub readings_unfold : ReadingsUnfold
 readings_unfold = record {
-  start = λ form g bytes. record { whole = sym (followed_nil (reading form g nothing bytes)) };
+  start = λ form g bytes. record { whole = sym (followed_nil (reading form g no_kind_in_force bytes)) };
   more = λ form g bytes ws c rest w h k a is s.
       let e = viewed_attribute rest in
       record {
@@ -99,11 +99,11 @@ alike_at r s bytes d f h k = ap (if_read d (λ es. f (kept r es))) h ∙ ap (λ 
 alike_by : (r s : ListForm) (g : Grammar) (bytes : List ℕ) → read_as r bytes ≡ read_as s bytes → ((es : List Attribute) → kept r es ≡ kept s es) → AlikeOn r s g bytes
 unfolding reading_as
 alike_by r s g bytes h k = record {
-  accepted = alike_at r s bytes false (all_accepted g nothing) h k;
-  canonical = alike_at r s bytes [] (λ es. list_text (rewritten g nothing es)) h k;
-  fits = alike_at r s bytes true (all_fit g nothing) h k;
-  attributes = ap (if_read 0 (λ es. length es + attributes_inside g nothing (kept r es))) h ∙ ap (λ (q : List Attribute → List Attribute). if_read 0 (λ es. length es + attributes_inside g nothing (q es)) (read_as s bytes)) (λ i es. k es i);
-  read = ap (λ o. if_some o (λ es. written_list g nothing (kept r es))) h ∙ ap (λ (q : List Attribute → List Attribute). if_some (read_as s bytes) (λ es. written_list g nothing (q es))) (λ i es. k es i);
+  accepted = alike_at r s bytes false (all_accepted g no_kind_in_force) h k;
+  canonical = alike_at r s bytes [] (λ es. list_text (canonical_forms g no_kind_in_force es)) h k;
+  fits = alike_at r s bytes true (all_fit g no_kind_in_force) h k;
+  attributes = ap (if_read 0 (λ es. length es + attributes_inside g no_kind_in_force (kept r es))) h ∙ ap (λ (q : List Attribute → List Attribute). if_read 0 (λ es. length es + attributes_inside g no_kind_in_force (q es)) (read_as s bytes)) (λ i es. k es i);
+  read = ap (λ o. if_some o (λ es. attribute_readings g no_kind_in_force (kept r es))) h ∙ ap (λ (q : List Attribute → List Attribute). if_some (read_as s bytes) (λ es. attribute_readings g no_kind_in_force (q es))) (λ i es. k es i);
 }
 
 pub non_empty_alike : (g : Grammar) (bytes : List ℕ) → 0 < length bytes → AlikeOn non_empty any g bytes
@@ -114,106 +114,106 @@ ports_alike g bytes l = alike_by ports of_kind_one g bytes (bytes_not_empty byte
 
 -- a list kind that requires an attribute rejects the empty list
 refuses : (form : ListForm) (g : Grammar) (bytes : List ℕ) → RequiresAttribute form → length bytes ≡ 0 → (list_rule form g).accepted bytes ≡ false
-refuses form g bytes w l = ap (if_read false (λ es. all_accepted g nothing (kept form es))) (read_none form bytes l w)
+refuses form g bytes w l = ap (if_read false (λ es. all_accepted g no_kind_in_force (kept form es))) (read_none form bytes l w)
 
 pub non_empty_refuses : (g : Grammar) (bytes : List ℕ) → length bytes ≡ 0 → (list_rule non_empty g).accepted bytes ≡ false
 non_empty_refuses g bytes = refuses non_empty g bytes tt
 
 -- nothing is kept if and only if the encoding is empty
-no_text : (g : Grammar) (c : Context) (ks : List Attribute) → is_empty_ports ports ks ≡ (length (list_text (rewritten g c ks)) == 0)
-unfolding list_text rewritten
+no_text : (g : Grammar) (c : Context) (ks : List Attribute) → is_empty_ports ports ks ≡ (length (list_text (canonical_forms g c ks)) == 0)
+unfolding list_text canonical_forms
 no_text g c [] = refl
-no_text g c (e ∷ es) = sym (ne_eqb (length (list_text (rewritten g c (e ∷ es)))) 0 (λ z. absurd (omega (arith, z, length-list_text (rewritten g c (e ∷ es))))))
+no_text g c (e ∷ es) = sym (ne_eqb (length (list_text (canonical_forms g c (e ∷ es)))) 0 (λ z. absurd (omega (arith, z, length-list_text (canonical_forms g c (e ∷ es))))))
 
 -- legal ports are empty if and only if their encoding is, or a list of ports inside is
-ports_empty : (g : Grammar) (o : Option (List Attribute)) → if_read false (λ es. all_accepted g nothing (kept ports es)) (if_some o not_empty) ≡ true →
-    if_read false (λ es. is_empty_ports ports (kept ports es) || some_empty_ports g nothing (kept ports es)) (if_some o not_empty)
-    ≡ ((length (if_read [] (λ es. list_text (rewritten g nothing (kept of_kind_one es))) o) == 0) || if_read false (λ es. is_empty_ports of_kind_one (kept of_kind_one es) || some_empty_ports g nothing (kept of_kind_one es)) o)
+ports_empty : (g : Grammar) (o : Option (List Attribute)) → if_read false (λ es. all_accepted g no_kind_in_force (kept ports es)) (if_some o unless_empty) ≡ true →
+    if_read false (λ es. is_empty_ports ports (kept ports es) || some_empty_ports g no_kind_in_force (kept ports es)) (if_some o unless_empty)
+    ≡ ((length (if_read [] (λ es. list_text (canonical_forms g no_kind_in_force (kept of_kind_one es))) o) == 0) || if_read false (λ es. is_empty_ports of_kind_one (kept of_kind_one es) || some_empty_ports g no_kind_in_force (kept of_kind_one es)) o)
 ports_empty g None h = absurd cc
 ports_empty g (Some []) h = absurd cc
-ports_empty g (Some (e ∷ es)) h = let ks = kept ports (e ∷ es) in ap (λ b. b || some_empty_ports g nothing ks) (no_text g nothing ks)
+ports_empty g (Some (e ∷ es)) h = let ks = kept ports (e ∷ es) in ap (λ b. b || some_empty_ports g no_kind_in_force ks) (no_text g no_kind_in_force ks)
 
 -- ---- one attribute, followed by any bytes
 
 pub single_first_attributes_are_read : FirstOnlyIsRead
-unfolding reading_as written_list
+unfolding reading_as attribute_readings
 single_first_attributes_are_read = record {
   read = λ g bytes w h a is.
       let e = viewed_attribute bytes in
-      single g (first_attribute_is bytes h) ∙ ap (λ b. cond b (Some (written_by (row_of g nothing e) e ∷ [])) None) a ∙ ap (λ x. Some (x ∷ [])) (sym is);
-  refused = λ g bytes h a. let e = viewed_attribute bytes in single g (first_attribute_is bytes h) ∙ ap (λ b. cond b (Some (written_by (row_of g nothing e) e ∷ [])) None) a;
+      single g (first_attribute_is bytes h) ∙ ap (λ b. cond b (Some (attribute_reading (row_of g no_kind_in_force e) e ∷ [])) None) a ∙ ap (λ x. Some (x ∷ [])) (sym is);
+  refused = λ g bytes h a. let e = viewed_attribute bytes in single g (first_attribute_is bytes h) ∙ ap (λ b. cond b (Some (attribute_reading (row_of g no_kind_in_force e) e ∷ [])) None) a;
   missing = λ g bytes h. single g (first_attribute_none bytes h);
 }
   where
     single : (g : Grammar) {o p : Option (Attribute × List ℕ)} → o ≡ p →
-        if_some (option_map (λ (x : Attribute × List ℕ). x.0 ∷ []) o) (λ es. written_list g nothing es) ≡ if_some (option_map (λ (x : Attribute × List ℕ). x.0 ∷ []) p) (λ es. written_list g nothing es)
-    single g = ap (λ o. if_some (option_map (λ (x : Attribute × List ℕ). x.0 ∷ []) o) (λ es. written_list g nothing es))
+        if_some (option_map (λ (x : Attribute × List ℕ). x.0 ∷ []) o) (λ es. attribute_readings g no_kind_in_force es) ≡ if_some (option_map (λ (x : Attribute × List ℕ). x.0 ∷ []) p) (λ es. attribute_readings g no_kind_in_force es)
+    single g = ap (λ o. if_some (option_map (λ (x : Attribute × List ℕ). x.0 ∷ []) o) (λ es. attribute_readings g no_kind_in_force es))
 
 -- ---- how a reading determines the results of the rule
 
-written_all : Grammar → Context → List Attribute → List Written
+written_all : Grammar → Context → List Attribute → List AttributeReading
 written_all g c [] = []
-written_all g c (e ∷ es) = written_by (row_of g c e) e ∷ written_all g (g.next c e) es
+written_all g c (e ∷ es) = attribute_reading (row_of g c e) e ∷ written_all g (g.next c e) es
 
-found_step : (a b : Bool) (w : Written) (ws : List Written) → cond a (option_map (λ vs. w ∷ vs) (cond b (Some ws) None)) None ≡ cond (a && b) (Some (w ∷ ws)) None
+found_step : (a b : Bool) (w : AttributeReading) (ws : List AttributeReading) → cond a (option_map (λ vs. w ∷ vs) (cond b (Some ws) None)) None ≡ cond (a && b) (Some (w ∷ ws)) None
 found_step true true w ws = refl
 found_step true false w ws = refl
 found_step false b w ws = refl
 
-found : (g : Grammar) (c : Context) (es : List Attribute) → written_list g c es ≡ cond (all_accepted g c es) (Some (written_all g c es)) None
-unfolding written_list all_accepted written_all
+found : (g : Grammar) (c : Context) (es : List Attribute) → attribute_readings g c es ≡ cond (all_accepted g c es) (Some (written_all g c es)) None
+unfolding attribute_readings all_accepted written_all
 found g c [] = refl
 found g c (e ∷ es) =
     let a = (row_of g c e).rule.accepted e.payload in
-    let w = written_by (row_of g c e) e in
+    let w = attribute_reading (row_of g c e) e in
     ap (λ o. cond a (option_map (λ vs. w ∷ vs) o) None) (found g (g.next c e) es) ∙ found_step a (all_accepted g (g.next c e) es) w (written_all g (g.next c e) es)
 
-entries_of : (g : Grammar) (c : Context) (es : List Attribute) → map (λ (w : Written). w.entry) (written_all g c es) ≡ rewritten g c es
-unfolding rewritten written_all
+entries_of : (g : Grammar) (c : Context) (es : List Attribute) → map (λ (w : AttributeReading). w.entry) (written_all g c es) ≡ canonical_forms g c es
+unfolding canonical_forms written_all
 entries_of g c [] = refl
-entries_of g c (e ∷ es) = ap (λ r. (written_by (row_of g c e) e).entry ∷ r) (entries_of g (g.next c e) es)
+entries_of g c (e ∷ es) = ap (λ r. (attribute_reading (row_of g c e) e).entry ∷ r) (entries_of g (g.next c e) es)
 
-fits_of : (g : Grammar) (c : Context) (es : List Attribute) → all_written_fit (written_all g c es) ≡ all_fit g c es
-unfolding all_fit written_all all_written_fit
+fits_of : (g : Grammar) (c : Context) (es : List Attribute) → all_readings_fit (written_all g c es) ≡ all_fit g c es
+unfolding all_fit written_all all_readings_fit
 fits_of g c [] = refl
-fits_of g c (e ∷ es) = ap (λ b. (attribute_fits (written_by (row_of g c e) e).entry && (row_of g c e).rule.fits e.payload) && b) (fits_of g (g.next c e) es)
+fits_of g c (e ∷ es) = ap (λ b. (attribute_fits (attribute_reading (row_of g c e) e).entry && (row_of g c e).rule.fits e.payload) && b) (fits_of g (g.next c e) es)
 
-some_list : List Written → Option (List Written)
+some_list : List AttributeReading → Option (List AttributeReading)
 some_list ws = Some ws
 
-list_or : Option (List Written) → List Written
+list_or : Option (List AttributeReading) → List AttributeReading
 list_or None = []
 list_or (Some ws) = ws
 
-determines_by : (g : Grammar) (es : List Attribute) (ws : List Written) (b : Bool) → all_accepted g nothing es ≡ b → cond b (Some (written_all g nothing es)) None ≡ some_list ws → (all_accepted g nothing es ≡ true) × (written_all g nothing es ≡ ws)
+determines_by : (g : Grammar) (es : List Attribute) (ws : List AttributeReading) (b : Bool) → all_accepted g no_kind_in_force es ≡ b → cond b (Some (written_all g no_kind_in_force es)) None ≡ some_list ws → (all_accepted g no_kind_in_force es ≡ true) × (written_all g no_kind_in_force es ≡ ws)
 unfolding list_or some_list
 determines_by g es ws true a h = (a, ap list_or h)
 determines_by g es ws false a h = absurd cc
 
-determines_in : (form : ListForm) (g : Grammar) (o : Option (List Attribute)) (ws : List Written) → if_some o (λ es. written_list g nothing (kept form es)) ≡ some_list ws →
-    (if_read false (λ es. all_accepted g nothing (kept form es)) o ≡ true) × (if_read [] (λ es. list_text (rewritten g nothing (kept form es))) o ≡ list_text (map (λ (w : Written). w.entry) ws)) × (if_read true (λ es. all_fit g nothing (kept form es)) o ≡ all_written_fit ws)
+determines_in : (form : ListForm) (g : Grammar) (o : Option (List Attribute)) (ws : List AttributeReading) → if_some o (λ es. attribute_readings g no_kind_in_force (kept form es)) ≡ some_list ws →
+    (if_read false (λ es. all_accepted g no_kind_in_force (kept form es)) o ≡ true) × (if_read [] (λ es. list_text (canonical_forms g no_kind_in_force (kept form es))) o ≡ list_text (map (λ (w : AttributeReading). w.entry) ws)) × (if_read true (λ es. all_fit g no_kind_in_force (kept form es)) o ≡ all_readings_fit ws)
 unfolding some_list
 determines_in form g None ws h = absurd cc
 determines_in form g (Some es) ws h =
     let ks = kept form es in
-    let t = determines_by g ks ws (all_accepted g nothing ks) refl (sym (found g nothing ks) ∙ h) in
-    (t.0, ap list_text (sym (entries_of g nothing ks) ∙ ap (map (λ (w : Written). w.entry)) t.1), sym (fits_of g nothing ks) ∙ ap all_written_fit t.1)
+    let t = determines_by g ks ws (all_accepted g no_kind_in_force ks) refl (sym (found g no_kind_in_force ks) ∙ h) in
+    (t.0, ap list_text (sym (entries_of g no_kind_in_force ks) ∙ ap (map (λ (w : AttributeReading). w.entry)) t.1), sym (fits_of g no_kind_in_force ks) ∙ ap all_readings_fit t.1)
 
-determines : (form : ListForm) (g : Grammar) (bytes : List ℕ) (ws : List Written) → reading_as form g bytes ≡ Some ws → Determines (list_rule form g) bytes ws
+determines : (form : ListForm) (g : Grammar) (bytes : List ℕ) (ws : List AttributeReading) → reading_as form g bytes ≡ Some ws → IsReading (list_rule form g) bytes ws
 unfolding reading_as some_list
 determines form g bytes ws h =
     let t = determines_in form g (read_as form bytes) ws h in
     record { accepted = t.0; canonical = t.1; fits = t.2 }
 
-rejects_by : (b : Bool) (ws : List Written) → cond b (some_list ws) None ≡ None → b ≡ false
+rejects_by : (b : Bool) (ws : List AttributeReading) → cond b (some_list ws) None ≡ None → b ≡ false
 unfolding some_list
 rejects_by true ws h = absurd cc
 rejects_by false ws h = refl
 
-rejects_in : (form : ListForm) (g : Grammar) (o : Option (List Attribute)) → if_some o (λ es. written_list g nothing (kept form es)) ≡ None → if_read false (λ es. all_accepted g nothing (kept form es)) o ≡ false
+rejects_in : (form : ListForm) (g : Grammar) (o : Option (List Attribute)) → if_some o (λ es. attribute_readings g no_kind_in_force (kept form es)) ≡ None → if_read false (λ es. all_accepted g no_kind_in_force (kept form es)) o ≡ false
 unfolding some_list
 rejects_in form g None h = refl
-rejects_in form g (Some es) h = let ks = kept form es in rejects_by (all_accepted g nothing ks) (written_all g nothing ks) (sym (found g nothing ks) ∙ h)
+rejects_in form g (Some es) h = let ks = kept form es in rejects_by (all_accepted g no_kind_in_force ks) (written_all g no_kind_in_force ks) (sym (found g no_kind_in_force ks) ∙ h)
 
 rejects : (form : ListForm) (g : Grammar) (bytes : List ℕ) → reading_as form g bytes ≡ None → (list_rule form g).accepted bytes ≡ false
 unfolding reading_as

@@ -1,5 +1,5 @@
 -- Two lists are compared attribute by attribute, over any rows.
-use Rattle.std.proofs.Common.{◌≡◌, ℕ, zero, suc, Bool, true, false, cond, List, [], ◌∷◌, length, Option, Some, None, inl, inr, refl, sym, ap, ◌∙◌, arith}
+use Rattle.std.proofs.Common.{◌≡◌, ℕ, Bool, true, false, cond, List, [], ◌∷◌, length, Option, Some, None, inl, inr, refl, sym, ap, ◌∙◌, arith}
 use Rattle.std.specs.Prelude.{◌==◌, ◌&&◌, ◌||◌, option_map}
 use Rattle.std.proofs.lemmas.Bool.{eqb-true, ne_eqb, and_parts}
 use Rattle.std.proofs.lemmas.Bool.Decides.{eqb_tells}
@@ -7,10 +7,11 @@ use Rattle.std.proofs.lemmas.Slice.Eq.{bytes_eq-Decides}
 use Rattle.netlink_packet_core_grammar.specs.Attributes.{Attribute, proper_kind, first_attribute, attributes_within, attributes_of}
 use Rattle.netlink_packet_core_grammar.specs.Texts.{without_nul}
 use Rattle.netlink_packet_core_grammar.proofs.FirstAttribute.{attributes_step, attributes_stop}
-use Rattle.attribute_tables_grammar.specs.Rules.{Rule}
-use Rattle.attribute_tables_grammar.specs.Lists.{Context, nothing, Row, Grammar, row_of, row_at, same_kind, same_attribute, all_same, ListForm, non_empty, ports, first_only, read_as, is_kept, kept, if_read}
-use Rattle.attribute_tables_grammar.specs.Tables.{info_row, info_next, names_grammar}
-use Rattle.attribute_tables_grammar.specs.Sameness.{kept_of, same_kept, same_walk, same_kinds}
+use Rattle.attribute_tables_grammar.specs.Shapes.{text}
+use Rattle.attribute_tables_grammar.specs.Rules.{Rule, shape_rule}
+use Rattle.attribute_tables_grammar.specs.Lists.{Context, no_kind_in_force, Row, Grammar, row_of, row_at, same_kind, same_attribute, all_same, ListForm, non_empty, ports, first_only, read_as, is_kept, kept, if_read}
+use Rattle.attribute_tables_grammar.specs.Tables.{typed, info_row, info_next, names_grammar}
+use Rattle.attribute_tables_grammar.specs.Sameness.{kept_of, same_kept, same_rests, same_kind_by_first_row}
 use Rattle.attribute_tables_grammar.specs.Laws.{KeptAttributesUnfold, SamenessUnfolds, AttributesAreCompared}
 use Rattle.attribute_tables_grammar.proofs.Kept.{kept_more, kept_past, kept_none, bytes_not_empty, read_walked, read_none}
 
@@ -67,9 +68,9 @@ never_following f e h (Some es) = h es
 -- ---- whole lists, by their list kind
 
 same_read : Grammar → ListForm → Option (List Attribute) → Option (List Attribute) → Bool
-same_read g form o p = if_read false (λ es. if_read false (λ fs. all_same g nothing nothing (kept form es) (kept form fs)) p) o
+same_read g form o p = if_read false (λ es. if_read false (λ fs. all_same g no_kind_in_force no_kind_in_force (kept form es) (kept form fs)) p) o
 
-plain_whole : (form : ListForm) (g : Grammar) (o p : Option (List Attribute)) → same_kept g nothing nothing (option_map (kept form) o) (option_map (kept form) p) ≡ same_read g form o p
+plain_whole : (form : ListForm) (g : Grammar) (o p : Option (List Attribute)) → same_kept g no_kind_in_force no_kind_in_force (option_map (kept form) o) (option_map (kept form) p) ≡ same_read g form o p
 unfolding same_kept same_read
 plain_whole form g None p = refl
 plain_whole form g (Some es) None = refl
@@ -89,7 +90,7 @@ and_end true = refl
 and_end false = refl
 
 pub sameness_unfolds : SamenessUnfolds
-unfolding same_walk same_kept kept_of same_read single all_same
+unfolding same_rests same_kept kept_of same_read single all_same
 sameness_unfolds = record {
   whole = λ form g a b w v. plain_whole form g (attributes_of a) (attributes_of b) ∙ (λ i. same_read g form (sym (read_walked form a w) i) (sym (read_walked form b v) i));
   more = λ form g c a b e f x y h k s n. first_attributes_equal g c e f s n (kept_of form x) (kept_of form y) ∙ (λ i. same_kept g c c (sym h i) (sym k i));
@@ -101,7 +102,7 @@ sameness_unfolds = record {
   right_stopped = λ form g c a b k. never (λ es. false) (λ es. refl) (kept_of form a) ∙ ap (same_kept g c c (kept_of form a)) (sym k);
   no_left = λ form g a b l w. ap (λ o. same_read g form o (read_as form b)) (sym (read_none form a l w));
   no_right = λ form g a b l w. no_right_read g form (read_as form a) ∙ ap (same_read g form (read_as form a)) (sym (read_none form b l w));
-  first_both = λ g a b e f x y h k. and_end (same_attribute (row_of g nothing e) (row_of g nothing f) e f) ∙ (λ i. same_read g first_only (single (sym h i)) (single (sym k i)));
+  first_both = λ g a b e f x y h k. and_end (same_attribute (row_of g no_kind_in_force e) (row_of g no_kind_in_force f) e f) ∙ (λ i. same_read g first_only (single (sym h i)) (single (sym k i)));
   no_first_left = λ g a b h. ap (λ o. same_read g first_only (single o) (single (first_attribute b))) (sym h);
   no_first_right = λ g a b k. no_right_read g first_only (single (first_attribute a)) ∙ ap (λ o. same_read g first_only (single (first_attribute a)) (single o)) (sym k);
   non_empty = λ g a b l m. λ i. same_read g non_empty (sym (bytes_not_empty a l) i) (sym (bytes_not_empty b m) i);
@@ -125,7 +126,7 @@ of_two_rows true true x y = refl
 of_two_rows true false x y = refl
 of_two_rows false u x y = refl
 
-by_kind : (f : ℕ → Row) (e h : Attribute) → (same_kinds (row_at f e) e.kind h.kind && (row_at f e).rule.same e.payload h.payload) ≡ same_attribute (row_at f e) (row_at f h) e h
+by_kind : (f : ℕ → Row) (e h : Attribute) → (same_kind_by_first_row (row_at f e) e.kind h.kind && (row_at f e).rule.same e.payload h.payload) ≡ same_attribute (row_at f e) (row_at f h) e h
 by_kind f e h =
     let k = proper_kind e.kind in
     let l = proper_kind h.kind in
@@ -147,11 +148,16 @@ kinds_proper : (b : Bool) (k l : ℕ) → cond b (proper_kind k == proper_kind l
 kinds_proper true k l h = eqb-true (proper_kind k) (proper_kind l) h
 kinds_proper false k l h = ap proper_kind (eqb-true k l h)
 
+pick_next : (is_kind is_port_kind : Bool) (r : Row) (c d : Context) (p p' : List ℕ) →
+    (cond is_kind (typed (shape_rule text)) (cond is_port_kind (typed (shape_rule text)) r)).rule.same p p' ≡ true →
+    cond is_kind (record { kind = Some (without_nul p); port_kind = c.port_kind }) (cond is_port_kind (record { kind = c.kind; port_kind = Some (without_nul p) }) d) ≡
+    cond is_kind (record { kind = Some (without_nul p'); port_kind = c.port_kind }) (cond is_port_kind (record { kind = c.kind; port_kind = Some (without_nul p') }) d)
+pick_next true b r c d p p' s = ap (λ (n : List ℕ). record { kind = Some n; port_kind = c.port_kind }) ((bytes_eq-Decides (without_nul p) (without_nul p')).0 s)
+pick_next false true r c d p p' s = ap (λ (n : List ℕ). record { kind = c.kind; port_kind = Some n }) ((bytes_eq-Decides (without_nul p) (without_nul p')).0 s)
+pick_next false false r c d p p' s = refl
+
 next_at : (d q : List ℕ → Rule) (c : Context) (k : ℕ) (p p' : List ℕ) → (info_row d q c k).rule.same p p' ≡ true → info_next c k p ≡ info_next c k p'
-next_at d q c (suc zero) p p' s = ap (λ n. record { kind = Some n; port_kind = c.port_kind }) ((bytes_eq-Decides (without_nul p) (without_nul p')).0 s)
-next_at d q c (suc (suc (suc (suc zero)))) p p' s = ap (λ n. record { kind = c.kind; port_kind = Some n }) ((bytes_eq-Decides (without_nul p) (without_nul p')).0 s)
-next_at d q c (suc (suc (suc (suc (suc (suc k)))))) p p' s = refl
-next_at d q c k p p' s = refl
+next_at d q c k p p' s = pick_next (k == 1) (k == 4) _ c _ p p' s
 
 one_context : (data' ports : List ℕ → Rule) (c : Context) (e h : Attribute) → same_attribute (row_of (names_grammar data' ports) c e) (row_of (names_grammar data' ports) c h) e h ≡ true → (names_grammar data' ports).next c e ≡ (names_grammar data' ports).next c h
 one_context d q c e h s =

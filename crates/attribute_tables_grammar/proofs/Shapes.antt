@@ -7,11 +7,11 @@ use Rattle.std.proofs.lemmas.List.{take_at, drop_at, length-replicate, length-ta
 use Rattle.std.proofs.lemmas.Slice.Eq.{bytes_eq-Decides}
 use Rattle.netlink_packet_core_grammar.specs.Attributes.{nla_align, zeros}
 use Rattle.netlink_packet_core_grammar.specs.Texts.{without_nul}
-use Rattle.netlink_packet_core_grammar.specs.Booleans.{boolean_of, one_of}
+use Rattle.netlink_packet_core_grammar.specs.Booleans.{boolean_of, is_one}
 use Rattle.netlink_packet_core_grammar.specs.Bytes.{AreBytes}
 use Rattle.netlink_packet_core_grammar.proofs.Texts.{without_nul-end, without_nul-length, without_nul-bytes}
 use Rattle.netlink_packet_core_grammar.proofs.Bytes.{AreBytes-append, AreBytes-take, AreBytes-zeros, AreBytes-map}
-use Rattle.attribute_tables_grammar.specs.Shapes.{Shape, nonzero_byte, one_byte, boolean_of_four, presence, text, raw, fixed_record, id_and_boolean, resized, number, number_boolean, accepts, meaning, encoding, shape_bounded}
+use Rattle.attribute_tables_grammar.specs.Shapes.{Shape, boolean_if_nonzero, boolean_if_one, boolean_of_four, presence, text, raw, fixed_record, id_and_boolean, resized, number, number_boolean, accepts, meaning, encoding, shape_bounded}
 use Rattle.attribute_tables_grammar.specs.Rules.{Lawful, shape_rule}
 
 boolean_idempotent : (n : ℕ) → boolean_of (boolean_of n) ≡ boolean_of n
@@ -26,16 +26,16 @@ boolean_small : (n : ℕ) → boolean_of n < 256
 boolean_small zero = omega arith
 boolean_small (suc n) = omega arith
 
-one_read_back : (n : ℕ) → one_of (one_of n) ≡ one_of n
+one_read_back : (n : ℕ) → is_one (is_one n) ≡ is_one n
 one_read_back zero = refl
 one_read_back (suc zero) = refl
 one_read_back (suc (suc n)) = refl
 
-of_kind_one_canonical : (p : List ℕ) → map one_of (map one_of p) ≡ map one_of p
+of_kind_one_canonical : (p : List ℕ) → map is_one (map is_one p) ≡ map is_one p
 of_kind_one_canonical [] = refl
-of_kind_one_canonical (b ∷ p) = ap (λ x. x ∷ map one_of (map one_of p)) (one_read_back b) ∙ ap (λ x. one_of b ∷ x) (of_kind_one_canonical p)
+of_kind_one_canonical (b ∷ p) = ap (λ x. x ∷ map is_one (map is_one p)) (one_read_back b) ∙ ap (λ x. is_one b ∷ x) (of_kind_one_canonical p)
 
-one_small : (n : ℕ) → one_of n < 256
+one_small : (n : ℕ) → is_one n < 256
 one_small zero = omega arith
 one_small (suc zero) = omega arith
 one_small (suc (suc n)) = omega arith
@@ -69,8 +69,8 @@ resized_length : (n : ℕ) (p : List ℕ) → length (take n (p ++ zeros n)) ≡
 resized_length n p = length-take-le n (p ++ zeros n) (omega (arith, length-append p (zeros n), length-replicate {A = ℕ} n 0))
 
 pub back : (s : Shape) (p : List ℕ) → accepts s p ≡ true → meaning s (encoded s p) ≡ meaning s p
-back nonzero_byte p a = booleans_idempotent p
-back one_byte p a = of_kind_one_canonical p
+back boolean_if_nonzero p a = booleans_idempotent p
+back boolean_if_one p a = of_kind_one_canonical p
 back boolean_of_four p a = number_boolean_idempotent p
 back text p a = without_nul-end (without_nul p)
 back (fixed_record m n) p a = take_at (take m p) (zeros (n - m)) m (length-take-le m p (leb-true m (length p) a))
@@ -79,8 +79,8 @@ back (resized n) p a = take_at (take n (p ++ zeros n)) (zeros n) n (resized_leng
 back s p a = refl
 
 good : (s : Shape) (p : List ℕ) → accepts s p ≡ true → accepts s (encoded s p) ≡ true
-good nonzero_byte p a = ap (λ x. eqb x 1) (length-map p boolean_of) ∙ a
-good one_byte p a = ap (λ x. eqb x 1) (length-map p one_of) ∙ a
+good boolean_if_nonzero p a = ap (λ x. eqb x 1) (length-map p boolean_of) ∙ a
+good boolean_if_one p a = ap (λ x. eqb x 1) (length-map p is_one) ∙ a
 good boolean_of_four p a = refl
 good presence p a = refl
 good text p a = ap is_utf8 (without_nul-end (without_nul p)) ∙ a
@@ -94,8 +94,8 @@ up_next : (a b : ℕ) → a ≤ b + 4 → nla_align (4 + a) ≤ 77 * (4 + b)
 up_next a b h = omega arith
 
 bound : (s : Shape) (p : List ℕ) → shape_bounded s ≡ true → accepts s p ≡ true → nla_align (4 + length (encoded s p)) ≤ 77 * (4 + length p)
-bound nonzero_byte p m a = up_next _ (length p) (omega (arith, length-map p boolean_of))
-bound one_byte p m a = up_next _ (length p) (omega (arith, length-map p one_of))
+bound boolean_if_nonzero p m a = up_next _ (length p) (omega (arith, length-map p boolean_of))
+bound boolean_if_one p m a = up_next _ (length p) (omega (arith, length-map p is_one))
 bound boolean_of_four p m a = up_next 4 (length p) (omega arith)
 bound presence p m a = up_next 0 (length p) (omega arith)
 bound text p m a = up_next _ (length p) (omega (arith, length-append (without_nul p) (0 ∷ []), without_nul-length p))
@@ -113,8 +113,8 @@ bound (resized n) p m a =
 bound s p m a = up_next (length p) (length p) (omega arith)
 
 bytes : (s : Shape) (p : List ℕ) → AreBytes p → AreBytes (encoded s p)
-bytes nonzero_byte p h = AreBytes-map boolean_of boolean_small p
-bytes one_byte p h = AreBytes-map one_of one_small p
+bytes boolean_if_nonzero p h = AreBytes-map boolean_of boolean_small p
+bytes boolean_if_one p h = AreBytes-map is_one one_small p
 bytes boolean_of_four p h = number_boolean_small p
 bytes presence p h = tt
 bytes text p h = AreBytes-append (without_nul p) (0 ∷ []) (without_nul-bytes p h) (omega arith, tt)

@@ -6,7 +6,7 @@ use Rattle.netlink_packet_core_grammar.specs.Attributes.{Attribute, proper_kind,
 use Rattle.netlink_packet_core_grammar.specs.Bytes.{AreBytes}
 use Rattle.netlink_packet_core_grammar.proofs.Attributes.{sized}
 use Rattle.netlink_packet_core_grammar.proofs.Bytes.{AreBytes-append, AreBytes-attribute_text, AreBytes-first_attribute}
-use Rattle.attribute_tables_grammar.specs.Lists.{Context, Grammar, row_of, all_accepted, rewrite, rewritten, all_fit, attributes_inside, LawfulGrammar}
+use Rattle.attribute_tables_grammar.specs.Lists.{Context, Grammar, row_of, all_accepted, canonical_form, canonical_forms, all_fit, attributes_inside, LawfulGrammar}
 use Rattle.attribute_tables_grammar.proofs.Attributes.{written_kind_small_by}
 
 -- ---- the bytes that attributes take
@@ -58,8 +58,8 @@ AreAttributes-filter t (e ∷ es) h = go (t e) (AreAttributes-filter t es h.2)
     go false k = k
 
 module _ (g : Grammar) (lawful : LawfulGrammar g) where
-  pub rewritten_small : (c : Context) (es : List Attribute) → all_accepted g c es ≡ true → list_size (rewritten g c es) ≤ 77 * weight es
-  unfolding all_accepted rewritten
+  pub rewritten_small : (c : Context) (es : List Attribute) → all_accepted g c es ≡ true → list_size (canonical_forms g c es) ≤ 77 * weight es
+  unfolding all_accepted canonical_forms
   rewritten_small c [] a = omega arith
   rewritten_small c (e ∷ es) a =
       let b = and_parts _ _ a in
@@ -72,8 +72,8 @@ module _ (g : Grammar) (lawful : LawfulGrammar g) where
       let b = and_parts _ _ a in
       omega (arith, (lawful.rows c (proper_kind e.kind)).counted e.payload b.0, counts (g.next c e) es b.1)
 
-  pub text_bytes : (c : Context) (es : List Attribute) → all_accepted g c es ≡ true → all_fit g c es ≡ true → AreAttributes es → AreBytes (list_text (rewritten g c es))
-  unfolding all_accepted all_fit rewritten list_text
+  pub text_bytes : (c : Context) (es : List Attribute) → all_accepted g c es ≡ true → all_fit g c es ≡ true → AreAttributes es → AreBytes (list_text (canonical_forms g c es))
+  unfolding all_accepted all_fit canonical_forms list_text
   text_bytes c [] a f h = tt
   text_bytes c (e ∷ es) a f h =
       let b = and_parts _ _ a in
@@ -81,6 +81,6 @@ module _ (g : Grammar) (lawful : LawfulGrammar g) where
       let f1 = and_parts (nat_le (4 + length (r.rule.canonical e.payload)) 65535 && r.rule.fits e.payload) (all_fit g (g.next c e) es) f in
       let f2 = and_parts (nat_le (4 + length (r.rule.canonical e.payload)) 65535) (r.rule.fits e.payload) f1.0 in
       let inside = (lawful.rows c (proper_kind e.kind)).bytes e.payload b.0 f2.1 h.1 in
-      AreBytes-append (attribute_text (rewrite r e)) (list_text (rewritten g (g.next c e) es))
-      (AreBytes-attribute_text (rewrite r e) (leb-true _ _ f2.0) (written_kind_small_by r.is_typed r.is_nested e.kind h.0) inside)
+      AreBytes-append (attribute_text (canonical_form r e)) (list_text (canonical_forms g (g.next c e) es))
+      (AreBytes-attribute_text (canonical_form r e) (leb-true _ _ f2.0) (written_kind_small_by r.is_typed r.is_nested e.kind h.0) inside)
       (text_bytes (g.next c e) es b.1 f1.1 h.2)

@@ -1,5 +1,5 @@
 -- Every payload of a table that passes the checks has a lawful rule.
-use Rattle.std.proofs.Common.{◌≡◌, ℕ, zero, suc, Bool, true, false, List, [], ◌∷◌, ◌++◌, Option, Some, None, refl, sym, ap, ◌∙◌, arith}
+use Rattle.std.proofs.Common.{◌≡◌, ℕ, Bool, true, false, cond, List, [], ◌∷◌, ◌++◌, Option, Some, None, refl, sym, ap, ◌∙◌, arith}
 use Rattle.std.specs.Prelude.{bytes_eq, ◌==◌}
 use Rattle.std.proofs.lemmas.Bool.{and_parts}
 use Rattle.std.proofs.lemmas.Slice.Eq.{bytes_eq-Decides}
@@ -9,12 +9,12 @@ use Rattle.netlink_packet_core_grammar.proofs.Texts.{without_nul-end}
 use Rattle.attribute_tables_grammar.specs.Shapes.{Shape, text, raw, never, shape_bounded}
 use Rattle.attribute_tables_grammar.specs.Rules.{Rule, Lawful, shape_rule}
 use Rattle.attribute_tables_grammar.specs.Lists.{Context, Row, LawfulGrammar}
-use Rattle.attribute_tables_grammar.specs.Peers.{Peer, LawfulPeer, bytes_peer, peer_rule}
-use Rattle.attribute_tables_grammar.specs.Tables.{Payload, Payload.plain, Payload.peer, Payload.list, Payload.link_info, Table, Table.end, Table.row, Names, Names.others, Names.name, row_in_force, info_row, info_next, names_grammar, rule, row_in, named, grammar, payload_bounded, rows_bounded, names_bounded}
+use Rattle.attribute_tables_grammar.specs.Peers.{RuleOfPeers, LawfulPeer, bytes_peer, peer_rule}
+use Rattle.attribute_tables_grammar.specs.Tables.{Payload, Payload.plain, Payload.peer, Payload.list, Payload.link_info, Table, Table.end, Table.row, Names, Names.others, Names.name, typed, row_in_force, info_row, info_next, names_grammar, rule, row_in, rule_of_name, grammar, payload_bounded, rows_bounded, names_bounded}
 use Rattle.attribute_tables_grammar.proofs.Shapes.{shape_lawful}
 use Rattle.attribute_tables_grammar.proofs.Lists.{list_lawful}
 
-pub peer_lawful : (p : Peer) → LawfulPeer p → Lawful (peer_rule p)
+pub peer_lawful : (p : RuleOfPeers) → LawfulPeer p → Lawful (peer_rule p)
 peer_lawful p l = record {
   canonical_accepted = λ b a e. (l.canonical_accepted b a, refl);
   canonical_fits = λ b a f. refl;
@@ -48,30 +48,38 @@ module _ (P : Rule → Type 0) where
   pick_rule true r s p q = p
   pick_rule false r s p q = q
 
+  either_row : (b : Bool) (r s : Row) → P r.rule → P s.rule → P (cond b r s).rule
+  either_row true r s p q = p
+  either_row false r s p q = q
+
   module _ (shapes : (s : Shape) → shape_bounded s ≡ true → P (shape_rule s)) where
     in_force : (o : Option (List ℕ)) (f : List ℕ → Rule) → ((n : List ℕ) → P (f n)) → P (row_in_force o f).rule
     in_force None f h = shapes never refl
     in_force (Some n) f h = h n
 
     pub info_rows : (data' ports : List ℕ → Rule) → ((n : List ℕ) → P (data' n)) → ((n : List ℕ) → P (ports n)) → (c : Context) (k : ℕ) → P (info_row data' ports c k).rule
-    info_rows data' ports d p c zero = shapes raw refl
-    info_rows data' ports d p c (suc zero) = shapes text refl
-    info_rows data' ports d p c (suc (suc zero)) = in_force c.kind data' d
-    info_rows data' ports d p c (suc (suc (suc zero))) = in_force c.kind (λ n. shape_rule raw) (λ n. shapes raw refl)
-    info_rows data' ports d p c (suc (suc (suc (suc zero)))) = shapes text refl
-    info_rows data' ports d p c (suc (suc (suc (suc (suc zero))))) = in_force c.port_kind ports p
-    info_rows data' ports d p c (suc (suc (suc (suc (suc (suc k)))))) = shapes raw refl
+    info_rows data' ports d p c k =
+        either_row (k == 1) _ _ (shapes text refl)
+        (either_row (k == 4) _ _ (shapes text refl)
+        (either_row (k == 5) _ _ (in_force c.port_kind ports p)
+        (either_row (k == 2) _ _ (in_force c.kind data' d)
+        (either_row (k == 3) _ _ (in_force c.kind (λ n. shape_rule raw) (λ n. shapes raw refl)) (shapes raw refl)))))
 
 -- ---- link info
 
 same_names : (p q : List ℕ) → without_nul p ++ 0 ∷ [] ≡ without_nul q ++ 0 ∷ [] → without_nul p ≡ without_nul q
 same_names p q h = sym (without_nul-end (without_nul p)) ∙ ap without_nul h ∙ without_nul-end (without_nul q)
 
+pick_next : (is_kind is_port_kind : Bool) (r : Row) (c d : Context) (p q : List ℕ) →
+    (cond is_kind (typed (shape_rule text)) (cond is_port_kind (typed (shape_rule text)) r)).rule.canonical p ≡ (cond is_kind (typed (shape_rule text)) (cond is_port_kind (typed (shape_rule text)) r)).rule.canonical q →
+    cond is_kind (record { kind = Some (without_nul p); port_kind = c.port_kind }) (cond is_port_kind (record { kind = c.kind; port_kind = Some (without_nul p) }) d) ≡
+    cond is_kind (record { kind = Some (without_nul q); port_kind = c.port_kind }) (cond is_port_kind (record { kind = c.kind; port_kind = Some (without_nul q) }) d)
+pick_next true b r c d p q h = ap (λ (n : List ℕ). record { kind = Some n; port_kind = c.port_kind }) (same_names p q h)
+pick_next false true r c d p q h = ap (λ (n : List ℕ). record { kind = c.kind; port_kind = Some n }) (same_names p q h)
+pick_next false false r c d p q h = refl
+
 info_steps : (data' ports : List ℕ → Rule) (c : Context) (k : ℕ) (p q : List ℕ) → (info_row data' ports c k).rule.canonical p ≡ (info_row data' ports c k).rule.canonical q → info_next c k p ≡ info_next c k q
-info_steps data' ports c (suc zero) p q h = ap (λ (n : List ℕ). record { kind = Some n; port_kind = c.port_kind }) (same_names p q h)
-info_steps data' ports c (suc (suc (suc (suc zero)))) p q h = ap (λ (n : List ℕ). record { kind = c.kind; port_kind = Some n }) (same_names p q h)
-info_steps data' ports c (suc (suc (suc (suc (suc (suc k)))))) p q h = refl
-info_steps data' ports c k p q h = refl
+info_steps data' ports c k p q h = pick_next (k == 1) (k == 4) _ c _ p q h
 
 -- ---- tables
 
@@ -81,7 +89,7 @@ names_lawful_by data' ports d p = record {
   steps = λ c e f k h. info_steps data' ports c (proper_kind e.kind) e.payload f.payload h ∙ ap (λ x. info_next c x f.payload) k;
 }
 
-module _ (p : Peer) (lawful_peer : LawfulPeer p) where
+module _ (p : RuleOfPeers) (lawful_peer : LawfulPeer p) where
   mutual
     pub lawful : (s : Payload) → payload_bounded s ≡ true → Lawful (rule p s)
     lawful (plain s) m = shape_lawful s m
@@ -89,7 +97,7 @@ module _ (p : Peer) (lawful_peer : LawfulPeer p) where
     lawful (list form t) m = list_lawful form (grammar p t) (record { rows = λ c k. rows_lawful t m k; steps = λ c e f k h. refl })
     lawful (link_info form data' ports) m =
         let b = and_parts (names_bounded data') (names_bounded ports) m in
-        list_lawful form (names_grammar (named p data') (named p ports)) (names_lawful_by (named p data') (named p ports) (names_lawful data' b.0) (names_lawful ports b.1))
+        list_lawful form (names_grammar (rule_of_name p data') (rule_of_name p ports)) (names_lawful_by (rule_of_name p data') (rule_of_name p ports) (names_lawful data' b.0) (names_lawful ports b.1))
 
     pub rows_lawful : (t : Table) → rows_bounded t ≡ true → (k : ℕ) → Lawful (row_in p t k).rule
     rows_lawful end m k = shape_lawful raw refl
@@ -97,14 +105,14 @@ module _ (p : Peer) (lawful_peer : LawfulPeer p) where
         let b = and_parts (payload_bounded s) (rows_bounded t) m in
         pick_row Lawful (k == l) (record { is_typed = true; is_nested = n; rule = rule p s }) (row_in p t k) (lawful s b.0) (rows_lawful t b.1 k)
 
-    pub names_lawful : (ns : Names) → names_bounded ns ≡ true → (n : List ℕ) → Lawful (named p ns n)
+    pub names_lawful : (ns : Names) → names_bounded ns ≡ true → (n : List ℕ) → Lawful (rule_of_name p ns n)
     names_lawful others m n = shape_lawful raw refl
     names_lawful (name l s ns) m n =
         let b = and_parts (payload_bounded s) (names_bounded ns) m in
-        pick_rule Lawful (bytes_eq n l) (rule p s) (named p ns n) (lawful s b.0) (names_lawful ns b.1 n)
+        pick_rule Lawful (bytes_eq n l) (rule p s) (rule_of_name p ns n) (lawful s b.0) (names_lawful ns b.1 n)
 
   pub table_lawful : (t : Table) → rows_bounded t ≡ true → LawfulGrammar (grammar p t)
   table_lawful t m = record { rows = λ c k. rows_lawful t m k; steps = λ c e f k h. refl }
 
-  pub info_lawful : (data' ports : Names) → names_bounded data' ≡ true → names_bounded ports ≡ true → LawfulGrammar (names_grammar (named p data') (named p ports))
-  info_lawful data' ports d q = names_lawful_by (named p data') (named p ports) (names_lawful data' d) (names_lawful ports q)
+  pub info_lawful : (data' ports : Names) → names_bounded data' ≡ true → names_bounded ports ≡ true → LawfulGrammar (names_grammar (rule_of_name p data') (rule_of_name p ports))
+  info_lawful data' ports d q = names_lawful_by (rule_of_name p data') (rule_of_name p ports) (names_lawful data' d) (names_lawful ports q)

@@ -6,8 +6,8 @@ use Rattle.netlink_packet_core_grammar.specs.Attributes.{nla_align, Attribute, a
 use Rattle.netlink_packet_core_grammar.proofs.Sizes.{length-attribute_text}
 use Rattle.netlink_packet_core_grammar.proofs.FirstAttribute.{attributes_step}
 use Rattle.attribute_tables_grammar.specs.Rules.{Rule}
-use Rattle.attribute_tables_grammar.specs.Lists.{Context, nothing, Grammar, row_of, rewrite, rewritten, ListForm, first_only, is_kept, kept, if_read, list_rule}
-use Rattle.attribute_tables_grammar.specs.Walks.{Measure, measure, with_header, dropped, both, closed, walk, measures, IsWalked}
+use Rattle.attribute_tables_grammar.specs.Lists.{Context, no_kind_in_force, Grammar, row_of, canonical_form, canonical_forms, ListForm, first_only, is_kept, kept, if_read, list_rule}
+use Rattle.attribute_tables_grammar.specs.Walks.{Measure, measure, with_header, dropped, both, whole_measure, measure_of_rest, list_measure, IsWalked}
 use Rattle.attribute_tables_grammar.specs.AlreadyCanonical.{text_from}
 use Rattle.attribute_tables_grammar.specs.Writing.{IsWritable, WrittenSoFar}
 use Rattle.attribute_tables_grammar.specs.Laws.{WritingUnfolds}
@@ -59,48 +59,48 @@ unfolding text_or
 split e None t h = absurd cc
 split e (Some x) t h = record { text = x; rest_text = refl; whole = sym (ap text_or h) }
 
-past_first : (form : ListForm) (g : Grammar) (c : Context) (e : Attribute) → is_kept form e ≡ false → (o : Option (List Attribute)) → option_map (λ es. list_text (rewritten g c (kept form es))) (option_map (λ es. e ∷ es) o) ≡ option_map (λ es. list_text (rewritten g c (kept form es))) o
+past_first : (form : ListForm) (g : Grammar) (c : Context) (e : Attribute) → is_kept form e ≡ false → (o : Option (List Attribute)) → option_map (λ es. list_text (canonical_forms g c (kept form es))) (option_map (λ es. e ∷ es) o) ≡ option_map (λ es. list_text (canonical_forms g c (kept form es))) o
 past_first form g c e k None = refl
-past_first form g c e k (Some es) = ap (λ ks. Some (list_text (rewritten g c ks))) (kept_past form e es k)
+past_first form g c e k (Some es) = ap (λ ks. Some (list_text (canonical_forms g c ks))) (kept_past form e es k)
 
 text_past : (form : ListForm) (g : Grammar) (c : Context) (rest : List ℕ) (e : Attribute) (after : List ℕ) → first_attribute rest ≡ Some (e, after) → is_kept form e ≡ false → text_from form g c rest ≡ text_from form g c after
 unfolding text_from
-text_past form g c rest e after f k = ap (option_map (λ es. list_text (rewritten g c (kept form es)))) (attributes_step rest e after f) ∙ past_first form g c e k (attributes_of after)
+text_past form g c rest e after f k = ap (option_map (λ es. list_text (canonical_forms g c (kept form es)))) (attributes_step rest e after f) ∙ past_first form g c e k (attributes_of after)
 
 -- ---- the start of a walk
 
-closed_fits : (form : ListForm) (m : Measure) → (closed form m).fits ≡ m.fits
+closed_fits : (form : ListForm) (m : Measure) → (whole_measure form m).fits ≡ m.fits
 closed_fits ListForm.ports m = refl
 closed_fits form m = refl
 
-begins_by : (form : ListForm) (g : Grammar) (bytes : List ℕ) (o : Option Measure) → walk form g nothing bytes ≡ o → option_map (closed form) o ≡ measure (list_rule form g) bytes → (list_rule form g).accepted bytes ≡ true → (list_rule form g).fits bytes ≡ true → Fitting (walk form g nothing bytes)
+begins_by : (form : ListForm) (g : Grammar) (bytes : List ℕ) (o : Option Measure) → measure_of_rest form g no_kind_in_force bytes ≡ o → option_map (whole_measure form) o ≡ measure (list_rule form g) bytes → (list_rule form g).accepted bytes ≡ true → (list_rule form g).fits bytes ≡ true → Fitting (measure_of_rest form g no_kind_in_force bytes)
 begins_by form g bytes None w h a f = let n = rejects (list_rule form g) bytes h in absurd (let x : true ≡ false = sym a ∙ n in cc)
 begins_by form g bytes (Some m) w h a f =
-    let t = determines (list_rule form g) bytes (closed form m) h in
+    let t = determines (list_rule form g) bytes (whole_measure form m) h in
     record { rest_measure = m; walked = w; fits = sym (closed_fits form m) ∙ t.fits ∙ f }
 
-begins : (form : ListForm) (g : Grammar) (bytes : List ℕ) → IsWalked form bytes → (list_rule form g).accepted bytes ≡ true → (list_rule form g).fits bytes ≡ true → Fitting (walk form g nothing bytes)
-begins form g bytes w = begins_by form g bytes (walk form g nothing bytes) refl (whole_by form g bytes w ∙ walk_list form g bytes)
+begins : (form : ListForm) (g : Grammar) (bytes : List ℕ) → IsWalked form bytes → (list_rule form g).accepted bytes ≡ true → (list_rule form g).fits bytes ≡ true → Fitting (measure_of_rest form g no_kind_in_force bytes)
+begins form g bytes w = begins_by form g bytes (measure_of_rest form g no_kind_in_force bytes) refl (whole_by form g bytes w ∙ walk_list form g bytes)
 
 -- a list that is walked has an encoding
-has_text_by : (form : ListForm) (g : Grammar) (c : Context) (o : Option (List Attribute)) (m : Measure) → if_some o (measures form g c) ≡ Some m → (t : List ℕ) × (option_map (λ es. list_text (rewritten g c (kept form es))) o ≡ Some t)
+has_text_by : (form : ListForm) (g : Grammar) (c : Context) (o : Option (List Attribute)) (m : Measure) → if_some o (list_measure form g c) ≡ Some m → (t : List ℕ) × (option_map (λ es. list_text (canonical_forms g c (kept form es))) o ≡ Some t)
 has_text_by form g c None m h = absurd cc
-has_text_by form g c (Some es) m h = (list_text (rewritten g c (kept form es)), refl)
+has_text_by form g c (Some es) m h = (list_text (canonical_forms g c (kept form es)), refl)
 
-has_text : (form : ListForm) (g : Grammar) (c : Context) (rest : List ℕ) (m : Measure) → walk form g c rest ≡ Some m → (t : List ℕ) × (text_from form g c rest ≡ Some t)
-unfolding walk text_from
+has_text : (form : ListForm) (g : Grammar) (c : Context) (rest : List ℕ) (m : Measure) → measure_of_rest form g c rest ≡ Some m → (t : List ℕ) × (text_from form g c rest ≡ Some t)
+unfolding measure_of_rest text_from
 has_text form g c rest m h = has_text_by form g c (attributes_of rest) m h
 
 -- ---- one more attribute
 
 record Next (form : ListForm) (g : Grammar) (c : Context) (e : Attribute) (after text : List ℕ) : Type 0 where
-  first_measure : FirstAndRest (measure (row_of g c e).rule e.payload) (walk form g (g.next c e) after)
-  split : Split (attribute_text (rewrite (row_of g c e) e)) (text_from form g (g.next c e) after) text
+  first_measure : FirstAndRest (measure (row_of g c e).rule e.payload) (measure_of_rest form g (g.next c e) after)
+  split : Split (attribute_text (canonical_form (row_of g c e) e)) (text_from form g (g.next c e) after) text
 
 next : (form : ListForm) (g : Grammar) (bytes old out rest : List ℕ) (c : Context) (e : Attribute) (after : List ℕ) → first_attribute rest ≡ Some (e, after) → is_kept form e ≡ true → (w : WrittenSoFar form g bytes old out c rest) → Next form g c e after w.text
 next form g bytes old out rest c e after f k w = record {
-  first_measure = with_first (measure (row_of g c e).rule e.payload) (walk form g (g.next c e) after) w.rest_measure (sym (walk_step form g c rest e after true f k) ∙ w.walked) w.fits;
-  split = split (attribute_text (rewrite (row_of g c e) e)) (text_from form g (g.next c e) after) w.text (sym (step form g c rest e after f k) ∙ w.rest_text);
+  first_measure = with_first (measure (row_of g c e).rule e.payload) (measure_of_rest form g (g.next c e) after) w.rest_measure (sym (walk_step form g c rest e after true f k) ∙ w.walked) w.fits;
+  split = split (attribute_text (canonical_form (row_of g c e) e)) (text_from form g (g.next c e) after) w.text (sym (step form g c rest e after f k) ∙ w.rest_text);
 }
 
 is_writable : (r : Rule) (p : List ℕ) (capacity : ℕ) (m : Measure) → measure r p ≡ Some m → nat_le (4 + m.size) 65535 ≡ true → m.fits ≡ true → nla_align (4 + length (r.canonical p)) ≤ capacity → IsWritable r p capacity
@@ -114,11 +114,11 @@ nothing_left (b ∷ rest) l = absurd (omega arith)
 
 -- ---- the first attribute only
 
-single_text : (g : Grammar) (bytes : List ℕ) (e : Attribute) (after : List ℕ) → first_attribute bytes ≡ Some (e, after) → (list_rule first_only g).canonical bytes ≡ attribute_text (rewrite (row_of g nothing e) e)
-unfolding rewritten list_text
+single_text : (g : Grammar) (bytes : List ℕ) (e : Attribute) (after : List ℕ) → first_attribute bytes ≡ Some (e, after) → (list_rule first_only g).canonical bytes ≡ attribute_text (canonical_form (row_of g no_kind_in_force e) e)
+unfolding canonical_forms list_text
 single_text g bytes e after f =
-    ap (λ o. if_read [] (λ es. list_text (rewritten g nothing es)) (option_map (λ (x : Attribute × List ℕ). x.0 ∷ []) o)) f
-    ∙ append-nil (attribute_text (rewrite (row_of g nothing e) e))
+    ap (λ o. if_read [] (λ es. list_text (canonical_forms g no_kind_in_force es)) (option_map (λ (x : Attribute × List ℕ). x.0 ∷ []) o)) f
+    ∙ append-nil (attribute_text (canonical_form (row_of g no_kind_in_force e) e))
 
 header_fits : (o : Option Measure) (r : Rule) (p : List ℕ) → option_map with_header o ≡ measure r p → r.accepted p ≡ true → r.fits p ≡ true → (m : Measure) × (o ≡ Some m) × (nat_le (4 + m.size) 65535 ≡ true) × (m.fits ≡ true)
 header_fits None r p h a f = let n = rejects r p h in absurd (let x : true ≡ false = sym a ∙ n in cc)
@@ -132,21 +132,21 @@ unfolding text_or
 writing_unfolds = record {
   start = λ form g bytes old w a f.
       let b = begins form g bytes w a f in
-      let t = has_text form g nothing bytes b.rest_measure b.walked in
+      let t = has_text form g no_kind_in_force bytes b.rest_measure b.walked in
       record { rest_measure = b.rest_measure; walked = b.walked; fits = b.fits; text = t.0; rest_text = t.1; whole = ap (λ x. old ++ x) (sym (ap text_or t.1) ∙ canonical_text form g bytes w) };
   writable = λ form g bytes old out rest c e after f k w.
       let n = next form g bytes old out rest c e after f k w in
       let x = n.first_measure in
-      let l = length-attribute_text (rewrite (row_of g c e) e) in
+      let l = length-attribute_text (canonical_form (row_of g c e) e) in
       let whole = ap length w.whole in
       let left = length-append out w.text in
       let right = length-append old ((list_rule form g).canonical bytes) in
       let t = ap length n.split.whole in
-      let u = length-append (attribute_text (rewrite (row_of g c e) e)) n.split.text in
+      let u = length-append (attribute_text (canonical_form (row_of g c e) e)) n.split.text in
       is_writable (row_of g c e).rule e.payload (length old + length ((list_rule form g).canonical bytes) - length out) x.inside.rest_measure x.inside.walked x.short x.inside.fits (omega (arith, l, whole, left, right, t, u));
   more = λ form g bytes old out new rest c e after f k is w.
       let n = next form g bytes old out rest c e after f k w in
-      let a = attribute_text (rewrite (row_of g c e) e) in
+      let a = attribute_text (canonical_form (row_of g c e) e) in
       record {
         rest_measure = n.first_measure.following.rest_measure;
         walked = n.first_measure.following.walked;
@@ -156,17 +156,17 @@ writing_unfolds = record {
         whole = ap (λ x. x ++ n.split.text) is ∙ append_assoc out a n.split.text ∙ ap (λ x. out ++ x) (sym n.split.whole) ∙ w.whole;
       };
   past = λ form g bytes old out rest c e after f k w.
-      let b = following (walk form g c after) w.rest_measure (sym (walk_step form g c rest e after false f k) ∙ w.walked) w.fits in
+      let b = following (measure_of_rest form g c after) w.rest_measure (sym (walk_step form g c rest e after false f k) ∙ w.walked) w.fits in
       record { rest_measure = b.rest_measure; walked = b.walked; fits = b.fits; text = w.text; rest_text = sym (text_past form g c rest e after f k) ∙ w.rest_text; whole = w.whole };
   stopped = λ form g bytes old out rest c f l w. let n = sym (walk_stop form g c rest f l) ∙ w.walked in absurd cc;
   done = λ form g bytes old out rest c l w.
       let e : w.text ≡ [] = ap text_or (sym w.rest_text ∙ at_end form g c rest l) ∙ nothing_left rest l in
       sym (append-nil out) ∙ ap (λ x. out ++ x) (sym e) ∙ w.whole;
   single = λ g bytes e after f a fit.
-      let r = (row_of g nothing e).rule in
+      let r = (row_of g no_kind_in_force e).rule in
       let t = single_text g bytes e after f in
       let h = header_fits (measure r e.payload) (list_rule first_only g) bytes (first_some g bytes e after (measure r e.payload) f refl) a fit in
-      let l = length-attribute_text (rewrite (row_of g nothing e) e) in
+      let l = length-attribute_text (canonical_form (row_of g no_kind_in_force e) e) in
       let s = ap length t in
       (is_writable r e.payload (length ((list_rule first_only g).canonical bytes)) h.0 h.1 h.2 h.3 (omega (arith, l, s)), t);
   none_single = λ g bytes f a. let x : true ≡ false = sym a ∙ rejects (list_rule first_only g) bytes (first_none g bytes f) in absurd cc;

@@ -2,7 +2,7 @@
 use Rattle.std.proofs.Common.{subst, sym}
 use Rattle.attribute_tables_grammar.specs.Rules.{Rule, Lawful}
 use Rattle.attribute_tables_grammar.specs.Tables.{rule}
-use Rattle.attribute_tables_grammar.specs.Laws.{TextsDecideMeaning, TextsDetermineMeanings, KeepsMeaning, TextsKeepMeanings, TableRowsAreLawful}
+use Rattle.attribute_tables_grammar.specs.Laws.{CanonicalDecidesMeaning, CanonicalPayloadsDetermineMeanings, KeepsMeaning, PayloadsKeepMeanings, TableRowsAreLawful}
 use Rattle.attribute_tables_grammar.proofs.Attributes.{after_more, next_canonical, one_context}
 use Rattle.attribute_tables_grammar.proofs.LookUps.{row-table, rule-rows, list-rows, list-one, fits-without_lists, named-payload}
 use Rattle.attribute_tables_grammar.proofs.MeasureSteps.{measures_unfold, measures_determine_rules}
@@ -16,16 +16,16 @@ use Rattle.attribute_tables_grammar.proofs.ShortTexts.{short_fits}
 use Rattle.attribute_tables_grammar.proofs.Tables.{lawful, rows_lawful, table_lawful, bytes_peer_lawful}
 use Rattle.attribute_tables_grammar.proofs.TextSteps.{writing_unfolds}
 
-pub one_text_each : (r : Rule) → Lawful r → TextsDecideMeaning r
+pub one_text_each : (r : Rule) → Lawful r → CanonicalDecidesMeaning r
 one_text_each r l a b x y = (l.same_implies_equal_text a b x y, l.equal_text_implies_same a b x y)
 
-pub texts_determine_meanings : TextsDetermineMeanings
+pub texts_determine_meanings : CanonicalPayloadsDetermineMeanings
 texts_determine_meanings p l s m = one_text_each (rule p s) (lawful p l s m)
 
 pub keeps_meaning : (r : Rule) → Lawful r → KeepsMeaning r
 keeps_meaning r l b a e = l.equal_text_implies_same b (r.canonical b) a (l.canonical_accepted b a e).0 (sym (l.canonical_idempotent b a))
 
-pub texts_keep_meanings : TextsKeepMeanings
+pub texts_keep_meanings : PayloadsKeepMeanings
 texts_keep_meanings p l s m = keeps_meaning (rule p s) (lawful p l s m)
 
 pub table_rows_lawful : TableRowsAreLawful

@@ -5,14 +5,15 @@ use Rattle.netlink_packet_core_grammar.specs.Attributes.{Attribute, proper_kind,
 use Rattle.netlink_packet_core_grammar.specs.Attributes.{attributes_of}
 use Rattle.attribute_tables_grammar.specs.Rules.{Rule, Lawful, raw_rule}
 
--- The kind in force and the port kind in force before an attribute of link info: the names that later data depend on.
+-- The names of the link kind in force and of the port kind in force before an attribute of link info, on which later
+-- data depend.
 pub record Context : Type 0 where
   pub kind : Option (List ℕ)
   pub port_kind : Option (List ℕ)
 
--- The context at the start of a list: no kind is in force.
-abbrev pub nothing : Context
-nothing = record { kind = None; port_kind = None }
+-- The context at the start of a list: no kind is in force, and no port kind.
+abbrev pub no_kind_in_force : Context
+no_kind_in_force = record { kind = None; port_kind = None }
 
 -- A row of a table. A typed attribute is written with the kind proper, and the nested bit if the row has it; a raw one
 -- keeps its kind with the flag bits.
@@ -44,14 +45,14 @@ row_of g c e = g.row c (proper_kind e.kind)
 
 -- The canonical kind under a row: for a typed one the kind proper, with the nested bit if the row has it; for a raw one
 -- all 16 bits.
-abbrev pub written_kind : Row → ℕ → ℕ
-written_kind r k = cond r.is_typed (proper_kind k + cond r.is_nested 0x8000 0) k
+abbrev pub canonical_kind : Row → ℕ → ℕ
+canonical_kind r k = cond r.is_typed (proper_kind k + cond r.is_nested 0x8000 0) k
 
 -- The kinds proper are equal; if one of the two attributes is raw, all 16 bits are.
 abbrev pub same_kind : Row → Row → ℕ → ℕ → Bool
 same_kind r s k l = cond (r.is_typed && s.is_typed) (proper_kind k == proper_kind l) (k == l)
 
--- Two attributes are equivalent: their kinds are the same, and so are their payloads, under the row of either.
+-- Two attributes are equivalent: their kinds are the same, and their payloads are equivalent under both rows.
 abbrev pub same_attribute : Row → Row → Attribute → Attribute → Bool
 same_attribute r s e f = same_kind r s e.kind f.kind &&
     (r.rule.same e.payload f.payload && s.rule.same e.payload f.payload)
@@ -69,13 +70,13 @@ some_empty_ports g c [] = false
 some_empty_ports g c (e ∷ es) = (row_of g c e).rule.empty_ports e.payload || some_empty_ports g (g.next c e) es
 
 -- The canonical form of an attribute: its written kind and its canonical payload.
-abbrev pub rewrite : Row → Attribute → Attribute
-rewrite r e = record { kind = written_kind r e.kind; payload = r.rule.canonical e.payload }
+abbrev pub canonical_form : Row → Attribute → Attribute
+canonical_form r e = record { kind = canonical_kind r e.kind; payload = r.rule.canonical e.payload }
 
 -- The canonical forms of the attributes of a list.
-unfoldable pub rewritten : Grammar → Context → List Attribute → List Attribute
-rewritten g c [] = []
-rewritten g c (e ∷ es) = rewrite (row_of g c e) e ∷ rewritten g (g.next c e) es
+unfoldable pub canonical_forms : Grammar → Context → List Attribute → List Attribute
+canonical_forms g c [] = []
+canonical_forms g c (e ∷ es) = canonical_form (row_of g c e) e ∷ canonical_forms g (g.next c e) es
 
 -- Each canonical attribute's length fits 16 bits, and so do those inside it.
 unfoldable pub all_fit : Grammar → Context → List Attribute → Bool
@@ -108,16 +109,16 @@ pub data ListForm : Type 0 where
   first_only : ListForm  -- one attribute, followed by any bytes
 
 -- The list, unless it is empty.
-abbrev pub not_empty : List Attribute → Option (List Attribute)
-not_empty [] = None
-not_empty (e ∷ es) = Some (e ∷ es)
+abbrev pub unless_empty : List Attribute → Option (List Attribute)
+unless_empty [] = None
+unless_empty (e ∷ es) = Some (e ∷ es)
 
--- The attributes of a list of this kind; None if the bytes are none.
+-- The attributes of a list of this kind; None if the bytes aren't such a list.
 abbrev pub read_as : ListForm → List ℕ → Option (List Attribute)
 read_as any b = attributes_of b
-read_as non_empty b = if_some (attributes_of b) not_empty
+read_as non_empty b = if_some (attributes_of b) unless_empty
 read_as of_kind_one b = attributes_of b
-read_as ports b = if_some (attributes_of b) not_empty
+read_as ports b = if_some (attributes_of b) unless_empty
 read_as first_only b = option_map (λ x. x.0 ∷ []) (first_attribute b)
 
 -- The kind proper is 1.
@@ -132,18 +133,16 @@ is_kept _ e = true
 
 -- The attributes that a list of this kind keeps.
 abbrev pub kept : ListForm → List Attribute → List Attribute
-kept any es = es
-kept non_empty es = es
 kept of_kind_one es = filter is_of_kind_one es
 kept ports es = filter is_of_kind_one es
-kept first_only es = es
+kept _ es = es
 
 -- A list of ports that keeps no entry: nothing is written for it.
 abbrev pub is_empty_ports : ListForm → List Attribute → Bool
 is_empty_ports ports [] = true
 is_empty_ports _ _ = false
 
--- The value at the attributes that were read, or the default if there are none.
+-- f of the attributes that were read; d if the bytes are no list.
 abbrev pub if_read : {A : Type 0} → A → (List Attribute → A) → Option (List Attribute) → A
 if_read d f None = d
 if_read d f (Some es) = f es
@@ -151,16 +150,16 @@ if_read d f (Some es) = f es
 -- The rule of a list of this kind.
 abbrev pub list_rule : ListForm → Grammar → Rule
 list_rule form g = record {
-  accepted = λ b. if_read false (λ es. all_accepted g nothing (kept form es)) (read_as form b);
+  accepted = λ b. if_read false (λ es. all_accepted g no_kind_in_force (kept form es)) (read_as form b);
   same = λ a b. if_read false
-      (λ es. if_read false (λ fs. all_same g nothing nothing (kept form es) (kept form fs)) (read_as form b))
+      (λ es. if_read false (λ fs. all_same g no_kind_in_force no_kind_in_force (kept form es) (kept form fs)) (read_as form b))
       (read_as form a);
-  canonical = λ b. if_read [] (λ es. list_text (rewritten g nothing (kept form es))) (read_as form b);
-  attributes = λ b. if_read 0 (λ es. length es + attributes_inside g nothing (kept form es)) (read_as form b);
-  fits = λ b. if_read true (λ es. all_fit g nothing (kept form es)) (read_as form b);
+  canonical = λ b. if_read [] (λ es. list_text (canonical_forms g no_kind_in_force (kept form es))) (read_as form b);
+  attributes = λ b. if_read 0 (λ es. length es + attributes_inside g no_kind_in_force (kept form es)) (read_as form b);
+  fits = λ b. if_read true (λ es. all_fit g no_kind_in_force (kept form es)) (read_as form b);
   empty_ports =
       λ b. if_read false (λ es. is_empty_ports form (kept form es) ||
-      some_empty_ports g nothing (kept form es)) (read_as form b);
+      some_empty_ports g no_kind_in_force (kept form es)) (read_as form b);
 }
 
 -- Every row is lawful, and the context after an attribute depends only on its kind proper and its canonical payload.

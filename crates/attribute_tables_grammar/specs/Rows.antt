@@ -13,11 +13,11 @@ infixr 10 ◌⸴◌
 abbrev pub ◌↪◌ : ℕ → Shape → Table → Table
 k ↪ s = λ t. row k false (plain s) t
 
--- `k ↠ s`: a row of kind k whose payload s is no shape, as `5 ↠ list any t`.
+-- `k ↠ s`: a row of kind k with the payload s, as `5 ↠ list any t`.
 abbrev pub ◌↠◌ : ℕ → Payload → Table → Table
 k ↠ s = λ t. row k false s t
 
--- `k ⇉ s`: a row of kind k whose payload s is no shape, and whose kind is written with the nested bit.
+-- `k ⇉ s`: a row of kind k with the payload s, whose kind is written with the nested bit.
 abbrev pub ◌⇉◌ : ℕ → Payload → Table → Table
 k ⇉ s = λ t. row k true s t
 

@@ -14,7 +14,7 @@ pub record Rule : Type 0 where
   pub attributes : List ℕ → ℕ
   -- Each length inside the canonical payload is at most 65535.
   pub fits : List ℕ → Bool
-  -- A list of ports inside keeps no entry, and its kind may not be empty.
+  -- A list of ports in it, or the payload itself as one, keeps no entry, so that its canonical form is rejected.
   pub empty_ports : List ℕ → Bool
 
 -- The laws of a rule, for accepted payloads: the canonical payload is accepted unless ports inside would be empty, fits
@@ -33,9 +33,10 @@ pub record Lawful (r : Rule) : Type 0 where
   pub counted : (p : List ℕ) → r.accepted p ≡ true → 4 * r.attributes p ≤ length p
   pub bytes : (p : List ℕ) → r.accepted p ≡ true → r.fits p ≡ true → AreBytes p → AreBytes (r.canonical p)
 
--- Rule s migrates the canonical payloads of rule r: for a payload that both accept, s accepts its canonical payload
--- under r, which has the same canonical payload under s as the payload itself.
-pub record Migrates (r s : Rule) : Type 0 where
+-- Rule s migrates the canonical payloads of rule r. Let both accept a payload. Its canonical payload under r has the same
+-- canonical payload under s as the payload itself. Unless ports in the payload keep no entry under r, s accepts it, without
+-- such ports. It fits under s if the payload does.
+pub record IsMigratedBy (r s : Rule) : Type 0 where
   pub accepted : (p : List ℕ) → r.accepted p ≡ true → s.accepted p ≡ true → r.empty_ports p ≡ false →
       s.accepted (r.canonical p) ≡ true
   pub empty_ports : (p : List ℕ) → r.accepted p ≡ true → s.accepted p ≡ true → r.empty_ports p ≡ false →

@@ -4,7 +4,7 @@ use Rattle.std.specs.Prelude.{◌≡◌, ℕ, ◌+◌, ◌*◌, ◌==◌, ◌<�
 use Rattle.std.specs.Prelude.{◌∷◌, length, Option, Some, None, option_map}
 use Rattle.netlink_packet_core_grammar.specs.Attributes.{nla_align, Attribute, if_some, attributes_of}
 use Rattle.attribute_tables_grammar.specs.Rules.{Rule}
-use Rattle.attribute_tables_grammar.specs.Lists.{Context, nothing, Grammar, row_of, ListForm, any, non_empty}
+use Rattle.attribute_tables_grammar.specs.Lists.{Context, no_kind_in_force, Grammar, row_of, ListForm, any, non_empty}
 use Rattle.attribute_tables_grammar.specs.Lists.{of_kind_one, ports, first_only, read_as, kept, is_kept, is_empty_ports}
 
 -- The measure of an accepted payload.
@@ -62,39 +62,39 @@ both (Some m) None = None
 both (Some m) (Some n) = Some (plus m n)
 
 -- The measure of a list's attributes; None if one is rejected.
-unfoldable pub measures : ListForm → Grammar → Context → List Attribute → Option Measure
-measures form g c [] = Some none_yet
-measures form g c (e ∷ es) =
+unfoldable pub list_measure : ListForm → Grammar → Context → List Attribute → Option Measure
+list_measure form g c [] = Some none_yet
+list_measure form g c (e ∷ es) =
     cond (is_kept form e)
-    (both (option_map with_header (measure (row_of g c e).rule e.payload)) (measures form g (g.next c e) es))
-    (both (Some dropped) (measures form g c es))
+    (both (option_map with_header (measure (row_of g c e).rule e.payload)) (list_measure form g (g.next c e) es))
+    (both (Some dropped) (list_measure form g c es))
 
 -- The measure of the rest of a list, in the context at its start.
-unfoldable pub walk : ListForm → Grammar → Context → List ℕ → Option Measure
-walk form g c bytes = if_some (attributes_of bytes) (measures form g c)
+unfoldable pub measure_of_rest : ListForm → Grammar → Context → List ℕ → Option Measure
+measure_of_rest form g c bytes = if_some (attributes_of bytes) (list_measure form g c)
 
 -- The measure, with an empty list of ports noted if b is true.
 abbrev pub or_empty : Bool → Measure → Measure
 or_empty b m = record { size = m.size; attributes = m.attributes; fits = m.fits; empty_ports = b || m.empty_ports }
 
 -- The measure of whole bytes, by their list kind.
-unfoldable pub walk_as : ListForm → Grammar → List ℕ → Option Measure
-walk_as form g bytes =
+unfoldable pub measure_as : ListForm → Grammar → List ℕ → Option Measure
+measure_as form g bytes =
     if_some (read_as form bytes)
-    (λ es. option_map (or_empty (is_empty_ports form (kept form es))) (measures form g nothing es))
+    (λ es. option_map (or_empty (is_empty_ports form (kept form es))) (list_measure form g no_kind_in_force es))
 
 -- ---- the state of a loop
 
 -- The measure of the whole list is that of the attributes so far plus that of the rest in its context.
 pub record MeasuredSoFar (form : ListForm) (g : Grammar) (bytes : List ℕ) (m : Measure) (c : Context) (rest : List ℕ) :
     Type 0 where
-  pub whole : walk form g nothing bytes ≡ both (Some m) (walk form g c rest)
+  pub whole : measure_of_rest form g no_kind_in_force bytes ≡ both (Some m) (measure_of_rest form g c rest)
 
 -- The measure of a whole list, from that of its attributes: a list of ports keeps no entry if and only if nothing is
 -- written for it.
-abbrev pub closed : ListForm → Measure → Measure
-closed ports m = or_empty (m.size == 0) m
-closed _ m = m
+abbrev pub whole_measure : ListForm → Measure → Measure
+whole_measure ports m = or_empty (m.size == 0) m
+whole_measure _ m = m
 
 -- The list kind is one whose attributes are walked, and the bytes aren't empty if it requires an attribute.
 abbrev pub IsWalked : ListForm → List ℕ → Type 0
@@ -104,14 +104,14 @@ IsWalked of_kind_one bytes = Unit {0}
 IsWalked ports bytes = 0 < length bytes
 IsWalked first_only bytes = ⊥
 
--- The list kind rejects the empty list.
+-- The list kind is one whose attributes are walked, and rejects the empty list.
 abbrev pub RequiresAttribute : ListForm → Type 0
 RequiresAttribute non_empty = Unit {0}
 RequiresAttribute ports = Unit {0}
 RequiresAttribute _ = ⊥
 
--- The attribute's canonical form is at most 77 times as long, it has at least 4 bytes for each attribute in it, and the
--- rest is shorter than the bytes.
+-- Let `bytes` be an attribute, whose payload has the measure m, and then `rest`. Its canonical form is at most 77 times as
+-- long, it has at least 4 bytes for itself and each attribute in it, and the rest is shorter than the bytes.
 pub record IsSmall (bytes rest : List ℕ) (m : Measure) : Type 0 where
   pub within : nla_align (4 + m.size) + 77 * length rest ≤ 77 * length bytes
   pub few : 4 * (1 + m.attributes) + length rest ≤ length bytes

@@ -3,7 +3,7 @@ use Rattle.std.specs.Prelude.{◌≡◌, ℕ, ◌+◌, ◌≤◌, true, List, �
 use Rattle.netlink_packet_core_grammar.specs.Attributes.{nla_align}
 use Rattle.attribute_tables_grammar.specs.Rules.{Rule}
 use Rattle.attribute_tables_grammar.specs.Lists.{Context, Grammar, ListForm, list_rule}
-use Rattle.attribute_tables_grammar.specs.Walks.{Measure, walk}
+use Rattle.attribute_tables_grammar.specs.Walks.{Measure, measure_of_rest}
 use Rattle.attribute_tables_grammar.specs.AlreadyCanonical.{text_from}
 
 -- The payload is accepted and fits an attribute, for which the capacity is enough.
@@ -18,7 +18,7 @@ pub record IsWritable (r : Rule) (p : List ℕ) (capacity : ℕ) : Type 0 where
 pub record WrittenSoFar (form : ListForm) (g : Grammar) (bytes old out : List ℕ) (c : Context) (rest : List ℕ) : Type 0
   where
     pub rest_measure : Measure
-    pub walked : walk form g c rest ≡ Some rest_measure
+    pub walked : measure_of_rest form g c rest ≡ Some rest_measure
     pub fits : rest_measure.fits ≡ true
     pub text : List ℕ
     pub rest_text : text_from form g c rest ≡ Some text

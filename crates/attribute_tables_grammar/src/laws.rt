@@ -1,8 +1,8 @@
 //! Laws of the definitions. No function here makes a call.
 #![tactic(auto, using(crate::proofs::Together::laws))]
 
-ghost use Rattle.attribute_tables_grammar.specs.Laws.{CanonicalIsCut, TablesAreLawful, BytesAreLawful, TextsDetermineMeanings};
-ghost use Rattle.attribute_tables_grammar.specs.Laws.{TextsKeepMeanings, ShortTextsFit, OldTextsAreMigrated, OneContext};
+ghost use Rattle.attribute_tables_grammar.specs.Laws.{CanonicalListsAreSplit, TablesAreLawful, BytesAreLawful, CanonicalPayloadsDetermineMeanings};
+ghost use Rattle.attribute_tables_grammar.specs.Laws.{PayloadsKeepMeanings, ShortPayloadsFit, OldPayloadsAreMigrated, OneContext};
 ghost use Rattle.attribute_tables_grammar.specs.Laws.{RulesWithoutPeersAreOne};
 ghost use Rattle.attribute_tables_grammar.specs.Laws.{TableGrammarsAreLawful, RowsAreLookedUp, NamesAreLookedUp};
 ghost use Rattle.attribute_tables_grammar.specs.Laws.{ReadingsUnfold, ReadingsDetermineRules, FirstOnlyIsRead, PortsAreEntries};
@@ -12,8 +12,8 @@ ghost use Rattle.attribute_tables_grammar.specs.Laws.{WritingUnfolds, KeptAttrib
 
 /// The canonical encoding of a list is cut into the attributes that the list keeps, each in its
 /// canonical form.
-pub fn canonical_lists_are_cut()
-    ensures { CanonicalIsCut }
+pub fn canonical_lists_are_split()
+    ensures { CanonicalListsAreSplit }
 {}
 
 /// Every payload of a table without large rows has a lawful rule, under every lawful rule of peers.
@@ -28,17 +28,17 @@ pub fn peers_that_are_bytes_are_lawful()
 
 /// Two accepted payloads are equivalent if and only if their canonical payloads are equal.
 pub fn texts_determine_meanings()
-    ensures { TextsDetermineMeanings }
+    ensures { CanonicalPayloadsDetermineMeanings }
 {}
 
 /// A payload is equivalent to its canonical payload, if no list of ports inside it keeps nothing.
 pub fn texts_keep_meanings()
-    ensures { TextsKeepMeanings }
+    ensures { PayloadsKeepMeanings }
 {}
 
 /// A canonical payload of at most 65535 bytes fits: no length inside it exceeds that of the whole.
 pub fn short_texts_fit()
-    ensures { ShortTextsFit }
+    ensures { ShortPayloadsFit }
 {}
 
 /// The rule of a payload or a row without peers is the same under all rules of peers.
@@ -50,7 +50,7 @@ pub fn rules_without_peers_are_one()
 /// accepts the original bytes, and has their canonical encoding; it fits if they do, and has no
 /// empty ports.
 pub fn old_texts_are_migrated()
-    ensures { OldTextsAreMigrated }
+    ensures { OldPayloadsAreMigrated }
 {}
 
 /// Equivalent lists leave the same kinds in force.

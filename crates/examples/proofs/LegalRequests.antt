@@ -7,17 +7,17 @@ use Rattle.std.proofs.lemmas.Bool.{le-leb}
 use Rattle.std.proofs.lemmas.List.{length-replicate}
 use Rattle.netlink_packet_core.specs.Attributes.{Attribute, attribute_text, if_some, list_text, zeros}
 use Rattle.netlink_packet_core.specs.Families.{attribute}
-use Rattle.netlink_packet_core.specs.Laws.{TextIsCut}
+use Rattle.netlink_packet_core.specs.Laws.{EncodingsAreSplit}
 use Rattle.netlink_packet_core.specs.Numbers.{be2, le4}
 use Rattle.netlink_packet_core.specs.Texts.{without_nul}
 use Rattle.netlink_packet_core.specs.TypedBodies.{TypedBody}
 use Rattle.link_info.specs.Families.{kinds, port_kinds, vxlan}
-use Rattle.link_info.specs.Lists.{nothing, Grammar, all_accepted, all_fit, some_empty_ports, rewritten, any, non_empty, not_empty, if_read, list_rule, without_context}
-use Rattle.link_info.specs.Tables.{named, names_grammar, row_in, rule}
-use Rattle.link_message.specs.Body.{body_rule, is_listed, link_body, link_peer, list_rule_of}
+use Rattle.link_info.specs.Lists.{no_kind_in_force, Grammar, all_accepted, all_fit, some_empty_ports, canonical_forms, any, non_empty, unless_empty, if_read, list_rule, without_context}
+use Rattle.link_info.specs.Tables.{rule_of_name, names_grammar, row_in, rule}
+use Rattle.link_message.specs.Body.{body_rule, has_layer_type_name, link_body, link_peer, attributes_rule}
 use Rattle.link_message.specs.LinkTables.{info, link_table, unspec}
 use Rattle.link_info.specs.Rules.{Rule}
-use Rattle.link_capture.specs.Bodies.{body_text_under, ruled_text}
+use Rattle.link_capture.specs.Bodies.{body_text, ruled_text}
 use Rattle.link_capture.specs.Routes.{reads_route, typed_text}
 use Rattle.examples.specs.Requests.{vxlan_attributes, vxlan_body, vxlan_info, vxlan_info_text, vxlan_settings}
 
@@ -31,34 +31,34 @@ pub record IsCanonicalBody (r : Rule) (b : List ℕ) : Type 0 where
 -- ---- a list of attributes that are already canonical
 
 record CanonicalAttributes (g : Grammar) (es : List Attribute) : Type 0 where
-  accepted : all_accepted g nothing es ≡ true
-  fits : all_fit g nothing es ≡ true
-  empty_ports : some_empty_ports g nothing es ≡ false
-  written : rewritten g nothing es ≡ es
+  accepted : all_accepted g no_kind_in_force es ≡ true
+  fits : all_fit g no_kind_in_force es ≡ true
+  empty_ports : some_empty_ports g no_kind_in_force es ≡ false
+  written : canonical_forms g no_kind_in_force es ≡ es
 
-canonical_list : TextIsCut → (g : Grammar) (es : List Attribute) → CanonicalAttributes g es → IsCanonicalBody (list_rule any g) (list_text es)
+canonical_list : EncodingsAreSplit → (g : Grammar) (es : List Attribute) → CanonicalAttributes g es → IsCanonicalBody (list_rule any g) (list_text es)
 canonical_list cut g es o = record {
-  accepted = ap (if_read false (all_accepted g nothing)) (cut es).0 ∙ o.accepted;
-  fits = ap (if_read true (all_fit g nothing)) (cut es).0 ∙ o.fits;
-  empty_ports = ap (if_read false (some_empty_ports g nothing)) (cut es).0 ∙ o.empty_ports;
-  canonical = ap (if_read [] (λ fs. list_text (rewritten g nothing fs))) (cut es).0 ∙ ap list_text o.written;
+  accepted = ap (if_read false (all_accepted g no_kind_in_force)) (cut es).0 ∙ o.accepted;
+  fits = ap (if_read true (all_fit g no_kind_in_force)) (cut es).0 ∙ o.fits;
+  empty_ports = ap (if_read false (some_empty_ports g no_kind_in_force)) (cut es).0 ∙ o.empty_ports;
+  canonical = ap (if_read [] (λ fs. list_text (canonical_forms g no_kind_in_force fs))) (cut es).0 ∙ ap list_text o.written;
 }
 
-canonical_some : TextIsCut → (g : Grammar) (e : Attribute) (es : List Attribute) → CanonicalAttributes g (e ∷ es) → IsCanonicalBody (list_rule non_empty g) (list_text (e ∷ es))
+canonical_some : EncodingsAreSplit → (g : Grammar) (e : Attribute) (es : List Attribute) → CanonicalAttributes g (e ∷ es) → IsCanonicalBody (list_rule non_empty g) (list_text (e ∷ es))
 canonical_some cut g e es o = record {
-  accepted = ap (λ r. if_read false (all_accepted g nothing) (if_some r not_empty)) (cut (e ∷ es)).0 ∙ o.accepted;
-  fits = ap (λ r. if_read true (all_fit g nothing) (if_some r not_empty)) (cut (e ∷ es)).0 ∙ o.fits;
-  empty_ports = ap (λ r. if_read false (some_empty_ports g nothing) (if_some r not_empty)) (cut (e ∷ es)).0 ∙ o.empty_ports;
-  canonical = ap (λ r. if_read [] (λ fs. list_text (rewritten g nothing fs)) (if_some r not_empty)) (cut (e ∷ es)).0 ∙ ap list_text o.written;
+  accepted = ap (λ r. if_read false (all_accepted g no_kind_in_force) (if_some r unless_empty)) (cut (e ∷ es)).0 ∙ o.accepted;
+  fits = ap (λ r. if_read true (all_fit g no_kind_in_force) (if_some r unless_empty)) (cut (e ∷ es)).0 ∙ o.fits;
+  empty_ports = ap (λ r. if_read false (some_empty_ports g no_kind_in_force) (if_some r unless_empty)) (cut (e ∷ es)).0 ∙ o.empty_ports;
+  canonical = ap (λ r. if_read [] (λ fs. list_text (canonical_forms g no_kind_in_force fs)) (if_some r unless_empty)) (cut (e ∷ es)).0 ∙ ap list_text o.written;
 }
 
 -- ---- the data
 
 settings : (vni : ℕ) → CanonicalAttributes (without_context (row_in link_peer vxlan)) (vxlan_settings vni)
-unfolding all_accepted all_fit some_empty_ports rewritten le4 be2
+unfolding all_accepted all_fit some_empty_ports canonical_forms le4 be2
 settings vni = record { accepted = refl; fits = refl; empty_ports = refl; written = refl }
 
-canonical_data : TextIsCut → (vni : ℕ) → IsCanonicalBody (named link_peer kinds (codes "vxlan")) (list_text (vxlan_settings vni))
+canonical_data : EncodingsAreSplit → (vni : ℕ) → IsCanonicalBody (rule_of_name link_peer kinds (codes "vxlan")) (list_text (vxlan_settings vni))
 canonical_data cut vni = canonical_list cut (without_context (row_in link_peer vxlan)) (vxlan_settings vni) (settings vni)
 
 data_size : (vni : ℕ) → nat_le (4 + length (list_text (vxlan_settings vni))) 65535 ≡ true
@@ -67,10 +67,10 @@ data_size vni = refl
 
 -- ---- the link info
 
-infos : TextIsCut → (vni : ℕ) → CanonicalAttributes (names_grammar (named link_peer kinds) (named link_peer port_kinds)) (vxlan_info vni)
-unfolding all_accepted all_fit some_empty_ports rewritten is_utf8 chars encode
+infos : EncodingsAreSplit → (vni : ℕ) → CanonicalAttributes (names_grammar (rule_of_name link_peer kinds) (rule_of_name link_peer port_kinds)) (vxlan_info vni)
+unfolding all_accepted all_fit some_empty_ports canonical_forms is_utf8 chars encode
 infos cut vni =
-    let r = named link_peer kinds (codes "vxlan") in
+    let r = rule_of_name link_peer kinds (codes "vxlan") in
     let d = list_text (vxlan_settings vni) in
     let canonical_proof = canonical_data cut vni in
     record {
@@ -80,8 +80,8 @@ infos cut vni =
       written = ap (λ p. attribute 1 (codes "vxlan" ++ 0 ∷ []) ∷ attribute 2 p ∷ []) canonical_proof.canonical;
     }
 
-canonical_info : TextIsCut → (vni : ℕ) → IsCanonicalBody (rule link_peer info) (vxlan_info_text vni)
-canonical_info cut vni = canonical_some cut (names_grammar (named link_peer kinds) (named link_peer port_kinds)) (attribute 1 (codes "vxlan" ++ 0 ∷ [])) (attribute 2 (list_text (vxlan_settings vni)) ∷ []) (infos cut vni)
+canonical_info : EncodingsAreSplit → (vni : ℕ) → IsCanonicalBody (rule link_peer info) (vxlan_info_text vni)
+canonical_info cut vni = canonical_some cut (names_grammar (rule_of_name link_peer kinds) (rule_of_name link_peer port_kinds)) (attribute 1 (codes "vxlan" ++ 0 ∷ [])) (attribute 2 (list_text (vxlan_settings vni)) ∷ []) (infos cut vni)
 
 info_size : (vni : ℕ) → nat_le (4 + length (vxlan_info_text vni)) 65535 ≡ true
 unfolding list_text attribute_text le4 be2
@@ -94,8 +94,8 @@ without_last [] = refl
 without_last (b ∷ []) = refl
 without_last (b ∷ c ∷ name) = ap (λ x. b ∷ x) (without_last (c ∷ name))
 
-attributes : TextIsCut → (name : List ℕ) (vni mtu : ℕ) → is_utf8 name ≡ true → length name ≤ 65530 → CanonicalAttributes (without_context (row_in link_peer (link_table unspec))) (vxlan_attributes name vni mtu)
-unfolding all_accepted all_fit some_empty_ports rewritten le4
+attributes : EncodingsAreSplit → (name : List ℕ) (vni mtu : ℕ) → is_utf8 name ≡ true → length name ≤ 65530 → CanonicalAttributes (without_context (row_in link_peer (link_table unspec))) (vxlan_attributes name vni mtu)
+unfolding all_accepted all_fit some_empty_ports canonical_forms le4
 attributes cut name vni mtu utf8 short =
     let r = rule link_peer info in
     let t = vxlan_info_text vni in
@@ -118,8 +118,8 @@ attributes cut name vni mtu utf8 short =
 
 -- ---- the body
 
-pub canonical_body : TextIsCut → (name : List ℕ) (vni mtu : ℕ) → is_utf8 name ≡ true → length name ≤ 65530 → IsCanonicalBody link_body (vxlan_body name vni mtu)
-unfolding list_rule_of body_rule is_listed
+pub canonical_body : EncodingsAreSplit → (name : List ℕ) (vni mtu : ℕ) → is_utf8 name ≡ true → length name ≤ 65530 → IsCanonicalBody link_body (vxlan_body name vni mtu)
+unfolding attributes_rule body_rule has_layer_type_name
 canonical_body cut name vni mtu utf8 short =
     let t = list_text (vxlan_attributes name vni mtu) in
     let canonical_proof = canonical_list cut (without_context (row_in link_peer (link_table unspec))) (vxlan_attributes name vni mtu) (attributes cut name vni mtu utf8 short) in
@@ -138,7 +138,7 @@ canonical_ruled r b o = rw (o.accepted, o.empty_ports, o.fits) (ap Ok o.canonica
 -- ---- reading a body of RTM_NEWLINK that is already canonical
 
 read_as : (b : List ℕ) (x : TypedBody) → ruled_text link_body b ≡ Ok b → reads_route 16 b ≡ Some x → x ≡ (16, b)
-unfolding body_text_under
+unfolding body_text
 read_as b x canonical_proof h = let e = sym (ap (typed_text 16) canonical_proof) ∙ h in cc
 
 pub read_back : (b bytes : List ℕ) (x : TypedBody) → bytes ≡ b → ruled_text link_body b ≡ Ok b → reads_route 16 bytes ≡ Some x → x ≡ (16, b)

@@ -7,9 +7,9 @@ use Rattle.std.proofs.lemmas.List.{drop_all, length-replicate, take_all}
 use Rattle.netlink_packet_core_grammar.proofs.Numbers.{from_le4}
 use Rattle.netlink_packet_core.specs.Attributes.{Attribute, attribute_header, attribute_length, attribute_text, list_size, list_text, nla_align, zeros}
 use Rattle.netlink_packet_core.specs.Families.{attribute}
-use Rattle.netlink_packet_core.specs.Frames.{IsFrame, frame_length, frame_type, frame_body, frame_text}
+use Rattle.netlink_packet_core.specs.Frames.{BeginsWithFrame, frame_length, frame_type, frame_body, frame_text}
 use Rattle.netlink_packet_core.specs.Headers.{header_text}
-use Rattle.netlink_packet_core.specs.Laws.{TextIsCut}
+use Rattle.netlink_packet_core.specs.Laws.{EncodingsAreSplit}
 use Rattle.netlink_packet_core.specs.Messages.{finalized, message_text}
 use Rattle.netlink_packet_core.specs.Numbers.{as_usize, u16_at, u32_at, be2, le2, le4}
 use Rattle.netlink_packet_core.specs.Payloads.{payload_entry}
@@ -27,7 +27,7 @@ use Rattle.link_message.specs.LinkMessages.{link_message_text}
 use Rattle.link_message.specs.declared.message.LinkMessage.{LinkMessage}
 use Rattle.link_message.specs.LinkHeader.{LinkHeader}
 use Rattle.link_capture.specs.CaptureFault.{CaptureFault}
-use Rattle.link_capture.specs.Bodies.{body_text, body_text_under}
+use Rattle.link_capture.specs.Bodies.{body_text}
 use Rattle.link_capture.specs.Captures.{first_fault, shifted, texts}
 use Rattle.link_capture.specs.Laws.{CapturesAreCounted, FramesAreJudged}
 use Rattle.link_capture.specs.Routes.{route_entry}
@@ -48,7 +48,7 @@ aligned [] = refl
 aligned (e ∷ es) = let h = aligned es in omega arith
 
 -- a link body's size is a multiple of 4
-pub body_aligned : TextIsCut → (h : List ℕ) (es : List Attribute) → length h ≡ 16 → length (h ++ list_text es) % 4 ≡ 0
+pub body_aligned : EncodingsAreSplit → (h : List ℕ) (es : List Attribute) → length h ≡ 16 → length (h ++ list_text es) % 4 ≡ 0
 body_aligned cut h es l =
     let a = aligned es in
     let s = (cut es).1 in
@@ -78,7 +78,7 @@ has_body s b h =
     ∙ ap (λ x. take (16 + length b - 16) x) (after_header s b)
     ∙ take_all (16 + length b - 16) b (omega arith)
 
-whole : (s : ℕ) (b : List ℕ) → 16 + length b < 2 ^ 32 → IsFrame (new_link_text s b)
+whole : (s : ℕ) (b : List ℕ) → 16 + length b < 2 ^ 32 → BeginsWithFrame (new_link_text s b)
 whole s b h =
     let l = length-new_link_text s b in
     let t = length_determined s b h in
@@ -98,21 +98,21 @@ not_shifted (Some fault) h = absurd cc
 
 -- the frame of a request is a legal capture of one frame
 pub normal : FramesAreJudged link_body → CapturesAreCounted link_body → NewLinksAreNormal
-unfolding body_text_under
+unfolding body_text
 normal judged counted s limit b canonical aligned' small within =
     let c = new_link_text s b in
     let size = length-new_link_text s b in
     let under : 16 + length b ≤ limit = omega arith in
     let length_is = length_determined s b small in
-    let body : body_text (frame_type c) (frame_body c) ≡ Ok b = ap (λ t. body_text t (frame_body c)) (type_determined s b) ∙ ap (body_text 16) (has_body s b small) ∙ canonical in
+    let body : body_text link_body (frame_type c) (frame_body c) ≡ Ok b = ap (λ t. body_text link_body t (frame_body c)) (type_determined s b) ∙ ap (body_text link_body 16) (has_body s b small) ∙ canonical in
     let first = judged.ok limit c b (whole s b small) (subst (λ n. n ≤ limit) (sym length_is) under) body under in
     let end : drop (nla_align (frame_length c)) c ≡ [] = drop_all (nla_align (frame_length c)) c (omega arith) in (
-      not_shifted (first_fault limit c) (counted.next_fault limit 0 c (frame_length c, frame_text c b) first ∙ ap (λ r. shifted (0 + nla_align (frame_length c)) (first_fault limit r)) end ∙ ap (shifted (0 + nla_align (frame_length c))) (counted.no_fault limit)),
-      counted.next_text limit c (frame_length c, frame_text c b) first ∙ ap (λ r. frame_text c b ++ texts limit r) end ∙ ap (λ t. frame_text c b ++ t) (counted.no_text limit) ∙ append-nil (frame_text c b) ∙ canonical_new_link_frame s b aligned',
+      not_shifted (first_fault link_body limit c) (counted.next_fault limit 0 c (frame_length c, frame_text c b) first ∙ ap (λ r. shifted (0 + nla_align (frame_length c)) (first_fault link_body limit r)) end ∙ ap (shifted (0 + nla_align (frame_length c))) (counted.no_fault limit)),
+      counted.next_text limit c (frame_length c, frame_text c b) first ∙ ap (λ r. frame_text c b ++ texts link_body limit r) end ∙ ap (λ t. frame_text c b ++ t) (counted.no_text limit) ∙ append-nil (frame_text c b) ∙ canonical_new_link_frame s b aligned',
     )
 
 -- the body of a message
-pub message_aligned : HeadersAreSixteenBytes → TextIsCut → (m : LinkMessage) → length (link_message_text m) % 4 ≡ 0
+pub message_aligned : HeadersAreSixteenBytes → EncodingsAreSplit → (m : LinkMessage) → length (link_message_text m) % 4 ≡ 0
 message_aligned sixteen cut m =
     body_aligned cut (link_header_bytes m.header) (map link_attribute_entry m.attributes.items) (sixteen m.header)
 
@@ -157,7 +157,7 @@ only_memory (Err fault) short (inl k) = absurd (short (ap Err k))
 only_memory (Err fault) short (inr k) = inr k
 
 -- the body of a vxlan
-pub vxlan_aligned : TextIsCut → (name : List ℕ) (vni mtu : ℕ) → length (vxlan_body name vni mtu) % 4 ≡ 0
+pub vxlan_aligned : EncodingsAreSplit → (name : List ℕ) (vni mtu : ℕ) → length (vxlan_body name vni mtu) % 4 ≡ 0
 vxlan_aligned cut name vni mtu = body_aligned cut (zeros 16) (vxlan_attributes name vni mtu) refl
 
 -- ---- whether a vxlan fits

@@ -29,7 +29,7 @@ new_link_text sequence_number body = request_text 0x605 sequence_number (16, bod
 
 -- A capture is legal and already canonical.
 abbrev pub IsNormal : ℕ → List ℕ → Type 0
-IsNormal limit c = IsLegal limit c × (texts limit c ≡ c)
+IsNormal limit c = IsLegal link_body limit c × (texts link_body limit c ≡ c)
 
 -- A request to make a link is legal and already canonical under each limit of at least its length, if its body is
 -- already canonical and has a size that is a multiple of 4.

@@ -4,6 +4,7 @@ ghost use Rattle.std.specs.Prelude.{◌≡◌, ◌≢◌, ◌≤◌, ℕ, List, 
 ghost use Rattle.std.specs.BTreeMap.{IsUnchanged};
 ghost use Rattle.link_capture.specs.Captures.{first_fault, IsLegal};
 ghost use Rattle.examples.specs.Interfaces.{AreMessages, Learns, LearnsAll, is_new_link, name_in_attributes};
+ghost use Rattle.link_message.specs.Body.{link_body};
 
 use link_capture::{CaptureFault, FaultKind, Messages, RouteLink};
 use link_message::{LinkAttribute, LinkFlags, LinkMessage};
@@ -94,9 +95,9 @@ pub fn learn_all(
     limit: u32,
     interfaces: &mut Interfaces,
 ) -> Result<(), CaptureFault>
-    ensures legal { OnOk result (IsLegal limit capture.now) }
+    ensures legal { OnOk result (IsLegal link_body limit capture.now) }
     ensures fault { IfErr result (λ fault. fault.kind ≢ FaultKind.Memory
-        → first_fault limit capture.now ≡ Some fault) }
+        → first_fault link_body limit capture.now ≡ Some fault) }
     ensures learned { (messages : List (NetlinkMessage RouteLink)) × (offset : ℕ)
         × AreMessages limit capture.now messages offset
         × LearnsAll messages interfaces.old interfaces.new

@@ -5,7 +5,7 @@ ghost use Rattle.netlink_packet_core.specs.Lists.{text_by, all_fit_by};
 ghost use Rattle.link_info.specs.LinkInfo.{link_info_entry, link_info_fits};
 ghost use Rattle.link_message.specs.LinkMessages.{link_message_text, link_message_fits};
 ghost use Rattle.link_message.specs.Body.{link_body};
-ghost use Rattle.link_capture.specs.Readable.{IsReadable, ReadsAsAnother};
+ghost use Rattle.link_capture.specs.Readable.{IsReadable, IsNotReadBack};
 ghost use Rattle.link_capture.specs.Routes.{route_entry};
 ghost use Rattle.link_capture.specs.Bodies.{ruled_text};
 ghost use Rattle.examples.specs.Requests.{request_text, new_link_text, IsNormal, NewLinksAreNormal};
@@ -18,7 +18,7 @@ use link_message::laws::headers_are_sixteen_bytes;
 use link_message::{
     AddressFamily, Flags, LinkAttribute, LinkFlags, LinkHeader, LinkLayerType, LinkMessage,
 };
-use netlink_packet_core::laws::{finalized_headers_match, texts_are_cut};
+use netlink_packet_core::laws::{encodings_are_split, finalized_headers_match};
 use netlink_packet_core::{
     Emitable, NLM_F_ACK, NLM_F_CREATE, NLM_F_EXCL, NLM_F_REQUEST, NetlinkDeserializable,
     NetlinkHeader, NetlinkMessage,
@@ -99,7 +99,7 @@ fn new_links_are_normal()
     captures_are_counted();
     frames_are_judged();
     headers_are_sixteen_bytes();
-    texts_are_cut();
+    encodings_are_split();
 }
 
 /// Returns the frame of a request to make a link (rtnetlink.h, `RTM_NEWLINK`), which the kernel
@@ -123,7 +123,7 @@ pub fn new_link_request(
         (λ bytes. (limit : ℕ) → length bytes.items ≤ limit → IsNormal limit bytes.items) }
     ensures readable { OnOk result (IsReadable message) }
     ensures unfit { (result ≡ Err RequestFault.Unfit) ↔ (link_message_fits message ≡ false) }
-    ensures otherwise { result ≡ Err RequestFault.ReadsOtherwise → ReadsAsAnother message }
+    ensures otherwise { result ≡ Err RequestFault.ReadsOtherwise → IsNotReadBack message }
     ensures too_long { result ≡ Err RequestFault.TooLong
         → 2 ^ 32 ≤ 16 + length (link_message_text message) }
 {
@@ -185,7 +185,7 @@ fn vxlans_are_legal(name: &str, vni: u32, mtu: u32)
         → ruled_text link_body (vxlan_body name.now vni mtu) ≡ Ok (vxlan_body name.now vni mtu) }
     ensures aligned { length (vxlan_body name.now vni mtu) % 4 ≡ 0 }
 {
-    texts_are_cut();
+    encodings_are_split();
 }
 
 /// Returns the body of a request to make a vxlan whose name fits.

@@ -1,7 +1,8 @@
 //! A store of values by captures: those that mean the same share one value.
 
 ghost use Rattle.std.specs.Prelude.{◌≡◌, ◌≢◌, ◌⊎◌, ℕ, List, length, None, Some, IfOk, IfErr, OnOk, OnErr, option_copied};
-ghost use Rattle.link_capture.specs.Captures.{first_fault, texts, IsLegal, StopsAt};
+ghost use Rattle.link_message.specs.Body.{link_body};
+ghost use Rattle.link_capture.specs.Captures.{first_fault, texts, IsLegal, ReachesFrameAt};
 
 use link_capture::laws::{
     captures_are_counted, faults_are_at_frames, frames_are_independent, sameness_unfolds_by_frames,
@@ -22,12 +23,12 @@ pub struct NotStored<V> {
 /// Returns the normal text of a capture. Fails with the first fault of one that isn't legal, or
 /// with `Memory` at a message.
 fn normal_text(alloc: Global, capture: &[u8], limit: u32) -> Result<Vec<u8>, CaptureFault>
-    ensures text { IfOk result (λ text. text.items ≡ texts limit capture.now) }
-    ensures legal { OnOk result (IsLegal limit capture.now) }
+    ensures text { IfOk result (λ text. text.items ≡ texts link_body limit capture.now) }
+    ensures legal { OnOk result (IsLegal link_body limit capture.now) }
     ensures fault { IfErr result (λ fault. fault.kind ≢ FaultKind.Memory
-        → first_fault limit capture.now ≡ Some fault) }
+        → first_fault link_body limit capture.now ≡ Some fault) }
     ensures memory { IfErr result (λ fault. fault.kind ≡ FaultKind.Memory
-        → IsLegal limit capture.now × StopsAt limit capture.now fault.offset) }
+        → IsLegal link_body limit capture.now × ReachesFrameAt link_body limit capture.now fault.offset) }
 {
     faults_are_at_frames();
     check(capture, limit)?;
@@ -53,6 +54,7 @@ pub struct Store<V> {
 impl<V> Store<V> {
     ghost use Rattle.link_capture.specs.Same.{SameCapture};
     ghost use Rattle.examples.specs.Stores.{limit_of, stored, HasUnder, SameElsewhere, IsUnchanged};
+    ghost use Rattle.link_message.specs.Body.{link_body};
 
     /// Returns a store without a value. `limit` is the greatest length in bytes of a message in a
     /// capture, as read and as written. Under one of less than 16 only the empty capture is legal.
@@ -80,22 +82,22 @@ impl<V> Store<V> {
         capture: &[u8],
         value: V,
     ) -> Result<Option<V>, NotStored<V>>
-        ensures legal { OnOk result (IsLegal (limit_of self.old) capture.now) }
+        ensures legal { OnOk result (IsLegal link_body (limit_of self.old) capture.now) }
         ensures old { IfOk result (λ old. old ≡ stored self.old capture.now) }
         // Captures with its normal text have the value now, and others what they had.
         ensures same { OnOk result (HasUnder self.new capture.now value) }
         ensures others { OnOk result (SameElsewhere self.old self.new capture.now) }
         // So each capture that means the same has the value.
-        ensures meaning { OnOk result ((b : List ℕ) → SameCapture (limit_of self.old) capture.now b
+        ensures meaning { OnOk result ((b : List ℕ) → SameCapture link_body (limit_of self.old) capture.now b
             → stored self.new b ≡ Some value) }
 
         ensures returned { IfErr result (λ refused. refused.value ≡ value) }
         ensures fault { IfErr result (λ refused. refused.fault.kind ≢ FaultKind.Memory
-            → first_fault (limit_of self.old) capture.now ≡ Some refused.fault) }
+            → first_fault link_body (limit_of self.old) capture.now ≡ Some refused.fault) }
         ensures memory { IfErr result (λ refused. refused.fault.kind ≡ FaultKind.Memory
-            → IsLegal (limit_of self.old) capture.now) }
+            → IsLegal link_body (limit_of self.old) capture.now) }
         ensures offset { IfErr result (λ refused. refused.fault.kind ≡ FaultKind.Memory
-            → StopsAt (limit_of self.old) capture.now refused.fault.offset
+            → ReachesFrameAt link_body (limit_of self.old) capture.now refused.fault.offset
             ⊎ (refused.fault.offset ≡ length capture.now)) }
         ensures unchanged { OnErr result (IsUnchanged self.old self.new) }
         ensures limit { limit_of self.new ≡ limit_of self.old }
@@ -127,14 +129,14 @@ impl<V> Store<V> {
     /// The first fault of a capture that isn't legal; or `Memory` at a message if an allocation
     /// fails.
     pub fn get(&self, alloc: Global, capture: &[u8]) -> Result<Option<&V>, CaptureFault>
-        ensures legal { OnOk result (IsLegal (limit_of self.now) capture.now) }
+        ensures legal { OnOk result (IsLegal link_body (limit_of self.now) capture.now) }
         ensures value { IfOk result
             (λ found. option_copied found ≡ stored self.now capture.now) }
         ensures fault { IfErr result (λ fault. fault.kind ≢ FaultKind.Memory
-            → first_fault (limit_of self.now) capture.now ≡ Some fault) }
+            → first_fault link_body (limit_of self.now) capture.now ≡ Some fault) }
         ensures memory { IfErr result (λ fault. fault.kind ≡ FaultKind.Memory
-            → IsLegal (limit_of self.now) capture.now
-            × StopsAt (limit_of self.now) capture.now fault.offset) }
+            → IsLegal link_body (limit_of self.now) capture.now
+            × ReachesFrameAt link_body (limit_of self.now) capture.now fault.offset) }
     {
         let text = normal_text(alloc, capture, self.limit)?;
         Ok(self.entries.get(text.as_slice()))

@@ -8,7 +8,7 @@ use Rattle.link_message.specs.declared.message.LinkMessage.{LinkMessage}
 use Rattle.link_message.specs.LinkMessages.{link_message_text, link_message_fits}
 use Rattle.link_message.specs.contracts.message.LinkMessageEq.TheImpl.Laws.{laws-law}
 use Rattle.link_message.proofs.Messages.{messages_injective}
-use Rattle.link_capture.specs.KeptTypes.{IsKeptType}
+use Rattle.link_capture.specs.KeptTypes.{IsOtherType}
 use Rattle.link_capture.specs.Readable.{IsReadFrom, IsReadable, equal_messages, is_read_back_as}
 use Rattle.link_capture.specs.RoundTrips.{round_trip}
 use Rattle.link_capture.specs.Routes.{route_entry}
@@ -47,7 +47,7 @@ type_is (RouteLink.GetLink x) = refl
 type_is (RouteLink.SetLink x) = refl
 type_is (RouteLink.Other x) = refl
 
-not_kept : (t n : ℕ) → IsKeptType t → t ≡ n → 16 ≤ n → n ≤ 19 → ⊥
+not_kept : (t n : ℕ) → IsOtherType t → t ≡ n → 16 ≤ n → n ≤ 19 → ⊥
 not_kept t n k e l u = let h = k.no_link in omega (arith, h (omega (arith, e, l)), e, u)
 
 by_variant : (x y : RouteLink) → number x ≡ number y → route_entry x ≡ route_entry y → (route_equality.ghosts).eq x y ≡ true

@@ -7,7 +7,7 @@ use Rattle.link_message.specs.declared.message.LinkMessage.{LinkMessage}
 use Rattle.link_message.specs.LinkMessages.{link_message_text, link_message_fits}
 use Rattle.link_message.specs.contracts.message.LinkMessageEq.TheImpl.Laws.{laws-law}
 use Rattle.link_message.specs.EqualTexts.{EqualTextsMeanEqualMessages}
-use Rattle.link_capture.specs.Readable.{IsReadFrom, IsReadable, ReadsAsAnother, equal_messages, is_read_back_as}
+use Rattle.link_capture.specs.Readable.{IsReadFrom, IsReadable, IsNotReadBack, equal_messages, is_read_back_as}
 use Rattle.link_capture.proofs.ReadBack.{is_canonical_text}
 
 -- two messages that are read from the same bytes are equal
@@ -28,7 +28,7 @@ pub differ : (b : Bool) → b ≡ true → b ≡ false → ⊥
 differ true h k = absurd cc
 differ false h k = absurd cc
 
-pub excluded : EqualTextsMeanEqualMessages → (m : LinkMessage) → ReadsAsAnother m → IsReadable m → ⊥
+pub excluded : EqualTextsMeanEqualMessages → (m : LinkMessage) → IsNotReadBack m → IsReadable m → ⊥
 excluded law m (inl a) h = differ _ (is_canonical_text _ h.text).accepted a
 excluded law m (inr (inl p)) h = differ _ p (is_canonical_text _ h.text).no_empty_ports
 excluded law m (inr (inr x)) h = not_there h.read_back (λ y. differ _ (alike law (link_message_text m) m x.0 y.0 x.1 y.1 y.2) x.2)

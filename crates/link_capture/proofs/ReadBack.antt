@@ -10,22 +10,23 @@ use Rattle.link_message.specs.AddressFamilies.{address_family_of}
 use Rattle.link_message.specs.declared.message.LinkMessage.{LinkMessage}
 use Rattle.link_message.specs.LinkMessages.{link_message_text, link_message_fits, link_message_names_row}
 use Rattle.link_message.specs.contracts.message.LinkMessageEq.TheImpl.Laws.{laws-law}
-use Rattle.link_capture_grammar.specs.Bodies.{refused, empty_ports, unfit, ruled_text, body_text_under}
-use Rattle.link_capture_grammar.specs.Laws.{BodiesAreNormal}
+use Rattle.link_capture_grammar.specs.Bodies.{ruled_text, body_text}
+use Rattle.link_capture_grammar.specs.Laws.{BodyTextsAreCanonical}
 use Rattle.link_capture.specs.Readable.{IsReadFrom, IsReadable, equal_messages, is_read_back_as}
+use Rattle.link_capture_grammar.specs.declared.fault.FaultKind.TheVariants.{Refused, EmptyPorts, Unfit}
 
 -- ---- a body that is accepted
 
 pub ruled_ok : (b : List ℕ) → link_body.accepted b ≡ true → link_body.empty_ports b ≡ false → link_body.fits b ≡ true → ruled_text link_body b ≡ Ok (link_body.canonical b)
 ruled_ok b a p f = rw (a, p, f) refl
 
-pub ruled_refused : (b : List ℕ) → link_body.accepted b ≡ false → ruled_text link_body b ≡ Err refused
+pub ruled_refused : (b : List ℕ) → link_body.accepted b ≡ false → ruled_text link_body b ≡ Err Refused
 ruled_refused b a = rw a refl
 
-pub ruled_empty : (b : List ℕ) → link_body.accepted b ≡ true → link_body.empty_ports b ≡ true → ruled_text link_body b ≡ Err empty_ports
+pub ruled_empty : (b : List ℕ) → link_body.accepted b ≡ true → link_body.empty_ports b ≡ true → ruled_text link_body b ≡ Err EmptyPorts
 ruled_empty b a p = rw (a, p) refl
 
-pub ruled_unfit : (b : List ℕ) → link_body.accepted b ≡ true → link_body.empty_ports b ≡ false → link_body.fits b ≡ false → ruled_text link_body b ≡ Err unfit
+pub ruled_unfit : (b : List ℕ) → link_body.accepted b ≡ true → link_body.empty_ports b ≡ false → link_body.fits b ≡ false → ruled_text link_body b ≡ Err Unfit
 ruled_unfit b a p f = rw (a, p, f) refl
 
 -- a text that is already canonical
@@ -35,7 +36,7 @@ pub record CanonicalText (t : List ℕ) : Type 0 where
   pub no_empty_ports : link_body.empty_ports t ≡ false
   pub fits : link_body.fits t ≡ true
 
-canonical_text_by : (t : List ℕ) (a p f : Bool) → link_body.accepted t ≡ a → link_body.empty_ports t ≡ p → link_body.fits t ≡ f → cond a (cond p (Err empty_ports) (cond f (Ok (link_body.canonical t)) (Err unfit))) (Err refused) ≡ Ok t → CanonicalText t
+canonical_text_by : (t : List ℕ) (a p f : Bool) → link_body.accepted t ≡ a → link_body.empty_ports t ≡ p → link_body.fits t ≡ f → cond a (cond p (Err EmptyPorts) (cond f (Ok (link_body.canonical t)) (Err Unfit))) (Err Refused) ≡ Ok t → CanonicalText t
 canonical_text_by t false p f h k l e = absurd cc
 canonical_text_by t true true f h k l e = absurd cc
 canonical_text_by t true false false h k l e = absurd cc
@@ -58,11 +59,11 @@ same_text t = (bytes_eq-Decides t t).1 refl
 pub means_itself : (m : LinkMessage) → link_message_fits m ≡ true → is_read_back_as m m ≡ true
 means_itself m f = and_from _ _ (laws-law.refl m) (and_from _ _ f (same_text (link_message_text m)))
 
-normal_text : BodiesAreNormal link_body → (b t : List ℕ) → ruled_text link_body b ≡ Ok t → ruled_text link_body t ≡ Ok t
-unfolding body_text_under
+normal_text : BodyTextsAreCanonical link_body → (b t : List ℕ) → ruled_text link_body b ≡ Ok t → ruled_text link_body t ≡ Ok t
+unfolding body_text
 normal_text law b t h = law 16 b t h
 
-pub readable_from : BodiesAreNormal link_body → BodiesAreHeadersAndAttributes link_peer → (b : List ℕ) (m : LinkMessage) → IsReadFrom b m → link_body.empty_ports b ≡ false → link_message_fits m ≡ link_body.fits b → link_message_fits m ≡ true → IsReadable m
+pub readable_from : BodyTextsAreCanonical link_body → BodiesAreHeadersAndAttributes link_peer → (b : List ℕ) (m : LinkMessage) → IsReadFrom b m → link_body.empty_ports b ≡ false → link_message_fits m ≡ link_body.fits b → link_message_fits m ≡ true → IsReadable m
 readable_from law parts b m r ports s f =
     let t = link_message_text m in
     let text : ruled_text link_body t ≡ Ok t = normal_text law b t (ruled_ok b r.accepted ports (sym s ∙ f) ∙ ap Ok (sym r.text)) in

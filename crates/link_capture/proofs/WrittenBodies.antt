@@ -4,7 +4,7 @@ use Rattle.std.specs.Prelude.{◌≢◌, option_map}
 use Rattle.std.specs.Option.{is_some}
 use Rattle.std.proofs.lemmas.Bool.{cases_Bool, eqb-true, le-leb}
 use Rattle.netlink_packet_core.specs.ControlMessages.{read_done, read_error}
-use Rattle.netlink_packet_core.specs.Frames.{IsFrame, frame_length, frame_type, frame_body, is_frame}
+use Rattle.netlink_packet_core.specs.Frames.{BeginsWithFrame, frame_length, frame_type, frame_body, begins_with_frame}
 use Rattle.netlink_packet_core.specs.Headers.{header_of}
 use Rattle.netlink_packet_core.specs.Messages.{read_message}
 use Rattle.netlink_packet_core.specs.Payloads.{read_payload, written_body}
@@ -13,7 +13,7 @@ use Rattle.netlink_packet_core.specs.NetlinkMessage.{NetlinkMessage}
 use Rattle.netlink_packet_core.specs.NetlinkPayload.{NetlinkPayload}
 use Rattle.netlink_packet_core.specs.NetlinkPayload.TheVariants.{Done, Error, InnerMessage}
 use Rattle.link_message_grammar.specs.Body.{link_body}
-use Rattle.link_capture_grammar.specs.Bodies.{done_text, error_text, ruled_text, is_link_type, body_text, body_text_under}
+use Rattle.link_capture_grammar.specs.Bodies.{done_text, error_text, ruled_text, is_link_type, body_text}
 use Rattle.link_capture.specs.Routes.{reads_route, typed_text}
 use Rattle.link_capture_grammar.proofs.Frames.{guard}
 use Rattle.link_capture_grammar.proofs.Same.{error_is}
@@ -33,8 +33,8 @@ last_written t b text h =
     ]
 
 -- the body that the core writes is canonical
-pub body_written : (t : ℕ) (b text : List ℕ) → body_text t b ≡ Ok text → written_body text t b ≡ text
-unfolding body_text_under
+pub body_written : (t : ℕ) (b text : List ℕ) → body_text link_body t b ≡ Ok text → written_body text t b ≡ text
+unfolding body_text
 body_written t b text h =
     elim (guard (eqb t 1) _ _ _ h) [
       | inl k ↦ rw k.0 (let f = k.1 in cc)
@@ -73,8 +73,8 @@ done_read b text h =
       ])
     ]
 
-payload_read : (t : ℕ) (b text : List ℕ) (inner : Option TypedBody) → body_text t b ≡ Ok text → is_some inner ≡ true → is_some (read_payload (λ _ _. inner) t b) ≡ true
-unfolding body_text_under
+payload_read : (t : ℕ) (b text : List ℕ) (inner : Option TypedBody) → body_text link_body t b ≡ Ok text → is_some inner ≡ true → is_some (read_payload (λ _ _. inner) t b) ≡ true
+unfolding body_text
 payload_read t b text inner h there =
     elim (guard (eqb t 1) _ _ _ h) [
       | inl k ↦ rw k.0 refl
@@ -90,11 +90,11 @@ payload_read t b text inner h there =
       ])
     ]
 
-pub frame_read : (c body : List ℕ) → IsFrame c → body_text (frame_type c) (frame_body c) ≡ Ok body → read_message reads_route c ≢ None
+pub frame_read : (c body : List ℕ) → BeginsWithFrame c → body_text link_body (frame_type c) (frame_body c) ≡ Ok body → read_message reads_route c ≢ None
 frame_read c body whole h none =
     let t = frame_type c in
     let b = frame_body c in
-    let yes : is_frame c ≡ true = rw (le-leb 16 (length c) whole.has_header, le-leb 16 (frame_length c) whole.covers_header, le-leb (frame_length c) (length c) whole.within) refl in
+    let yes : begins_with_frame c ≡ true = rw (le-leb 16 (length c) whole.has_header, le-leb 16 (frame_length c) whole.covers_header, le-leb (frame_length c) (length c) whole.within) refl in
     let build : NetlinkPayload TypedBody → NetlinkMessage TypedBody = λ p. record { header = header_of c; payload = p } in
     let read : is_some (option_map build (read_payload reads_route t b)) ≡ true = mapped build (read_payload reads_route t b) (payload_read t b body (reads_route t b) h (ap (λ o. is_some (typed_text t o)) h)) in
     let e : is_some (read_message reads_route c) ≡ true = ap (λ y. is_some (cond y (option_map build (read_payload reads_route t b)) None)) yes ∙ read in

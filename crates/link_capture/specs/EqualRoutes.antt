@@ -9,8 +9,7 @@ abbrev pub EqualEntriesMeanEqualRoutes : Type 0
 EqualEntriesMeanEqualRoutes =
     (x y : RouteLink) → route_entry x ≡ route_entry y → (equality.ghosts).eq x y ≡ true
 
--- If the type and body of a message are read as a message with the same type and body, that is equal to the message by
--- `==`.
+-- If the type and body of x are read as those of y, x equals y by `==`.
 abbrev pub RoutesReadBackEqual : Type 0
 RoutesReadBackEqual =
     (x y : RouteLink) → reads_route (route_entry x).0 (route_entry x).1 ≡ Some (route_entry y) →

@@ -15,7 +15,7 @@ pub record IsReadFrom (bytes : List ℕ) (m : LinkMessage) : Type 0 where
   pub is_row_variant : link_message_names_row m
   pub fits : link_message_fits m ≡ link_body.fits bytes
 
--- Two messages are equal by `==`. Equal vectors may be at different addresses, so to the prover they aren't one value.
+-- Whether two messages are equal by `==`.
 abbrev pub equal_messages : LinkMessage → LinkMessage → Bool
 equal_messages = (link_message_eq.ghosts).eq
 
@@ -24,16 +24,17 @@ abbrev pub is_read_back_as : LinkMessage → LinkMessage → Bool
 is_read_back_as m n = equal_messages n m &&
     (link_message_fits n && bytes_eq (link_message_text n) (link_message_text m))
 
--- The message fits, and the bytes that it is written as are legal, and are read as an equal message that is written as
--- the same bytes.
+-- The message fits, and the bytes that it is written as are accepted, already canonical and without empty ports, fit, and
+-- are read as an equal message that is written as the same bytes. (`∥ P ∥₁` says that P holds, without a chosen n.)
 pub record IsReadable (m : LinkMessage) : Type 0 where
   pub fits : link_message_fits m ≡ true
   pub text : ruled_text link_body (link_message_text m) ≡ Ok (link_message_text m)
   pub read_back : ∥ ((n : LinkMessage) × IsReadFrom (link_message_text m) n × (is_read_back_as m n ≡ true)) ∥₁
 
--- The bytes that a message is written as are refused, have ports that keep no entry, or are read as another message.
-abbrev pub ReadsAsAnother : LinkMessage → Type 0
-ReadsAsAnother m =
+-- The bytes that a message is written as are refused, have ports that keep no entry, or are read as a message that isn't
+-- equal, doesn't fit, or is written as other bytes.
+abbrev pub IsNotReadBack : LinkMessage → Type 0
+IsNotReadBack m =
     (link_body.accepted (link_message_text m) ≡ false)
     ⊎ (link_body.empty_ports (link_message_text m) ≡ true)
     ⊎ ((n : LinkMessage) × IsReadFrom (link_message_text m) n × (is_read_back_as m n ≡ false))

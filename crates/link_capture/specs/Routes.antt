@@ -2,21 +2,24 @@
 use Rattle.std.specs.Prelude.{◌≡◌, ◌&&◌, ◌||◌, nat_lt, ℕ, List, length, Bool, true, false, Option, Some, None, Result}
 use Rattle.std.specs.Prelude.{Ok, Err, is_ok}
 use Rattle.netlink_packet_core.specs.TypedBodies.{TypedBody}
-use Rattle.link_capture_grammar.specs.Bodies.{Refusal, refused, empty_ports, unfit, body_text, is_link_type}
+use Rattle.link_capture_grammar.specs.Bodies.{body_text, is_link_type}
 use Rattle.link_capture.specs.declared.fault.RouteFault.{RouteFault}
 use Rattle.link_capture.specs.declared.route.RouteLink.{RouteLink}
 use Rattle.link_capture.specs.Views.{other_type, other_bytes, readable_text}
+use Rattle.link_message_grammar.specs.Body.{link_body}
+use Rattle.link_capture_grammar.specs.declared.fault.FaultKind.{FaultKind}
+use Rattle.link_capture_grammar.specs.declared.fault.FaultKind.TheVariants.{Refused, EmptyPorts, Unfit}
 
 -- The error, unless it is out of memory, is the reason why the body has no text.
-abbrev pub ReasonOf : RouteFault → Result (List ℕ) Refusal → Type 0
-ReasonOf RouteFault.Refused outcome = outcome ≡ Err refused
-ReasonOf RouteFault.EmptyPorts outcome = outcome ≡ Err empty_ports
-ReasonOf RouteFault.Unfit outcome = outcome ≡ Err unfit
+abbrev pub ReasonOf : RouteFault → Result (List ℕ) FaultKind → Type 0
+ReasonOf RouteFault.Refused outcome = outcome ≡ Err Refused
+ReasonOf RouteFault.EmptyPorts outcome = outcome ≡ Err EmptyPorts
+ReasonOf RouteFault.Unfit outcome = outcome ≡ Err Unfit
 ReasonOf RouteFault.Memory outcome = Unit {0}
 
 -- The error, unless it is out of memory, is the reason why the body of type t has no text.
-abbrev pub route_reason : RouteFault → ℕ → List ℕ → Type 0
-route_reason fault t b = ReasonOf fault (body_text t b)
+abbrev pub RouteReason : RouteFault → ℕ → List ℕ → Type 0
+RouteReason fault t b = ReasonOf fault (body_text link_body t b)
 
 -- The error is out of memory.
 abbrev pub route_ran_out_of_memory : RouteFault → Bool
@@ -25,7 +28,7 @@ route_ran_out_of_memory _ = false
 
 -- Reading a body of type t may run out of memory: it has a text, and is a link's or has bytes.
 abbrev pub route_may_run_out_of_memory : ℕ → List ℕ → Bool
-route_may_run_out_of_memory t b = is_ok (body_text t b) && (is_link_type t || nat_lt 0 (length b))
+route_may_run_out_of_memory t b = is_ok (body_text link_body t b) && (is_link_type t || nat_lt 0 (length b))
 
 -- The type of a message, and the bytes of its body.
 abbrev pub route_entry : RouteLink → TypedBody
@@ -36,10 +39,10 @@ route_entry (RouteLink.SetLink link) = (19, readable_text link)
 route_entry (RouteLink.Other message) = (other_type message, other_bytes message)
 
 -- The type with the text, if there is one.
-abbrev pub typed_text : ℕ → Result (List ℕ) Refusal → Option TypedBody
+abbrev pub typed_text : ℕ → Result (List ℕ) FaultKind → Option TypedBody
 typed_text t (Ok text) = Some (t, text)
 typed_text t (Err why) = None
 
 -- The type and canonical text of the message that a body of type t is read as.
 abbrev pub reads_route : ℕ → List ℕ → Option TypedBody
-reads_route t b = typed_text t (body_text t b)
+reads_route t b = typed_text t (body_text link_body t b)

@@ -6,6 +6,7 @@ ghost use Rattle.netlink_packet_core.specs.Payloads.{payload_may_allocate};
 ghost use Rattle.link_capture_grammar.specs.Captures.{first_frame};
 ghost use Rattle.link_capture.specs.Routes.{route_may_run_out_of_memory};
 ghost use Rattle.link_capture.specs.Texts.{IsFirstMessage};
+ghost use Rattle.link_message_grammar.specs.Body.{link_body};
 
 use super::route::RouteLink;
 use link_capture_checks::measure_frame;
@@ -31,9 +32,9 @@ pub fn read_message(
     ensures bounds { IfOk result
         (λ frame. (16 ≤ frame.0) × (frame.0 ≤ limit) × (frame.0 ≤ length bytes.now)) }
     ensures refused { IfErr result
-        (λ kind. kind ≢ FaultKind.Memory → first_frame limit bytes.now ≡ Err kind) }
+        (λ kind. kind ≢ FaultKind.Memory → first_frame link_body limit bytes.now ≡ Err kind) }
     ensures memory { IfErr result (λ kind. kind ≡ FaultKind.Memory
-        → (n : ℕ) × (text : List ℕ) × (first_frame limit bytes.now ≡ Ok (n, text))) }
+        → (n : ℕ) × (text : List ℕ) × (first_frame link_body limit bytes.now ≡ Ok (n, text))) }
     ensures kept { IfErr result (λ kind. kind ≡ FaultKind.Memory
         → payload_may_allocate route_may_run_out_of_memory (frame_type bytes.now)
         (frame_body bytes.now) ≡ true) }
@@ -59,9 +60,9 @@ pub(super) fn read_first_message(
     ensures bounds { IfOk result
         (λ frame. (16 ≤ frame.0) × (frame.0 ≤ limit) × (frame.0 ≤ length bytes.now)) }
     ensures refused { IfErr result
-        (λ kind. kind ≢ FaultKind.Memory → first_frame limit bytes.now ≡ Err kind) }
+        (λ kind. kind ≢ FaultKind.Memory → first_frame link_body limit bytes.now ≡ Err kind) }
     ensures memory { IfErr result (λ kind. kind ≡ FaultKind.Memory
-        → (n : ℕ) × (text : List ℕ) × (first_frame limit bytes.now ≡ Ok (n, text))) }
+        → (n : ℕ) × (text : List ℕ) × (first_frame link_body limit bytes.now ≡ Ok (n, text))) }
 {
     read_message(alloc, bytes, limit)
 }

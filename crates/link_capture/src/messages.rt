@@ -2,7 +2,7 @@
 
 ghost use Rattle.std.specs.Prelude.{◌≡◌, ◌≤◌, ◌+◌, ◌-◌, length};
 ghost use Rattle.std.specs.Iterator.{at_most};
-ghost use Rattle.link_capture.specs.Messages.{MessagesLeft, AreLeftOut, IsNext};
+ghost use Rattle.link_capture.specs.Messages.{MessagesLeft, FirstFaultIsAhead, IsNext};
 
 use super::frames::read_first_message;
 use super::route::RouteLink;
@@ -27,7 +27,7 @@ impl<'a> Model for Messages<'a> {
 
     ghost view = { λ m. record { limit = m.limit; capture = m.bytes.now; offset = m.offset } };
 
-    ghost invariant = { λ m. AreLeftOut (record {
+    ghost invariant = { λ m. FirstFaultIsAhead (record {
       limit = m.limit;
       capture = m.bytes.now;
       offset = m.offset;

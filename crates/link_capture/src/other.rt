@@ -1,7 +1,7 @@
 //! Messages whose bodies are kept as they are.
 
 ghost use Rattle.std.specs.Prelude.{◌≡◌, ◌↔◌, ◌<◌, length, IsTrue, IfOk, IfErr};
-ghost use Rattle.link_capture.specs.KeptTypes.{IsKeptType};
+ghost use Rattle.link_capture.specs.KeptTypes.{IsOtherType};
 ghost use Rattle.link_capture.specs.Views.{other_type, other_bytes};
 
 use super::types::OtherMessage;
@@ -13,7 +13,7 @@ impl OtherMessage {
     /// Returns whether the bodies of messages of a type are kept as they are: the type is outside 1
     /// to 4 and 16 to 19.
     pub fn is_kept_type(message_type: u16) -> bool
-        ensures { IsTrue result ↔ IsKeptType message_type }
+        ensures { IsTrue result ↔ IsOtherType message_type }
     {
         !matches!(message_type, NLMSG_NOOP..=NLMSG_OVERRUN | RTM_NEWLINK..=RTM_SETLINK)
     }
@@ -21,7 +21,7 @@ impl OtherMessage {
     /// Returns a message of a type, see `is_kept_type`, with the bytes of its body. Allocates
     /// nothing.
     pub fn new(message_type: u16, bytes: Vec<u8>) -> Self
-        requires { IsKeptType message_type }
+        requires { IsOtherType message_type }
         ensures message_type { other_type result ≡ message_type }
         ensures bytes { other_bytes result ≡ bytes.items }
     {
@@ -38,7 +38,7 @@ impl OtherMessage {
         message_type: u16,
         bytes: &[u8],
     ) -> Result<Self, AllocError>
-        requires { IsKeptType message_type }
+        requires { IsOtherType message_type }
         ensures message_type { IfOk result (λ m. other_type m ≡ message_type) }
         ensures bytes { IfOk result (λ m. other_bytes m ≡ bytes.now) }
         ensures not_empty { IfErr result (λ _. 0 < length bytes.now) }
@@ -52,7 +52,7 @@ impl OtherMessage {
     /// Returns the type of the message.
     pub fn message_type(&self) -> u16
         ensures same_type { result ≡ other_type self.now }
-        ensures kept { IsKeptType result }
+        ensures kept { IsOtherType result }
     {
         self.message_type
     }

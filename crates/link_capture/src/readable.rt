@@ -4,13 +4,13 @@ ghost use Rattle.std.specs.Prelude.{◌≡◌, ◌≢◌, ◌↔◌, Ok, true, f
 ghost use Rattle.link_capture_grammar.specs.Bodies.{ruled_text};
 ghost use Rattle.link_message_grammar.specs.Body.{link_body};
 ghost use Rattle.link_message.specs.LinkMessages.{link_message_text, link_message_fits};
-ghost use Rattle.link_capture.specs.Readable.{IsReadFrom, IsReadable, ReadsAsAnother, is_read_back_as};
+ghost use Rattle.link_capture.specs.Readable.{IsReadFrom, IsReadable, IsNotReadBack, is_read_back_as};
 ghost use Rattle.link_capture.specs.Views.{readable_message, readable_text};
 ghost use Rattle.link_capture.specs.Routes.{ReasonOf};
 
 use super::fault::RouteFault;
 use super::types::ReadableLink;
-use link_capture_grammar::laws::bodies_are_normal;
+use link_capture_grammar::laws::body_texts_are_canonical;
 use link_message::laws::equal_texts_mean_equal_messages;
 use link_message::{LinkMessage, check};
 use link_message_grammar::laws::bodies_are_headers_and_attributes;
@@ -52,7 +52,7 @@ impl ReadableLink {
         ensures unfit { IfErr result
             (λ e. (e.1 ≡ NotReadable.Unfit) ↔ (link_message_fits message ≡ false)) }
         ensures otherwise { IfErr result
-            (λ e. e.1 ≡ NotReadable.ReadsOtherwise → ReadsAsAnother message) }
+            (λ e. e.1 ≡ NotReadable.ReadsOtherwise → IsNotReadBack message) }
         ensures unreadable { IfErr result
             (λ e. e.1 ≡ NotReadable.ReadsOtherwise → IsReadable message → ⊥) }
     {
@@ -73,7 +73,7 @@ impl ReadableLink {
         ensures memory { IfErr result (λ fault. fault ≡ RouteFault.Memory
             → is_ok (ruled_text link_body bytes.now) ≡ true) }
     {
-        bodies_are_normal();
+        body_texts_are_canonical();
         bodies_are_headers_and_attributes();
         let Ok(message) = LinkMessage::parse(alloc, bytes) else {
             return Err(fault_of_unread(bytes));
@@ -161,7 +161,7 @@ fn reads_back(alloc: Global, message: &LinkMessage) -> Result<(), NotReadable>
     ensures unfit { IfErr result
         (λ why. (why ≡ NotReadable.Unfit) ↔ (link_message_fits message.now ≡ false)) }
     ensures otherwise { IfErr result
-        (λ why. why ≡ NotReadable.ReadsOtherwise → ReadsAsAnother message.now) }
+        (λ why. why ≡ NotReadable.ReadsOtherwise → IsNotReadBack message.now) }
 {
     if !message.fits() {
         return Err(NotReadable::Unfit);

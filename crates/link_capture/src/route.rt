@@ -3,7 +3,7 @@
 ghost use Rattle.std.specs.Prelude.{⊤};
 ghost use Rattle.netlink_packet_core.specs.TypedBodies.{TypedBody};
 ghost use Rattle.link_capture.specs.Routes.{route_entry, reads_route, route_may_run_out_of_memory};
-ghost use Rattle.link_capture.specs.Routes.{route_reason, route_ran_out_of_memory};
+ghost use Rattle.link_capture.specs.Routes.{RouteReason, route_ran_out_of_memory};
 ghost use Rattle.link_capture.specs.RoundTrips.{round_trip, route_inner};
 
 use super::fault::RouteFault;
@@ -75,9 +75,9 @@ impl NetlinkDeserializable for RouteLink {
 
     ghost may_allocate = { route_may_run_out_of_memory };
 
-    ghost determines = { route_reason };
+    ghost determines = { RouteReason };
 
-    #[tactic(auto, using(crate::proofs::Others::others), unfolding(link_capture_grammar::specs::Bodies::body_text_under))]
+    #[tactic(auto, using(crate::proofs::Others::others), unfolding(link_capture_grammar::specs::Bodies::body_text))]
     fn deserialize(
         alloc: Global,
         header: &NetlinkHeader,

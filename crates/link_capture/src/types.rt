@@ -1,6 +1,6 @@
 //! The types of messages of a capture, with their invariants.
 
-ghost use Rattle.link_capture.specs.KeptTypes.{IsKeptType};
+ghost use Rattle.link_capture.specs.KeptTypes.{IsOtherType};
 ghost use Rattle.link_capture.specs.Readable.{IsReadable};
 
 use link_message::LinkMessage;
@@ -19,5 +19,5 @@ pub struct ReadableLink {
 pub struct OtherMessage {
     pub(crate) message_type: u16,
     pub(crate) bytes: ByteVec,
-    ghost kept: { IsKeptType message_type },
+    ghost kept: { IsOtherType message_type },
 }

@@ -6,7 +6,7 @@ use Rattle.std.specs.Prelude.{nat_le}
 use Rattle.std.proofs.lemmas.Bool.{cond_both, le-leb, leb-true, lt-leb}
 use Rattle.std.proofs.lemmas.List.{length-take, length-take-le, take-append-drop}
 use Rattle.netlink_packet_core_grammar.specs.Attributes.{Attribute, attribute_length, first_attribute, nla_align}
-use Rattle.netlink_packet_core_grammar.specs.Frames.{IsFrame, frame_body, frame_length, frame_type}
+use Rattle.netlink_packet_core_grammar.specs.Frames.{BeginsWithFrame, frame_body, frame_length, frame_type}
 use Rattle.netlink_packet_core_grammar.specs.Laws.{FirstIsWithin}
 use Rattle.netlink_packet_core_grammar.proofs.Attributes.{Headed, headed}
 use Rattle.link_capture_grammar.specs.Bodies.{is_link_type}
@@ -186,7 +186,7 @@ module _ (s : ListsUnfoldByAttributes) where
     placed w (suc k) l offset bytes h a = next_placed k (placed w k) w l offset bytes h a (first_attribute bytes) refl
 
   module _ (w : FirstIsWithin) where
-    all_placed : (offset : ℕ) (c : List ℕ) → IsFrame c →
+    all_placed : (offset : ℕ) (c : List ℕ) → BeginsWithFrame c →
         ArePlaced offset c (offset + 32) (offset + frame_length c) (frame_attributes offset c)
     unfolding frame_attributes
     all_placed offset c i = by (is_link_type (frame_type c))

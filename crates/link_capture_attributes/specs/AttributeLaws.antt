@@ -1,6 +1,6 @@
 -- The laws of attributes with their contexts, as the functions of `laws` state them.
 use Rattle.std.specs.Prelude.{◌≡◌, ℕ, ◌+◌, ◌≤◌, List, [], ◌∷◌, ◌++◌, length, Some}
-use Rattle.netlink_packet_core_grammar.specs.Frames.{IsFrame, frame_length}
+use Rattle.netlink_packet_core_grammar.specs.Frames.{BeginsWithFrame, frame_length}
 use Rattle.link_capture_walks.specs.Walks.{UnfoldsByAttributes}
 use Rattle.link_capture_attributes.specs.Attributes.{Found, attribute_walk, first_from, frame_attributes, list_attributes}
 
@@ -16,7 +16,7 @@ AreApart low high (f ∷ fs) = (low ≤ f.offset) × (f.offset + 4 ≤ high) × 
 
 -- The attributes of a frame are in the order of their bytes, and inside it.
 abbrev pub AttributesAreApart : Type 0
-AttributesAreApart = (offset : ℕ) (c : List ℕ) → IsFrame c →
+AttributesAreApart = (offset : ℕ) (c : List ℕ) → BeginsWithFrame c →
     AreApart (offset + 32) (offset + frame_length c) (frame_attributes offset c)
 
 -- The attribute after one is the first from the end of its header on.
@@ -31,6 +31,6 @@ IsAt start c offset x = (before : List ℕ) × (rest : List ℕ) × (c ≡ befor
 -- Each attribute of a frame that is found from a position on is there or after it, and its payload is in the frame, 4
 -- bytes after its offset.
 abbrev pub AttributesAreWhereTheySay : Type 0
-AttributesAreWhereTheySay = (offset position : ℕ) (c : List ℕ) (f : Found) → IsFrame c →
+AttributesAreWhereTheySay = (offset position : ℕ) (c : List ℕ) (f : Found) → BeginsWithFrame c →
     first_from position (frame_attributes offset c) ≡ Some f →
     (position ≤ f.offset) × IsAt offset c (f.offset + 4) f.attribute.payload

@@ -1,7 +1,7 @@
 //! The attributes of the first frame of some bytes.
 
 ghost use Rattle.std.specs.Prelude.{◌≡◌, ◌<◌, ◌≤◌, ◌+◌, ◌^◌, length, IfSome};
-ghost use Rattle.netlink_packet_core.specs.Frames.{IsFrame};
+ghost use Rattle.netlink_packet_core.specs.Frames.{BeginsWithFrame};
 ghost use Rattle.link_capture_attributes.specs.Attributes.{first_from, frame_attributes};
 ghost use Rattle.link_capture_attributes.specs.AttributeViews.{all_found};
 
@@ -21,7 +21,7 @@ use netlink_packet_core::{NETLINK_HEADER_LEN, NetlinkBuffer};
 /// it. Messages other than those of links have no attributes here. Allocates nothing.
 #[tactic(auto, unfolding(crate::specs::Attributes::frame_attributes))]
 pub fn attribute_from(bytes: &[u8], offset: u64, position: u64) -> Option<AttributeAt<'_>>
-    requires frame { IsFrame bytes.now }
+    requires frame { BeginsWithFrame bytes.now }
     requires near { offset + length bytes.now < 2 ^ 63 }
     ensures found { all_found result ≡ first_from position (frame_attributes offset bytes.now) }
     ensures shallow { IfSome result (λ a. a.depth ≤ 6) }

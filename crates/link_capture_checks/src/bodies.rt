@@ -4,10 +4,10 @@ ghost use Rattle.std.specs.Prelude.{◌≡◌, ◌≤◌, ◌+◌, ◌++◌, tru
 ghost use Rattle.link_message_grammar.specs.Body.{link_body, link_peer};
 ghost use Rattle.link_message_checks.specs.Prefixes.{IsBodyPrefix};
 ghost use Rattle.link_capture_grammar.specs.Bodies.{body_text, done_text, error_text, ruled_text};
-ghost use Rattle.link_capture_grammar.specs.Captures.{text_or_fault};
-ghost use Rattle.link_capture_grammar.specs.Numbers.{body_attributes};
+ghost use Rattle.link_capture_grammar.specs.Captures.{IsOfFrames};
+ghost use Rattle.link_capture_grammar.specs.Numbers.{body_attribute_count};
 ghost use Rattle.link_capture_grammar.specs.Same.{done_body};
-ghost use Rattle.link_capture_checks.specs.Measures.{IsBodyText, written};
+ghost use Rattle.link_capture_checks.specs.Measures.{IsMeasuredBody, text_or_empty};
 
 use crate::texts::MeasuredBody;
 use attribute_tables_grammar::laws::measures_determine_rules;
@@ -29,7 +29,7 @@ pub(crate) fn with_code(body: &[u8]) -> &[u8]
 
 // Returns the measure of a body that is already canonical.
 fn kept(body: &[u8]) -> MeasuredBody
-    ensures text { IsBodyText body.now (Ok body.now) 0 result }
+    ensures text { IsMeasuredBody body.now (Ok body.now) 0 result }
     ensures canonical_prefix { result.canonical_prefix ≡ 0 }
 {
     MeasuredBody {
@@ -42,9 +42,10 @@ fn kept(body: &[u8]) -> MeasuredBody
 
 // Returns the measure of the body of an ERROR message: a code and more.
 fn measure_error(body: &[u8]) -> Result<MeasuredBody, FaultKind>
-    ensures ok { IfOk result (λ m. IsBodyText body.now (error_text body.now) 0 m) }
+    ensures ok { IfOk result (λ m. IsMeasuredBody body.now (error_text body.now) 0 m) }
     ensures canonical_prefix { IfOk result (λ m. m.canonical_prefix ≡ 0) }
-    ensures err { IfErr result (λ kind. text_or_fault (error_text body.now) ≡ Err kind) }
+    ensures err { IfErr result (λ kind. error_text body.now ≡ Err kind) }
+    ensures of_frames { IfErr result (λ kind. IsOfFrames kind) }
 {
     if body.len() < CODE_LEN {
         Err(FaultKind::Refused)
@@ -56,9 +57,10 @@ fn measure_error(body: &[u8]) -> Result<MeasuredBody, FaultKind>
 // Returns the measure of the body of a DONE message: a code and more, or nothing, which is the code
 // 0.
 fn measure_done(body: &[u8]) -> Result<MeasuredBody, FaultKind>
-    ensures ok { IfOk result (λ m. IsBodyText body.now (done_text body.now) 0 m) }
+    ensures ok { IfOk result (λ m. IsMeasuredBody body.now (done_text body.now) 0 m) }
     ensures canonical_prefix { IfOk result (λ m. m.canonical_prefix ≡ 0) }
-    ensures err { IfErr result (λ kind. text_or_fault (done_text body.now) ≡ Err kind) }
+    ensures err { IfErr result (λ kind. done_text body.now ≡ Err kind) }
+    ensures of_frames { IfErr result (λ kind. IsOfFrames kind) }
 {
     if body.is_empty() {
         return Ok(MeasuredBody {
@@ -74,9 +76,10 @@ fn measure_done(body: &[u8]) -> Result<MeasuredBody, FaultKind>
 // Returns the measure of the body of a link message.
 fn measure_link(body: &[u8]) -> Result<MeasuredBody, FaultKind>
     ensures ok { IfOk result
-        (λ m. IsBodyText body.now (ruled_text link_body body.now) (link_body.attributes body.now) m) }
+        (λ m. IsMeasuredBody body.now (ruled_text link_body body.now) (link_body.attributes body.now) m) }
     ensures canonical_prefix { IfOk result (λ m. IsBodyPrefix link_peer body.now m.canonical_prefix) }
-    ensures err { IfErr result (λ kind. text_or_fault (ruled_text link_body body.now) ≡ Err kind) }
+    ensures err { IfErr result (λ kind. ruled_text link_body body.now ≡ Err kind) }
+    ensures of_frames { IfErr result (λ kind. IsOfFrames kind) }
 {
     measures_determine_rules();
     let Some(found) = walk_body(body) else {
@@ -98,10 +101,11 @@ fn measure_link(body: &[u8]) -> Result<MeasuredBody, FaultKind>
 
 /// Returns the measure of the body of a message of a type.
 pub(crate) fn measure_body(message_type: u16, body: &[u8]) -> Result<MeasuredBody, FaultKind>
-    ensures ok { IfOk result (λ m. IsBodyText body.now (body_text message_type body.now)
-        (body_attributes message_type body.now) m) }
+    ensures ok { IfOk result (λ m. IsMeasuredBody body.now (body_text link_body message_type body.now)
+        (body_attribute_count link_body message_type body.now) m) }
     ensures canonical_prefix { IfOk result (λ m. IsBodyPrefix link_peer body.now m.canonical_prefix) }
-    ensures err { IfErr result (λ kind. text_or_fault (body_text message_type body.now) ≡ Err kind) }
+    ensures err { IfErr result (λ kind. body_text link_body message_type body.now ≡ Err kind) }
+    ensures of_frames { IfErr result (λ kind. IsOfFrames kind) }
 {
     match message_type {
         NLMSG_NOOP => Ok(MeasuredBody {
@@ -126,12 +130,12 @@ pub(crate) fn write_frame_body(
     canonical_prefix: usize,
     out: &mut Vec<u8>,
 )
-    requires text { is_ok (body_text message_type body.now) ≡ true }
-    requires canonical { is_canonical ≡ true → body_text message_type body.now ≡ Ok body.now }
+    requires text { is_ok (body_text link_body message_type body.now) ≡ true }
+    requires canonical { is_canonical ≡ true → body_text link_body message_type body.now ≡ Ok body.now }
     requires canonical_prefix { IsBodyPrefix link_peer body.now canonical_prefix }
-    requires capacity { length out.old.items + length (written (body_text message_type body.now))
+    requires capacity { length out.old.items + length (text_or_empty (body_text link_body message_type body.now))
         ≤ vec_capacity out.old }
-    ensures text { out.new.items ≡ out.old.items ++ written (body_text message_type body.now) }
+    ensures text { out.new.items ≡ out.old.items ++ text_or_empty (body_text link_body message_type body.now) }
     ensures capacity { vec_capacity out.old ≤ vec_capacity out.new }
 {
     if is_canonical {

@@ -3,6 +3,7 @@
 ghost use Rattle.std.specs.Prelude.{◌≡◌, IfOk, IfErr, None, Some, length};
 ghost use Rattle.link_capture_grammar.specs.Captures.{first_fault, texts, IsLegal};
 ghost use Rattle.link_capture_checks.specs.Measures.{IsMeasure};
+ghost use Rattle.link_message_grammar.specs.Body.{link_body};
 
 use crate::frames::measure_frame;
 use crate::texts::Measure;
@@ -19,9 +20,9 @@ use netlink_packet_core::nla_align;
 ///
 /// The first fault of the capture, with its offset.
 pub fn measure(bytes: &[u8], limit: u32) -> Result<Measure, CaptureFault>
-    ensures legal { IfOk result (λ m. IsLegal limit bytes.now) }
+    ensures legal { IfOk result (λ m. IsLegal link_body limit bytes.now) }
     ensures numbers { IfOk result (λ m. IsMeasure limit bytes.now m) }
-    ensures fault { IfErr result (λ fault. first_fault limit bytes.now ≡ Some fault) }
+    ensures fault { IfErr result (λ fault. first_fault link_body limit bytes.now ≡ Some fault) }
 {
     captures_are_counted();
     captures_unfold_by_frames();
@@ -57,8 +58,8 @@ pub fn measure(bytes: &[u8], limit: u32) -> Result<Measure, CaptureFault>
 ///
 /// The first fault of the capture, with its offset.
 pub fn check(bytes: &[u8], limit: u32) -> Result<(), CaptureFault>
-    ensures legal { IfOk result (λ _. IsLegal limit bytes.now) }
-    ensures fault { IfErr result (λ fault. first_fault limit bytes.now ≡ Some fault) }
+    ensures legal { IfOk result (λ _. IsLegal link_body limit bytes.now) }
+    ensures fault { IfErr result (λ fault. first_fault link_body limit bytes.now ≡ Some fault) }
 {
     measure(bytes, limit)?;
     Ok(())
@@ -70,9 +71,9 @@ pub fn check(bytes: &[u8], limit: u32) -> Result<(), CaptureFault>
 ///
 /// The first fault of the capture, with its offset.
 pub fn normal_len(bytes: &[u8], limit: u32) -> Result<u128, CaptureFault>
-    ensures legal { IfOk result (λ _. IsLegal limit bytes.now) }
-    ensures len { IfOk result (λ n. n ≡ length (texts limit bytes.now)) }
-    ensures fault { IfErr result (λ fault. first_fault limit bytes.now ≡ Some fault) }
+    ensures legal { IfOk result (λ _. IsLegal link_body limit bytes.now) }
+    ensures len { IfOk result (λ n. n ≡ length (texts link_body limit bytes.now)) }
+    ensures fault { IfErr result (λ fault. first_fault link_body limit bytes.now ≡ Some fault) }
 {
     Ok(measure(bytes, limit)?.text_len)
 }

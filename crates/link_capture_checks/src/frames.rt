@@ -4,12 +4,12 @@ ghost use Rattle.std.specs.Prelude.{◌≡◌, ◌≢◌, ◌≤◌, ◌<◌, �
 ghost use Rattle.std.specs.Prelude.{is_ok, vec_capacity, IfOk, IfErr, OnErr, Ok, Err};
 ghost use Rattle.netlink_packet_core_grammar.specs.Attributes.{nla_align};
 ghost use Rattle.netlink_packet_core.specs.Numbers.{le4};
-ghost use Rattle.netlink_packet_core.specs.Frames.{IsFrame, frame_length, frame_type, frame_body, frame_text};
-ghost use Rattle.link_message_grammar.specs.Body.{link_peer};
+ghost use Rattle.netlink_packet_core.specs.Frames.{BeginsWithFrame, frame_length, frame_type, frame_body, frame_text};
+ghost use Rattle.link_message_grammar.specs.Body.{link_peer, link_body};
 ghost use Rattle.link_message_checks.specs.Prefixes.{IsBodyPrefix};
 ghost use Rattle.link_capture_grammar.specs.Bodies.{body_text};
 ghost use Rattle.link_capture_grammar.specs.Captures.{IsOfFrames, Judged, first_frame, checked_header};
-ghost use Rattle.link_capture_checks.specs.Measures.{IsFrameText, LacksCapacity, written};
+ghost use Rattle.link_capture_checks.specs.Measures.{IsMeasuredFrame, LacksCapacity, text_or_empty};
 
 use crate::bodies::{measure_body, write_frame_body};
 use crate::texts::{MeasuredBody, MeasuredFrame};
@@ -24,7 +24,7 @@ use netlink_packet_core::{NETLINK_HEADER_LEN, NetlinkBuffer, nla_align};
 ///
 /// The fault of the header: `Cut`, `ShortLength` or `OverLimit`.
 pub fn frame_len(bytes: &[u8], limit: u32) -> Result<usize, FaultKind>
-    ensures ok { IfOk result (λ n. (n ≡ frame_length bytes.now) × (n ≤ limit) × IsFrame bytes.now) }
+    ensures ok { IfOk result (λ n. (n ≡ frame_length bytes.now) × (n ≤ limit) × BeginsWithFrame bytes.now) }
     ensures err { IfErr result
         (λ kind. (judged : Judged) → checked_header limit (length bytes.now) (frame_length bytes.now) judged
         ≡ Err kind) }
@@ -48,7 +48,7 @@ pub fn frame_len(bytes: &[u8], limit: u32) -> Result<usize, FaultKind>
 
 /// Returns the body of the first frame.
 pub fn frame_body(bytes: &[u8]) -> &[u8]
-    requires { IsFrame bytes.now }
+    requires { BeginsWithFrame bytes.now }
     ensures { result.now ≡ frame_body bytes.now }
 {
     &bytes[NETLINK_HEADER_LEN..NetlinkBuffer::new(bytes).length() as usize]
@@ -61,9 +61,9 @@ pub fn frame_body(bytes: &[u8]) -> &[u8]
 /// The fault of the frame.
 #[inline(always)]
 pub fn measure_frame(bytes: &[u8], limit: u32) -> Result<MeasuredFrame, FaultKind>
-    ensures ok { IfOk result (λ m. IsFrameText limit bytes.now m) }
+    ensures ok { IfOk result (λ m. IsMeasuredFrame limit bytes.now m) }
     ensures bounds { IfOk result (λ m. (16 ≤ m.len) × (m.len ≤ length bytes.now)) }
-    ensures err { IfErr result (λ kind. first_frame limit bytes.now ≡ Err kind) }
+    ensures err { IfErr result (λ kind. first_frame link_body limit bytes.now ≡ Err kind) }
     ensures of_frames { IfErr result (λ kind. IsOfFrames kind) }
 {
     frames_are_judged();
@@ -109,16 +109,16 @@ fn write_frame_text(
     canonical_prefix: usize,
     out: &mut Vec<u8>,
 )
-    requires frame { IsFrame bytes.now }
-    requires text { is_ok (body_text (frame_type bytes.now) (frame_body bytes.now)) ≡ true }
+    requires frame { BeginsWithFrame bytes.now }
+    requires text { is_ok (body_text link_body (frame_type bytes.now) (frame_body bytes.now)) ≡ true }
     requires canonical { is_canonical ≡ true
-        → body_text (frame_type bytes.now) (frame_body bytes.now) ≡ Ok (frame_body bytes.now) }
+        → body_text link_body (frame_type bytes.now) (frame_body bytes.now) ≡ Ok (frame_body bytes.now) }
     requires canonical_prefix { IsBodyPrefix link_peer (frame_body bytes.now) canonical_prefix }
     requires size { size
-        ≡ 16 + length (written (body_text (frame_type bytes.now) (frame_body bytes.now))) }
+        ≡ 16 + length (text_or_empty (body_text link_body (frame_type bytes.now) (frame_body bytes.now))) }
     requires capacity { length out.old.items + nla_align size ≤ vec_capacity out.old }
     ensures text { out.new.items ≡ out.old.items
-        ++ frame_text bytes.now (written (body_text (frame_type bytes.now) (frame_body bytes.now))) }
+        ++ frame_text bytes.now (text_or_empty (body_text link_body (frame_type bytes.now) (frame_body bytes.now))) }
     ensures capacity { vec_capacity out.old ≤ vec_capacity out.new }
 {
     append(&header_with(size, bytes), out);
@@ -143,11 +143,11 @@ fn write_frame_text(
 /// allocated at once.
 pub fn push_frame(bytes: &[u8], limit: u32, out: &mut Vec<u8>) -> Result<usize, FaultKind>
     ensures ok { IfOk result
-        (λ n. (text : List ℕ) × (first_frame limit bytes.now ≡ Ok (n, text))
+        (λ n. (text : List ℕ) × (first_frame link_body limit bytes.now ≡ Ok (n, text))
         × (out.new.items ≡ out.old.items ++ text)) }
     ensures bounds { IfOk result (λ n. (16 ≤ n) × (n ≤ limit) × (n ≤ length bytes.now)) }
     ensures refused { IfErr result
-        (λ kind. kind ≢ FaultKind.Memory → first_frame limit bytes.now ≡ Err kind) }
+        (λ kind. kind ≢ FaultKind.Memory → first_frame link_body limit bytes.now ≡ Err kind) }
     ensures err { OnErr result (out.new.items ≡ out.old.items) }
     ensures memory { IfErr result
         (λ kind. kind ≡ FaultKind.Memory → LacksCapacity limit bytes.now out.old) }

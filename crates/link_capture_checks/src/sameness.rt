@@ -2,13 +2,14 @@
 
 ghost use Rattle.std.specs.Prelude.{◌≡◌, ◌≤◌, ◌<◌, ◌↔◌, true, length, drop, cond, Some, IfOk, IfErr, OnOk};
 ghost use Rattle.netlink_packet_core_grammar.specs.Attributes.{nla_align};
-ghost use Rattle.netlink_packet_core.specs.Frames.{IsFrame, frame_length, frame_type, frame_body};
+ghost use Rattle.netlink_packet_core.specs.Frames.{BeginsWithFrame, frame_length, frame_type, frame_body};
 ghost use Rattle.link_capture_grammar.specs.Bodies.{is_link_type};
 ghost use Rattle.link_capture_grammar.specs.Captures.{first_fault, texts, IsLegal};
 ghost use Rattle.link_capture_grammar.specs.Laws.{LegalFrame};
 ghost use Rattle.link_capture_grammar.specs.Same.{done_body, same_body, SameFrame, SameCapture};
-ghost use Rattle.link_capture_checks.specs.Partings.{IsAlike, HaveParted};
+ghost use Rattle.link_capture_checks.specs.Partings.{ReducesComparison, ComparisonStops};
 ghost use Rattle.link_capture_checks.specs.Sides.{side_text};
+ghost use Rattle.link_message_grammar.specs.Body.{link_body};
 
 use crate::bodies::with_code;
 use crate::capture::check;
@@ -60,7 +61,7 @@ impl fmt::Display for SideFault {
 
 // Returns the bytes after the first frame and its padding.
 fn following(bytes: &[u8]) -> &[u8]
-    requires { IsFrame bytes.now }
+    requires { BeginsWithFrame bytes.now }
     ensures { result.now ≡ drop (nla_align (frame_length bytes.now)) bytes.now }
 {
     let len = nla_align(NetlinkBuffer::new(bytes).length() as usize);
@@ -71,7 +72,7 @@ fn following(bytes: &[u8]) -> &[u8]
 fn same_body(message_type: u16, left: &[u8], right: &[u8]) -> bool
     requires left { is_link_type message_type ≡ true → 16 ≤ length left.now }
     requires right { is_link_type message_type ≡ true → 16 ≤ length right.now }
-    ensures { result ≡ same_body message_type left.now right.now }
+    ensures { result ≡ same_body link_body message_type left.now right.now }
 {
     match message_type {
         NLMSG_NOOP => true,
@@ -83,9 +84,9 @@ fn same_body(message_type: u16, left: &[u8], right: &[u8]) -> bool
 
 // Returns whether two legal frames mean the same.
 fn same_frame(left: &[u8], right: &[u8], limit: u32) -> bool
-    requires left { LegalFrame limit left.now }
-    requires right { LegalFrame limit right.now }
-    ensures { (result ≡ true) ↔ SameFrame left.now right.now }
+    requires left { LegalFrame link_body limit left.now }
+    requires right { LegalFrame link_body limit right.now }
+    ensures { (result ≡ true) ↔ SameFrame link_body left.now right.now }
 {
     let message_type = NetlinkBuffer::new(left).message_type();
     &left[4..NETLINK_HEADER_LEN] == &right[4..NETLINK_HEADER_LEN]
@@ -95,8 +96,8 @@ fn same_frame(left: &[u8], right: &[u8], limit: u32) -> bool
 // Returns whether the first frame of `right` is legal and means the same as the first frame of
 // `left`, which is legal. A frame with equal bytes isn't judged again.
 fn is_same_frame(left: &[u8], right: &[u8], limit: u32) -> bool
-    requires { LegalFrame limit left.now }
-    ensures { (result ≡ true) ↔ (LegalFrame limit right.now × SameFrame left.now right.now) }
+    requires { LegalFrame link_body limit left.now }
+    ensures { (result ≡ true) ↔ (LegalFrame link_body limit right.now × SameFrame link_body left.now right.now) }
 {
     sameness_unfolds_by_frames();
     let len = NetlinkBuffer::new(left).length() as usize;
@@ -112,9 +113,9 @@ fn is_same_frame(left: &[u8], right: &[u8], limit: u32) -> bool
 // Passes the frames of `right` that are legal and mean the same as those of `left`, in pairs.
 // Returns the rest of `left` after them, and the offset after them in `right`.
 fn parting<'a>(left: &'a [u8], right: &[u8], limit: u32) -> (&'a [u8], usize)
-    requires { IsLegal limit left.now }
-    ensures alike { IsAlike limit left.now right.now result.0.now result.1 }
-    ensures parts { HaveParted limit result.0.now (drop result.1 right.now) }
+    requires { IsLegal link_body limit left.now }
+    ensures alike { ReducesComparison limit left.now right.now result.0.now result.1 }
+    ensures parts { ComparisonStops limit result.0.now (drop result.1 right.now) }
 {
     sameness_unfolds_by_frames();
     captures_are_counted();
@@ -133,11 +134,11 @@ fn parting<'a>(left: &'a [u8], right: &[u8], limit: u32) -> (&'a [u8], usize)
 
 // Returns whether a capture means the same as a legal one, or fails with its first fault.
 fn same_as(left: &[u8], right: &[u8], limit: u32) -> Result<bool, CaptureFault>
-    requires { IsLegal limit left.now }
-    ensures legal { OnOk result (IsLegal limit right.now) }
+    requires { IsLegal link_body limit left.now }
+    ensures legal { OnOk result (IsLegal link_body limit right.now) }
     ensures same { IfOk result
-        (λ is_same. (is_same ≡ true) ↔ SameCapture limit left.now right.now) }
-    ensures fault { IfErr result (λ fault. first_fault limit right.now ≡ Some fault) }
+        (λ is_same. (is_same ≡ true) ↔ SameCapture link_body limit left.now right.now) }
+    ensures fault { IfErr result (λ fault. first_fault link_body limit right.now ≡ Some fault) }
 {
     sameness_unfolds_by_frames();
     faults_are_at_frames();
@@ -165,14 +166,14 @@ fn same_as(left: &[u8], right: &[u8], limit: u32) -> Result<bool, CaptureFault>
 ///
 /// The first fault of the first capture, or that of the second if the first is legal.
 pub fn same(left: &[u8], right: &[u8], limit: u32) -> Result<bool, SideFault>
-    ensures legal { OnOk result (IsLegal limit left.now × IsLegal limit right.now) }
+    ensures legal { OnOk result (IsLegal link_body limit left.now × IsLegal link_body limit right.now) }
     ensures same { IfOk result
-        (λ is_same. (is_same ≡ true) ↔ SameCapture limit left.now right.now) }
+        (λ is_same. (is_same ≡ true) ↔ SameCapture link_body limit left.now right.now) }
     ensures texts { IfOk result
-        (λ is_same. (is_same ≡ true) ↔ (texts limit left.now ≡ texts limit right.now)) }
+        (λ is_same. (is_same ≡ true) ↔ (texts link_body limit left.now ≡ texts link_body limit right.now)) }
     ensures fault { IfErr result
-        (λ e. first_fault limit (cond e.second right.now left.now) ≡ Some e.fault) }
-    ensures in_turn { IfErr result (λ e. e.second ≡ true → IsLegal limit left.now) }
+        (λ e. first_fault link_body limit (cond e.second right.now left.now) ≡ Some e.fault) }
+    ensures in_turn { IfErr result (λ e. e.second ≡ true → IsLegal link_body limit left.now) }
 {
     texts_determine_meanings();
     if let Err(fault) = check(left, limit) {

@@ -2,7 +2,7 @@
 
 ghost use Rattle.std.specs.Prelude.{◌≡◌, ℕ, [], map, IfSome, IfNone, string_bytes};
 ghost use Rattle.std.specs.Str.Parse.{digits_value};
-ghost use Rattle.link_capture_commands.specs.Commands.{IsLimitArgument, IsLimit, IsCommand, HasLimit, status_of, status_of_same};
+ghost use Rattle.link_capture_commands.specs.Commands.{IsLimitArgument, AsksForLimit, AsksForCommand, LimitIsAtLeast16, status_of_norm, status_of_same};
 
 use link_capture_checks::SideFault;
 use link_capture_grammar::fault::CaptureFault;
@@ -45,8 +45,8 @@ pub fn read_limit(argument: &str) -> Option<u32>
 
 /// Returns the limit in the last arguments: the only one, or `DEFAULT_LIMIT` if there is none.
 fn read_last(arguments: &[String]) -> Option<u32>
-    ensures some { IfSome result (λ n. IsLimit (map string_bytes arguments.now) n) }
-    ensures none { IfNone result ((n : ℕ) → IsLimit (map string_bytes arguments.now) n → ⊥) }
+    ensures some { IfSome result (λ n. AsksForLimit (map string_bytes arguments.now) n) }
+    ensures none { IfNone result ((n : ℕ) → AsksForLimit (map string_bytes arguments.now) n → ⊥) }
 {
     match arguments {
         [] => Some(DEFAULT_LIMIT),
@@ -59,12 +59,12 @@ fn read_last(arguments: &[String]) -> Option<u32>
 /// of two files, followed by a limit or nothing. Returns None for any other arguments. Allocates
 /// nothing.
 pub fn read_words(arguments: &[String]) -> Option<Command<'_>>
-    ensures some { IfSome result (λ command. IsCommand (map string_bytes arguments.now) command) }
-    ensures limit { IfSome result (λ command. HasLimit command) }
+    ensures some { IfSome result (λ command. AsksForCommand (map string_bytes arguments.now) command) }
+    ensures limit { IfSome result (λ command. LimitIsAtLeast16 command) }
     // The limit if no argument is one.
-    ensures default { IsLimit [] DEFAULT_LIMIT }
+    ensures default { AsksForLimit [] DEFAULT_LIMIT }
     ensures none { IfNone result ((command : Command)
-        → IsCommand (map string_bytes arguments.now) command → ⊥) }
+        → AsksForCommand (map string_bytes arguments.now) command → ⊥) }
 {
     match arguments {
         [norm, last @ ..] if norm.as_str() == "norm" => Some(Command::Norm {
@@ -81,7 +81,7 @@ pub fn read_words(arguments: &[String]) -> Option<Command<'_>>
 
 /// Returns the exit status after a run of `norm`: 0 if it succeeded, 2 after a fault.
 pub fn status_norm(outcome: &Result<(), CaptureFault>) -> u8
-    ensures { result ≡ status_of outcome.now }
+    ensures { result ≡ status_of_norm outcome.now }
 {
     match outcome {
         Ok(()) => 0,

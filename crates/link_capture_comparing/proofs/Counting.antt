@@ -6,11 +6,10 @@ use Rattle.std.proofs.KnownBytes.{Consumes-kept, Consumes-nil, Consumes-trans}
 use Rattle.std.specs.Io.KnownBytes.{Consumes, IsAtEnd, Keeps}
 use Rattle.link_capture_grammar.specs.declared.fault.CaptureFault.{CaptureFault}
 use Rattle.link_capture_grammar.specs.declared.fault.FaultKind.TheVariants.{Read, TooLong}
-use Rattle.link_capture_reader.specs.Devices.{counted, risen}
-use Rattle.link_capture_reader.specs.Outcomes.{IsPrefix}
+use Rattle.link_capture_reader.specs.Devices.{counted, risen, IsPrefix}
 use Rattle.link_capture_reader.specs.States.{SourceState}
-use Rattle.link_capture_comparing.specs.Comparisons.{IsUnread, IsReadWhole}
-use Rattle.link_capture_comparing.specs.Readings.{EndsAs, EndsOrStops, HasRead, StopsAfter}
+use Rattle.link_capture_comparing.specs.Comparisons.{IsReadUpTo, IsReadWhole}
+use Rattle.link_capture_comparing.specs.Readings.{EndsAs, EndsOrReadFails, HasRead, ReadFailsAfter}
 
 -- nothing was read
 pub none_read : (s : SourceState) → HasRead s s false 0 []
@@ -40,7 +39,7 @@ piece_read initial old new s buffer n read l w h b a f c = record {
 }
 
 -- a read failed
-pub read_fails : (initial old new : SourceState) (s : List ℕ) (read : ℕ) → HasRead initial old false read s → Keeps old.to_come new.to_come → new.failures ≡ risen old.failures → StopsAfter initial new s (record { kind = Read; offset = read })
+pub read_fails : (initial old new : SourceState) (s : List ℕ) (read : ℕ) → HasRead initial old false read s → Keeps old.to_come new.to_come → new.failures ≡ risen old.failures → ReadFailsAfter initial new s (record { kind = Read; offset = read })
 read_fails initial old new s read h k f = (
   s,
   prefix_refl s,
@@ -48,7 +47,7 @@ read_fails initial old new s read h k f = (
 )
 
 -- more bytes came than 64 bits can count
-pub too_long : (initial old new : SourceState) (s buffer : List ℕ) (n read : ℕ) → n ≤ length buffer → n ≤ 32768 → 2 ^ 64 ≤ read + n → HasRead initial old false read s → Consumes old.to_come new.to_come (take n buffer) → StopsAfter initial new s (record { kind = TooLong; offset = read })
+pub too_long : (initial old new : SourceState) (s buffer : List ℕ) (n read : ℕ) → n ≤ length buffer → n ≤ 32768 → 2 ^ 64 ≤ read + n → HasRead initial old false read s → Consumes old.to_come new.to_come (take n buffer) → ReadFailsAfter initial new s (record { kind = TooLong; offset = read })
 too_long initial old new s buffer n read w m l h b =
     let size : length (s ++ take n buffer) ≡ length s + n = length-append s (take n buffer) ∙ omega (arith, length-take n buffer) in (
       s ++ take n buffer,
@@ -60,7 +59,7 @@ too_long initial old new s buffer n read w m l h b =
     )
 
 -- reading stopped later
-pub stops_later : (initial now : SourceState) (s t : List ℕ) (fault : CaptureFault) → IsPrefix s t → StopsAfter initial now t fault → StopsAfter initial now s fault
+pub stops_later : (initial now : SourceState) (s t : List ℕ) (fault : CaptureFault) → IsPrefix s t → ReadFailsAfter initial now t fault → ReadFailsAfter initial now s fault
 stops_later initial now s t fault p h = (h.0, prefix_trans s t h.0 p h.1, h.2)
 
 -- a source whose end was reported was read whole
@@ -68,6 +67,6 @@ pub whole : (initial now : SourceState) (read : ℕ) (s : List ℕ) → HasRead 
 whole initial now read s h = record { bytes = h.bytes; failures = h.failures; end = h.ends }
 
 -- all that was read since a state of a source, or why it wasn't
-pub read_all : {A : Type 0} (before after : SourceState) (r : Result A CaptureFault) → EndsOrStops before after [] r → (s : List ℕ) × MatchResult r (λ _. IsReadWhole before after s) (λ fault. IsUnread before after s fault)
+pub read_all : {A : Type 0} (before after : SourceState) (r : Result A CaptureFault) → EndsOrReadFails before after [] r → (s : List ℕ) × MatchResult r (λ _. IsReadWhole before after s) (λ fault. IsReadUpTo before after s fault)
 read_all before after (Ok x) h = (h.0, h.2)
 read_all before after (Err fault) h = (h.0, h.2)

@@ -3,7 +3,7 @@ use Rattle.std.proofs.Common.{◌≡◌, ◌≢◌, ℕ, ◌+◌, ◌-◌, ◌<�
 use Rattle.std.specs.Prelude.{⊤}
 use Rattle.std.proofs.lemmas.List.{drop-drop, length-drop}
 use Rattle.netlink_packet_core_grammar.specs.Attributes.{nla_align}
-use Rattle.netlink_packet_core_grammar.specs.Frames.{IsFrame, frame_length}
+use Rattle.netlink_packet_core_grammar.specs.Frames.{BeginsWithFrame, frame_length}
 use Rattle.link_capture_grammar.specs.Body.{link_body}
 use Rattle.link_capture_grammar.specs.declared.fault.CaptureFault.{CaptureFault}
 use Rattle.link_capture_grammar.specs.declared.fault.FaultKind.{FaultKind}
@@ -13,7 +13,7 @@ use Rattle.link_capture_grammar.specs.Laws.{CapturesUnfoldByFrames, FramesAreInd
 use Rattle.link_capture_reader.specs.States.{SourceState}
 use Rattle.link_capture_comparing.specs.Comparisons.{IsFaultAt}
 use Rattle.link_capture_comparing.specs.Readings.{HasRead}
-use Rattle.link_capture_comparing.specs.Sides.{IsAt, SideState, Stands, Extends, FindsFrame, Finishes, HasJudged, HasStopped, HasVerdict, IsAtFrame, StandsAtFrame, offset_of, rest_of, window_of}
+use Rattle.link_capture_comparing.specs.Sides.{IsAt, SideState, HasPassedFrames, Extends, FindsFrame, Finishes, HasJudged, HasStopped, HasVerdict, IsAtFrame, HasStoppedOrPassed, offset_of, rest_of, window_of}
 use Rattle.link_capture_comparing.proofs.Counting.{prefix_refl, prefix_trans, stops_later}
 use Rattle.link_capture_comparing.proofs.Standing.{all_legal, fault_stays, memory_at, more_at, passed_at, stuck_fault}
 
@@ -29,7 +29,7 @@ found_fault initial now before r then s t kind at e x h f c =
     subst (λ (z : SideState). FindsFrame initial now before z s (Ok None)) (sym e) (t, x, h, (f, c))
 
 -- the side is at its end
-pub found_end : (initial now : SourceState) (before r : SideState) (s t : List ℕ) → r.fault ≡ None → r.ended ≡ true → rest_of r ≡ [] → Extends before.ended s t → HasRead initial now r.ended r.read t → Stands r t → FindsFrame initial now before r s (Ok None)
+pub found_end : (initial now : SourceState) (before r : SideState) (s t : List ℕ) → r.fault ≡ None → r.ended ≡ true → rest_of r ≡ [] → Extends before.ended s t → HasRead initial now r.ended r.read t → HasPassedFrames r t → FindsFrame initial now before r s (Ok None)
 found_end initial now before r s t n e l x h w = (t, x, h, subst (λ f. HasStopped f r t) (sym n) (w, l, e))
 
 -- the bytes at hand don't depend on a buffer that isn't used
@@ -43,10 +43,10 @@ extends_more ended s t p n x = (prefix_trans s t (t ++ p) x.0 (p, refl), λ e. a
 
 -- there was no memory for a cut frame
 pub found_no_memory : CapturesUnfoldByFrames link_body → (initial now : SourceState) (before r room then : SideState) (s t : List ℕ) → room.limit ≡ r.limit → room.read ≡ r.read → room.ended ≡ r.ended → offset_of room ≡ offset_of r → then ≡ record room { fault = Some (record { kind = Memory; offset = offset_of room }) } →
-    Extends before.ended s t → HasRead initial now r.ended r.read t → Stands r t → 0 < length (rest_of r) → first_frame r.limit (rest_of r) ≡ Err Cut → FindsFrame initial now before then s (Ok None)
+    Extends before.ended s t → HasRead initial now r.ended r.read t → HasPassedFrames r t → 0 < length (rest_of r) → first_frame link_body r.limit (rest_of r) ≡ Err Cut → FindsFrame initial now before then s (Ok None)
 found_no_memory go initial now before r room then s t limit read ended at e x h w more cut =
-    let fault : first_fault room.limit t ≡ Some (record { kind = Cut; offset = offset_of room }) =
-    ap (λ l. first_fault l t) limit ∙ stuck_fault go r.limit t (rest_of r) (offset_of r) Cut w more cut ∙ ap (λ n. Some (record { kind = Cut; offset = n })) (sym at) in
+    let fault : first_fault link_body room.limit t ≡ Some (record { kind = Cut; offset = offset_of room }) =
+    ap (λ l. first_fault link_body l t) limit ∙ stuck_fault go r.limit t (rest_of r) (offset_of r) Cut w more cut ∙ ap (λ n. Some (record { kind = Cut; offset = n })) (sym at) in
     found_fault initial now before room then s t Memory (offset_of room) e x
     (subst (λ b. HasRead initial now b room.read t) (sym ended) (subst (λ n. HasRead initial now r.ended n t) (sym read) h))
     (memory_at room.limit t (offset_of room) fault) (λ q. absurd cc)
@@ -70,8 +70,8 @@ takes_offset room then w p n ended h =
     ap offset_of h.is ∙ there
 
 pub takes : CapturesUnfoldByFrames link_body → (initial now : SourceState) (e : Bool) (r room then : SideState) (w p : List ℕ) (n : ℕ) (ended : Bool) (s t : List ℕ) → Takes room then w p n ended → room.limit ≡ r.limit → room.read ≡ r.read → rest_of room ≡ rest_of r → offset_of room ≡ offset_of r →
-    (e ≡ true → ⊥) → Extends e s t → HasRead initial now ended (room.read + n) (t ++ p) → r.read ≡ length t → Stands r t →
-    (u : List ℕ) × Extends e s u × HasRead initial now then.ended then.read u × Stands then u
+    (e ≡ true → ⊥) → Extends e s t → HasRead initial now ended (room.read + n) (t ++ p) → r.read ≡ length t → HasPassedFrames r t →
+    (u : List ℕ) × Extends e s u × HasRead initial now then.ended then.read u × HasPassedFrames then u
 takes go initial now e r room then w p n ended s t h limit read rest at unended x g count stands =
     let inside : length w ≤ length t = omega (arith, ap length h.window, h.inside, read, count) in
     let there : offset_of r ≡ (length t - length w) + room.from = omega (arith, ap length h.window, h.inside, read, count, at) in
@@ -84,7 +84,7 @@ takes go initial now e r room then w p n ended s t h limit read rest at unended 
       t ++ p,
       extends_more e s t p unended x,
       subst (λ (z : SideState). HasRead initial now z.ended z.read (t ++ p)) (sym h.is) g,
-      subst (λ (z : SideState). Stands z (t ++ p)) (sym h.is) three,
+      subst (λ (z : SideState). HasPassedFrames z (t ++ p)) (sym h.is) three,
     )
 
 -- a fault of frames isn't a lack of memory
@@ -93,17 +93,17 @@ not_memory Memory h = λ e. h
 not_memory kind h = λ e. cc
 
 -- a whole frame isn't cut
-pub whole_not_cut : FramesAreIndependent link_body → (limit : ℕ) (c : List ℕ) (kind : FaultKind) → IsFrame c → first_frame limit c ≡ Err kind → kind ≢ Cut
+pub whole_not_cut : FramesAreIndependent link_body → (limit : ℕ) (c : List ℕ) (kind : FaultKind) → BeginsWithFrame c → first_frame link_body limit c ≡ Err kind → kind ≢ Cut
 whole_not_cut frames limit c kind f h e =
     elim (frames.cut limit c (h ∙ ap (λ k. Err k) e)) [ inl a ↦ absurd (omega (arith, f.has_header)) | inr a ↦ absurd (omega (arith, f.within, a.short)) ]
 
 -- a frame was passed
-pub passes : CapturesUnfoldByFrames link_body → FramesAreIndependent link_body → (r then : SideState) (t : List ℕ) (frame : ℕ × List ℕ) → then ≡ record r { from = r.from + nla_align frame.0 } → Stands r t → 0 < length (rest_of r) → first_frame r.limit (rest_of r) ≡ Ok frame → Stands then t
+pub passes : CapturesUnfoldByFrames link_body → FramesAreIndependent link_body → (r then : SideState) (t : List ℕ) (frame : ℕ × List ℕ) → then ≡ record r { from = r.from + nla_align frame.0 } → HasPassedFrames r t → 0 < length (rest_of r) → first_frame link_body r.limit (rest_of r) ≡ Ok frame → HasPassedFrames then t
 passes go frames r then t frame e h l f =
     let there = passed_at go frames r.limit t (rest_of r) (offset_of r) frame h l f in
     let left : drop (nla_align frame.0) (rest_of r) ≡ drop (r.from + nla_align frame.0) r.window = drop-drop (nla_align frame.0) r.from r.window in
     let far : offset_of r + nla_align frame.0 ≡ (r.read - length r.window) + (r.from + nla_align frame.0) = omega arith in
-    subst (λ (z : SideState). Stands z t) (sym e)
+    subst (λ (z : SideState). HasPassedFrames z t) (sym e)
     (subst (λ k. IsAt r.limit t (drop (r.from + nla_align frame.0) r.window) k) far (subst (λ x. IsAt r.limit t x (offset_of r + nla_align frame.0)) left there))
 
 pub passes_offset : (r then : SideState) (n : ℕ) → then ≡ record r { from = r.from + nla_align n } → offset_of then ≡ offset_of r + nla_align n
@@ -132,7 +132,7 @@ extends_refl e s = (prefix_refl s, λ h. refl)
 verdict : PrefixFaults link_body → (r : SideState) (fault : Option CaptureFault) (t u : List ℕ) → HasStopped fault r t → Extends r.ended t u → HasVerdict fault r.limit u
 verdict stay r None t u h x =
     let at : IsAt r.limit t [] (offset_of r) = subst (λ y. IsAt r.limit t y (offset_of r)) h.1 h.0 in
-    subst (IsLegal r.limit) (sym (x.1 h.2)) (all_legal r.limit t (offset_of r) at).1
+    subst (IsLegal link_body r.limit) (sym (x.1 h.2)) (all_legal r.limit t (offset_of r) at).1
 verdict stay r (Some fault) t u h x = fault_stays stay r t u fault h x
 
 pub finish_stopped : PrefixFaults link_body → {A : Type 0} (initial now : SourceState) (e : Bool) (r : SideState) (limit : ℕ) (s t : List ℕ) (result : Result A CaptureFault) (fault : Option CaptureFault) → r.limit ≡ limit → fault ≡ r.fault → HasStopped r.fault r t → Extends e s t → (e ≡ true → r.ended ≡ true) →
@@ -150,6 +150,6 @@ none_if None e = refl
 none_if (Some fault) e = absurd cc
 
 -- a side that is at a frame or has stopped
-pub at_frame_judged : (o : Option ℕ) (r : SideState) (s : List ℕ) → IsAtFrame r o → StandsAtFrame o r s → HasJudged r.fault r s
+pub at_frame_judged : (o : Option ℕ) (r : SideState) (s : List ℕ) → IsAtFrame r o → HasStoppedOrPassed o r s → HasJudged r.fault r s
 at_frame_judged None r s i h = stopped_judged r.fault r s h
 at_frame_judged (Some n) r s i h = subst (λ f. HasJudged f r s) (sym i.3) h

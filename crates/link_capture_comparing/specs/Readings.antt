@@ -2,10 +2,9 @@
 use Rattle.std.specs.Prelude.{◌≡◌, ℕ, Bool, true, false, List, length, Result, Ok, Err}
 use Rattle.std.specs.Io.KnownBytes.{Consumes}
 use Rattle.link_capture_grammar.specs.declared.fault.CaptureFault.{CaptureFault}
-use Rattle.link_capture_reader.specs.Devices.{ReportsItsEnd}
-use Rattle.link_capture_reader.specs.Outcomes.{IsPrefix}
+use Rattle.link_capture_reader.specs.Devices.{ReportsItsEnd, IsPrefix}
 use Rattle.link_capture_reader.specs.States.{SourceState}
-use Rattle.link_capture_comparing.specs.Comparisons.{IsUnread, IsReadWhole}
+use Rattle.link_capture_comparing.specs.Comparisons.{IsReadUpTo, IsReadWhole}
 
 -- The source has reported its end since it was in the first of these states, or it hasn't.
 abbrev pub EndsAs : Bool → SourceState → SourceState → Type 0
@@ -19,11 +18,11 @@ pub record HasRead (initial now : SourceState) (ended : Bool) (read : ℕ) (s : 
   pub ends : EndsAs ended initial now
   pub count : read ≡ length s
 
--- Reading stopped by this fault, after s and perhaps more.
-abbrev pub StopsAfter : SourceState → SourceState → List ℕ → CaptureFault → Type 0
-StopsAfter initial now s fault = (t : List ℕ) × IsPrefix s t × IsUnread initial now t fault
+-- Reading failed with this fault, after s and perhaps more.
+abbrev pub ReadFailsAfter : SourceState → SourceState → List ℕ → CaptureFault → Type 0
+ReadFailsAfter initial now s fault = (t : List ℕ) × IsPrefix s t × IsReadUpTo initial now t fault
 
--- After s, the rest was read to the source's end, or reading stopped.
-abbrev pub EndsOrStops : {A : Type 0} → SourceState → SourceState → List ℕ → Result A CaptureFault → Type 0
-EndsOrStops initial now s (Ok x) = (t : List ℕ) × IsPrefix s t × IsReadWhole initial now t
-EndsOrStops initial now s (Err fault) = StopsAfter initial now s fault
+-- After s, the rest was read to the source's end, or reading failed.
+abbrev pub EndsOrReadFails : {A : Type 0} → SourceState → SourceState → List ℕ → Result A CaptureFault → Type 0
+EndsOrReadFails initial now s (Ok x) = (t : List ℕ) × IsPrefix s t × IsReadWhole initial now t
+EndsOrReadFails initial now s (Err fault) = ReadFailsAfter initial now s fault

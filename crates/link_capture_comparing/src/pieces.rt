@@ -3,8 +3,8 @@
 ghost use Rattle.std.specs.Prelude.{◌≡◌, ◌≤◌, ◌<◌, ◌+◌, ◌^◌, ◌++◌, ℕ, List, [], true, false, length, take, nat_eq};
 ghost use Rattle.std.specs.Prelude.{IfOk, IfErr, MatchResult};
 ghost use Rattle.link_capture_reader.specs.States.{SourceState, source_state};
-ghost use Rattle.link_capture_comparing.specs.Comparisons.{IsReadWhole, IsUnread};
-ghost use Rattle.link_capture_comparing.specs.Readings.{HasRead, StopsAfter, EndsOrStops};
+ghost use Rattle.link_capture_comparing.specs.Comparisons.{IsReadWhole, IsReadUpTo};
+ghost use Rattle.link_capture_comparing.specs.Readings.{HasRead, ReadFailsAfter, EndsOrReadFails};
 
 use link_capture_grammar::fault::{CaptureFault, FaultKind};
 use link_capture_reader::Source;
@@ -33,7 +33,7 @@ pub(crate) fn read_piece<S: Source>(
         (read + n) (s ++ take n buffer.new)) }
     ensures fault { IfErr result (λ fault. (initial : SourceState) (s : List ℕ)
         → HasRead initial (source_state S.to_come S.failures S.ends_reported source.old) false read s
-        → StopsAfter initial (source_state S.to_come S.failures S.ends_reported source.new) s fault) }
+        → ReadFailsAfter initial (source_state S.to_come S.failures S.ends_reported source.new) s fault) }
 {
     let Ok(len) = source.read(buffer) else {
         return Err(CaptureFault {
@@ -62,7 +62,7 @@ pub(crate) fn read_rest<S: Source>(
 ) -> Result<(), CaptureFault>
     ensures { (initial : SourceState) (s : List ℕ)
         → HasRead initial (source_state S.to_come S.failures S.ends_reported source.old) false read s
-        → EndsOrStops initial (source_state S.to_come S.failures S.ends_reported source.new) s result }
+        → EndsOrReadFails initial (source_state S.to_come S.failures S.ends_reported source.new) s result }
 {
     let mut total = read;
     'pieces: loop {
@@ -84,7 +84,7 @@ pub fn read_to_end<S: Source>(source: &mut S) -> Result<(), CaptureFault>
     ensures { (s : List ℕ) × MatchResult result
         (λ _. IsReadWhole (source_state S.to_come S.failures S.ends_reported source.old)
         (source_state S.to_come S.failures S.ends_reported source.new) s)
-        (λ fault. IsUnread (source_state S.to_come S.failures S.ends_reported source.old)
+        (λ fault. IsReadUpTo (source_state S.to_come S.failures S.ends_reported source.old)
         (source_state S.to_come S.failures S.ends_reported source.new) s fault) }
 {
     read_rest(source, &mut [0; PIECE], 0)

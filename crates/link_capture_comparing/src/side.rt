@@ -6,7 +6,7 @@ ghost use Rattle.netlink_packet_core_grammar.specs.Attributes.{nla_align};
 ghost use Rattle.link_capture_reader.specs.Readers.{CanKeep};
 ghost use Rattle.link_capture_reader.specs.States.{SourceState, source_state};
 ghost use Rattle.link_capture_comparing.specs.Readings.{HasRead};
-ghost use Rattle.link_capture_comparing.specs.Sides.{state_of, new_side, rest_of, offset_of, HasJudged, HasVerdict, Stands};
+ghost use Rattle.link_capture_comparing.specs.Sides.{state_of, new_side, rest_of, offset_of, HasJudged, HasVerdict, HasPassedFrames};
 ghost use Rattle.link_capture_comparing.specs.Sides.{IsAtFrame, FindsFrame, Finishes, StopsJudging};
 
 use super::pieces::{PIECE, read_piece, read_rest};
@@ -202,7 +202,7 @@ impl Side {
         ensures found { (initial : SourceState) (s : List ℕ)
             → HasRead initial (source_state S.to_come S.failures S.ends_reported source.old)
             self.old.ended self.old.read s
-            → Stands (state_of self.old) s
+            → HasPassedFrames (state_of self.old) s
             → FindsFrame initial (source_state S.to_come S.failures S.ends_reported source.new)
             (state_of self.old) (state_of self.new) s result }
         ensures ended { self.old.ended ≡ true → self.new.ended ≡ true }
@@ -306,7 +306,7 @@ impl Side {
         ensures judged { (initial : SourceState) (s : List ℕ)
             → HasRead initial (source_state S.to_come S.failures S.ends_reported source.old)
             self.old.ended self.old.read s
-            → Stands (state_of self.old) s
+            → HasPassedFrames (state_of self.old) s
             → StopsJudging initial (source_state S.to_come S.failures S.ends_reported source.new)
             (state_of self.old) (state_of self.new) s result }
         ensures ended { self.old.ended ≡ true → self.new.ended ≡ true }

@@ -4,8 +4,9 @@ ghost use Rattle.std.specs.Prelude.{◌≡◌, ◌<◌, ◌≤◌, ◌^◌, ◌�
 ghost use Rattle.link_capture_grammar.specs.Same.{SameCapture};
 ghost use Rattle.link_capture_reader.specs.States.{SourceState, source_state};
 ghost use Rattle.link_capture_comparing.specs.Comparisons.{Sources, ComparesSources, sources_of};
-ghost use Rattle.link_capture_comparing.specs.Partings.{HaveParted, PartingFails};
+ghost use Rattle.link_capture_comparing.specs.Partings.{SidesHaveParted, PartingFails};
 ghost use Rattle.link_capture_comparing.specs.Sides.{state_of, new_side};
+ghost use Rattle.link_capture_grammar.specs.Body.{link_body};
 
 use super::side::Side;
 use link_capture_checks::{SideFault, same};
@@ -40,7 +41,7 @@ fn of_second(fault: CaptureFault) -> SideFault
 
 /// Returns whether two captures are legal and mean the same.
 fn are_same(left: &[u8], right: &[u8], limit: u32) -> bool
-    ensures { (result ≡ true) ↔ SameCapture limit left.now right.now }
+    ensures { (result ≡ true) ↔ SameCapture link_body limit left.now right.now }
 {
     same_captures_are_legal();
     match same(left, right, limit) {
@@ -64,7 +65,7 @@ fn part<S: Source, T: Source>(
 ) -> Result<bool, SideFault>
     requires left { state_of left.old ≡ new_side limit }
     requires right { state_of right.old ≡ new_side limit }
-    ensures parted { IfOk result (λ is_same. (a b : List ℕ) × HaveParted
+    ensures parted { IfOk result (λ is_same. (a b : List ℕ) × SidesHaveParted
         (sources_of (source_state S.to_come S.failures S.ends_reported)
         (source_state T.to_come T.failures T.ends_reported)
         left_source.old left_source.new right_source.old right_source.new)
@@ -120,7 +121,7 @@ fn judged<S: Source, T: Source>(
     requires left { (length (state_of left.old).window ≤ left.old.read) × (left.old.read < 2 ^ 64) }
     requires right { (length (state_of right.old).window ≤ right.old.read) × (right.old.read < 2 ^ 64) }
     ensures { (from to : SourceState) (a b : List ℕ) → left.old.limit ≡ right.old.limit
-        → HaveParted (record {
+        → SidesHaveParted (record {
           left_before = from;
           left_after = source_state S.to_come S.failures S.ends_reported left_source.old;
           right_before = to;

@@ -9,7 +9,7 @@ use Rattle.link_message_grammar.proofs.Body.{body_lawful, link_peer_lawful, old_
 use Rattle.link_message_grammar.proofs.Parts.{bodies_are_headers_and_attributes}
 use Rattle.link_capture_grammar.specs.Laws.{CaptureLaws, CaptureLawsHoldUnderEveryRule, OldCapturesAreMigrated, SamenessUnfoldsByFrames, NeedsHeaders}
 use Rattle.link_capture_grammar.proofs.Frames.{joined_fault, joined_texts, fault_more}
-use Rattle.link_capture_grammar.proofs.Together.{texts_are_legal, texts_are_normal, texts_are_migrated, bodies_are_normal, joined_legal, prefix_texts, texts_are_small, faults_are_inside, frames_are_independent, captures_unfold_by_frames}
+use Rattle.link_capture_grammar.proofs.Together.{texts_are_legal, texts_are_canonical, texts_are_migrated, body_texts_are_canonical, joined_legal, prefix_texts, texts_are_small, faults_are_inside, frames_are_independent, captures_unfold_by_frames}
 use Rattle.link_capture_grammar.proofs.Same.{texts_mean_the_same, same_are_legal}
 use Rattle.link_capture_grammar.proofs.Meanings.{texts_determine_meanings, bodies_determine_meanings}
 use Rattle.link_capture_grammar.proofs.Keeping.{texts_keep_frames}
@@ -23,7 +23,7 @@ use Rattle.link_capture_grammar.proofs.Unlisted.{unlisted_attributes_are_kept}
 pub every_rule : CaptureLawsHoldUnderEveryRule
 every_rule r lawful = record {
   texts_are_legal = texts_are_legal r lawful;
-  texts_are_normal = texts_are_normal r lawful;
+  texts_are_canonical = texts_are_canonical r lawful;
   joined_captures_have_the_faults_of_the_second = joined_fault r;
   joined_captures_are_legal = joined_legal r;
   joined_captures_have_joined_texts = joined_texts r;
@@ -31,11 +31,11 @@ every_rule r lawful = record {
   texts_of_a_prefix_stay = prefix_texts r;
   texts_are_small = texts_are_small r lawful;
   faults_are_at_frames = faults_are_inside r;
-  bodies_are_normal = bodies_are_normal r lawful;
+  body_texts_are_canonical = body_texts_are_canonical r lawful;
   texts_mean_the_same = texts_mean_the_same r lawful;
   same_captures_are_legal = same_are_legal r;
   texts_determine_meanings = texts_determine_meanings r lawful;
-  same_bodies_have_one_text = bodies_determine_meanings r lawful;
+  body_texts_determine_meanings = bodies_determine_meanings r lawful;
   texts_keep_frames = texts_keep_frames r;
   frames_are_independent = frames_are_independent r;
   captures_unfold_by_frames = captures_unfold_by_frames r;

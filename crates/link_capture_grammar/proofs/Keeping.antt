@@ -4,8 +4,8 @@ use Rattle.std.proofs.lemmas.Bool.{ne_eqb, eqb-true, cases_Bool}
 use Rattle.std.proofs.lemmas.List.{append-nil, length-take}
 use Rattle.netlink_packet_core_grammar.specs.Frames.{frame_length, frame_type, frame_body, frame_text}
 use Rattle.attribute_tables_grammar.specs.Rules.{Rule}
-use Rattle.link_capture_grammar.specs.Bodies.{is_link_type, body_text_under}
-use Rattle.link_capture_grammar.specs.Captures.{first_frame_under}
+use Rattle.link_capture_grammar.specs.Bodies.{is_link_type, body_text}
+use Rattle.link_capture_grammar.specs.Captures.{first_frame}
 use Rattle.link_capture_grammar.specs.Laws.{IsLimit, IsBodyKept, TextsKeepFrames}
 use Rattle.link_capture_grammar.proofs.Frames.{accepted}
 use Rattle.link_capture_grammar.proofs.Normal.{ruled, text_body, text_header, text_length, texted}
@@ -17,8 +17,8 @@ frame_text_end : (c body : List ℕ) → frame_text c body ++ [] ≡ frame_text 
 frame_text_end c body = append-nil (frame_text c body)
 
 module _ (r : Rule) where
-  kept : (t : ℕ) (b text : List ℕ) → IsBodyKept t b → body_text_under r t b ≡ Ok text → b ≡ text
-  unfolding body_text_under
+  kept : (t : ℕ) (b text : List ℕ) → IsBodyKept t b → body_text r t b ≡ Ok text → b ≡ text
+  unfolding body_text
   kept t b text k h =
       let other = no (eqb t 1) _ _ _ (ne_eqb t 1 k.no_noop) h in
       elim (cases_Bool (eqb t 2)) [
@@ -33,12 +33,12 @@ module _ (r : Rule) where
             ]
       ]
 
-  header : (limit : ℕ) (c : List ℕ) (frame : ℕ × List ℕ) → first_frame_under r limit c ≡ Ok frame → take 12 (drop 4 frame.1) ≡ take 12 (drop 4 c)
+  header : (limit : ℕ) (c : List ℕ) (frame : ℕ × List ℕ) → first_frame r limit c ≡ Ok frame → take 12 (drop 4 frame.1) ≡ take 12 (drop 4 c)
   header limit c frame h =
       let t = texted r limit c frame h in
       ap (λ x. take 12 (drop 4 x)) (t.text_is ∙ sym (frame_text_end c t.body)) ∙ text_header c t.body [] (accepted r limit c frame h).header
 
-  length' : (limit : ℕ) (c : List ℕ) (frame : ℕ × List ℕ) → IsLimit limit → IsBodyKept (frame_type c) (frame_body c) → first_frame_under r limit c ≡ Ok frame → frame_length frame.1 ≡ frame_length c
+  length' : (limit : ℕ) (c : List ℕ) (frame : ℕ × List ℕ) → IsLimit limit → IsBodyKept (frame_type c) (frame_body c) → first_frame r limit c ≡ Ok frame → frame_length frame.1 ≡ frame_length c
   length' limit c frame l k h =
       let t = texted r limit c frame h in
       let a = accepted r limit c frame h in
@@ -47,17 +47,17 @@ module _ (r : Rule) where
       ap frame_length (t.text_is ∙ sym (frame_text_end c t.body)) ∙ text_length c t.body [] (omega (arith, t.fits, l)) ∙ omega (arith, e, n, length-drop 16 c, a.low, a.whole, a.is)
 
   -- the body of a frame's text is the body's text
-  body_there : (limit : ℕ) (c : List ℕ) (frame : ℕ × List ℕ) → IsLimit limit → (h : first_frame_under r limit c ≡ Ok frame) → frame_body frame.1 ≡ (texted r limit c frame h).body
+  body_there : (limit : ℕ) (c : List ℕ) (frame : ℕ × List ℕ) → IsLimit limit → (h : first_frame r limit c ≡ Ok frame) → frame_body frame.1 ≡ (texted r limit c frame h).body
   body_there limit c frame l h =
       let t = texted r limit c frame h in
       ap frame_body (t.text_is ∙ sym (frame_text_end c t.body)) ∙ text_body c t.body [] (accepted r limit c frame h).header (omega (arith, t.fits, l))
 
-  body : (limit : ℕ) (c : List ℕ) (frame : ℕ × List ℕ) → IsLimit limit → IsBodyKept (frame_type c) (frame_body c) → first_frame_under r limit c ≡ Ok frame → frame_body frame.1 ≡ frame_body c
+  body : (limit : ℕ) (c : List ℕ) (frame : ℕ × List ℕ) → IsLimit limit → IsBodyKept (frame_type c) (frame_body c) → first_frame r limit c ≡ Ok frame → frame_body frame.1 ≡ frame_body c
   body limit c frame l k h =
       let t = texted r limit c frame h in
       body_there limit c frame l h ∙ sym (kept (frame_type c) (frame_body c) t.body k t.body_is)
 
-  pub link : (limit : ℕ) (c : List ℕ) (frame : ℕ × List ℕ) → IsLimit limit → is_link_type (frame_type c) ≡ true → first_frame_under r limit c ≡ Ok frame → (r.accepted (frame_body c) ≡ true) × (frame_body frame.1 ≡ r.canonical (frame_body c))
+  pub link : (limit : ℕ) (c : List ℕ) (frame : ℕ × List ℕ) → IsLimit limit → is_link_type (frame_type c) ≡ true → first_frame r limit c ≡ Ok frame → (r.accepted (frame_body c) ≡ true) × (frame_body frame.1 ≡ r.canonical (frame_body c))
   link limit c frame l is_link h =
       let t = texted r limit c frame h in
       let k = ruled r (frame_body c) t.body (link_ruled r (frame_type c) (frame_body c) t.body is_link t.body_is) in

@@ -8,10 +8,10 @@ use Rattle.netlink_packet_core_grammar.specs.Numbers.{u16_at, le4}
 use Rattle.netlink_packet_core_grammar.specs.Frames.{frame_type, frame_body, frame_text}
 use Rattle.netlink_packet_core_grammar.proofs.Numbers.{u16_at-append, u16_at-drop_4}
 use Rattle.attribute_tables_grammar.specs.Rules.{Rule, Lawful}
-use Rattle.link_capture_grammar.specs.Bodies.{done_text, ruled_text, body_text_under}
-use Rattle.link_capture_grammar.specs.Captures.{first_frame_under, texts_under, IsLegalUnder}
-use Rattle.link_capture_grammar.specs.Laws.{BodiesDetermineMeanings, TextsDetermineMeanings}
-use Rattle.link_capture_grammar.specs.Same.{done_body, same_body_under, SameFrameUnder}
+use Rattle.link_capture_grammar.specs.Bodies.{done_text, ruled_text, body_text}
+use Rattle.link_capture_grammar.specs.Captures.{first_frame, texts, IsLegal}
+use Rattle.link_capture_grammar.specs.Laws.{BodyTextsDetermineMeanings, TextsDetermineMeanings}
+use Rattle.link_capture_grammar.specs.Same.{done_body, same_body, SameFrame}
 use Rattle.link_capture_grammar.proofs.Bodies.{by_type}
 use Rattle.link_capture_grammar.proofs.Frames.{accepted, guard, texts_step}
 use Rattle.link_capture_grammar.proofs.Normal.{header_size, ruled, texted}
@@ -43,16 +43,16 @@ module _ (r : Rule) where
   record AcceptedFirst (limit : ℕ) (c : List ℕ) (frame : ℕ × List ℕ) : Type 0 where
     pub type : frame_type c ≡ u16_at 0 (take 12 (drop 4 c))
     pub body : List ℕ
-    pub body_is : body_text_under r (u16_at 0 (take 12 (drop 4 c))) (frame_body c) ≡ Ok body
+    pub body_is : body_text r (u16_at 0 (take 12 (drop 4 c))) (frame_body c) ≡ Ok body
     pub text_is : frame.1 ≡ frame_text c body
 
-  first_frame : (limit : ℕ) (c : List ℕ) (frame : ℕ × List ℕ) → first_frame_under r limit c ≡ Ok frame → AcceptedFirst limit c frame
-  first_frame limit c frame h =
+  accepted_first : (limit : ℕ) (c : List ℕ) (frame : ℕ × List ℕ) → first_frame r limit c ≡ Ok frame → AcceptedFirst limit c frame
+  accepted_first limit c frame h =
       let t = texted r limit c frame h in
       let k = type_at c (accepted r limit c frame h).header in
-      record { type = k; body = t.body; body_is = sym (ap (λ n. body_text_under r n (frame_body c)) k) ∙ t.body_is; text_is = t.text_is }
+      record { type = k; body = t.body; body_is = sym (ap (λ n. body_text r n (frame_body c)) k) ∙ t.body_is; text_is = t.text_is }
 
-  not_nil : (limit : ℕ) (c : List ℕ) (frame : ℕ × List ℕ) → c ≡ [] → first_frame_under r limit c ≡ Ok frame → ⊥
+  not_nil : (limit : ℕ) (c : List ℕ) (frame : ℕ × List ℕ) → c ≡ [] → first_frame r limit c ≡ Ok frame → ⊥
   not_nil limit c frame e h = let a = accepted r limit c frame h in let l = ap length e in omega (arith, a.header, l)
 
 module _ (r : Rule) (lawful : Lawful r) where
@@ -70,7 +70,7 @@ module _ (r : Rule) (lawful : Lawful r) where
       let m = ruled r b y g in
       lawful.equal_text_implies_same a b k.accepted m.accepted (k.is ∙ e ∙ sym m.is)
 
-  body_determined : (t : ℕ) (a b x y : List ℕ) → body_text_under r t a ≡ Ok x → body_text_under r t b ≡ Ok y → same_body_under r t a b ≡ true → x ≡ y
+  body_determined : (t : ℕ) (a b x y : List ℕ) → body_text r t a ≡ Ok x → body_text r t b ≡ Ok y → same_body r t a b ≡ true → x ≡ y
   body_determined = by_type r (λ text same attributes. (a b x y : List ℕ) → text a ≡ Ok x → text b ≡ Ok y → same a b ≡ true → x ≡ y)
       (λ a b x y h g s. cc)
       (λ a b x y h g s. sym (error_is a x h) ∙ bytes_from a b s ∙ error_is b y g)
@@ -78,7 +78,7 @@ module _ (r : Rule) (lawful : Lawful r) where
       ruled_determined
       (λ a b x y h g s. cc (bytes_from a b s))
 
-  pub body_determines : (t : ℕ) (a b x y : List ℕ) → body_text_under r t a ≡ Ok x → body_text_under r t b ≡ Ok y → x ≡ y → same_body_under r t a b ≡ true
+  pub body_determines : (t : ℕ) (a b x y : List ℕ) → body_text r t a ≡ Ok x → body_text r t b ≡ Ok y → x ≡ y → same_body r t a b ≡ true
   body_determines = by_type r (λ text same attributes. (a b x y : List ℕ) → text a ≡ Ok x → text b ≡ Ok y → x ≡ y → same a b ≡ true)
       (λ a b x y h g e. refl)
       (λ a b x y h g e. equal_bytes a b (error_is a x h ∙ e ∙ sym (error_is b y g)))
@@ -89,46 +89,46 @@ module _ (r : Rule) (lawful : Lawful r) where
   -- ---- first frames
 
   -- two frames that mean the same have bodies with equal texts
-  one_body : (limit : ℕ) (a b : List ℕ) (x y : ℕ × List ℕ) (p : AcceptedFirst r limit a x) (q : AcceptedFirst r limit b y) → SameFrameUnder r a b → p.body ≡ q.body
+  one_body : (limit : ℕ) (a b : List ℕ) (x y : ℕ × List ℕ) (p : AcceptedFirst r limit a x) (q : AcceptedFirst r limit b y) → SameFrame r a b → p.body ≡ q.body
   one_body limit a b x y p q s =
-      body_determined (frame_type a) (frame_body a) (frame_body b) p.body q.body (ap (λ n. body_text_under r n (frame_body a)) p.type ∙ p.body_is)
-      (ap (λ n. body_text_under r n (frame_body b)) (p.type ∙ ap (u16_at 0) s.header) ∙ q.body_is) s.body
+      body_determined (frame_type a) (frame_body a) (frame_body b) p.body q.body (ap (λ n. body_text r n (frame_body a)) p.type ∙ p.body_is)
+      (ap (λ n. body_text r n (frame_body b)) (p.type ∙ ap (u16_at 0) s.header) ∙ q.body_is) s.body
 
-  same_from : (limit : ℕ) (a b : List ℕ) (x y : ℕ × List ℕ) (p : AcceptedFirst r limit a x) (q : AcceptedFirst r limit b y) → take 12 (drop 4 a) ≡ take 12 (drop 4 b) → p.body ≡ q.body → SameFrameUnder r a b
+  same_from : (limit : ℕ) (a b : List ℕ) (x y : ℕ × List ℕ) (p : AcceptedFirst r limit a x) (q : AcceptedFirst r limit b y) → take 12 (drop 4 a) ≡ take 12 (drop 4 b) → p.body ≡ q.body → SameFrame r a b
   same_from limit a b x y p q h e = record {
     header = h;
-    body = body_determines (frame_type a) (frame_body a) (frame_body b) p.body q.body (ap (λ n. body_text_under r n (frame_body a)) p.type ∙ p.body_is)
-        (ap (λ n. body_text_under r n (frame_body b)) (p.type ∙ ap (u16_at 0) h) ∙ q.body_is) e;
+    body = body_determines (frame_type a) (frame_body a) (frame_body b) p.body q.body (ap (λ n. body_text r n (frame_body a)) p.type ∙ p.body_is)
+        (ap (λ n. body_text r n (frame_body b)) (p.type ∙ ap (u16_at 0) h) ∙ q.body_is) e;
   }
 
-  frame_determined : (limit : ℕ) (a b : List ℕ) (x y : ℕ × List ℕ) → first_frame_under r limit a ≡ Ok x → first_frame_under r limit b ≡ Ok y → SameFrameUnder r a b → x.1 ≡ y.1
+  frame_determined : (limit : ℕ) (a b : List ℕ) (x y : ℕ × List ℕ) → first_frame r limit a ≡ Ok x → first_frame r limit b ≡ Ok y → SameFrame r a b → x.1 ≡ y.1
   frame_determined limit a b x y h g s =
-      let p = first_frame r limit a x h in
-      let q = first_frame r limit b y g in
+      let p = accepted_first r limit a x h in
+      let q = accepted_first r limit b y g in
       p.text_is ∙ ap (frame_text a) (one_body limit a b x y p q s) ∙ one_header a b q.body s.header ∙ sym q.text_is
 
-  frame_symmetric : (limit : ℕ) (a b : List ℕ) (x y : ℕ × List ℕ) → first_frame_under r limit a ≡ Ok x → first_frame_under r limit b ≡ Ok y → SameFrameUnder r a b → SameFrameUnder r b a
+  frame_symmetric : (limit : ℕ) (a b : List ℕ) (x y : ℕ × List ℕ) → first_frame r limit a ≡ Ok x → first_frame r limit b ≡ Ok y → SameFrame r a b → SameFrame r b a
   frame_symmetric limit a b x y h g s =
-      let p = first_frame r limit a x h in
-      let q = first_frame r limit b y g in
+      let p = accepted_first r limit a x h in
+      let q = accepted_first r limit b y g in
       same_from limit b a y x q p (sym s.header) (sym (one_body limit a b x y p q s))
 
-  frame_transitive : (limit : ℕ) (a b c : List ℕ) (x y z : ℕ × List ℕ) → first_frame_under r limit a ≡ Ok x → first_frame_under r limit b ≡ Ok y → first_frame_under r limit c ≡ Ok z → SameFrameUnder r a b → SameFrameUnder r b c → SameFrameUnder r a c
+  frame_transitive : (limit : ℕ) (a b c : List ℕ) (x y z : ℕ × List ℕ) → first_frame r limit a ≡ Ok x → first_frame r limit b ≡ Ok y → first_frame r limit c ≡ Ok z → SameFrame r a b → SameFrame r b c → SameFrame r a c
   frame_transitive limit a b c x y z h g k s on =
-      let p = first_frame r limit a x h in
-      let q = first_frame r limit b y g in
-      let u = first_frame r limit c z k in
+      let p = accepted_first r limit a x h in
+      let q = accepted_first r limit b y g in
+      let u = accepted_first r limit c z k in
       same_from limit a c x z p u (s.header ∙ on.header) (one_body limit a b x y p q s ∙ one_body limit b c y z q u on)
 
   -- ---- captures
 
-  determined : (limit n : ℕ) (a b : List ℕ) → InStep r limit n a b → texts_under r limit a ≡ texts_under r limit b
-  determined limit zero a b s = ap (texts_under r limit) (s.0 ∙ sym s.1)
+  determined : (limit n : ℕ) (a b : List ℕ) → InStep r limit n a b → texts r limit a ≡ texts r limit b
+  determined limit zero a b s = ap (texts r limit) (s.0 ∙ sym s.1)
   determined limit (suc n) a b s =
       let x = s.0 in
       let y = s.1 in
       texts_step r limit a x s.2
-      ∙ ap (λ t. t ++ texts_under r limit (drop (nla_align x.0) a)) (frame_determined limit a b x y s.2 s.3 s.4)
+      ∙ ap (λ t. t ++ texts r limit (drop (nla_align x.0) a)) (frame_determined limit a b x y s.2 s.3 s.4)
       ∙ ap (λ t. y.1 ++ t) (determined limit n (drop (nla_align x.0) a) (drop (nla_align y.0) b) s.5)
       ∙ sym (texts_step r limit b y s.3)
 
@@ -151,12 +151,12 @@ module _ (r : Rule) (lawful : Lawful r) where
       let rest : InStep r limit m (drop (nla_align y.0) b) (drop (nla_align z.0) c) = subst (λ (w : ℕ × List ℕ). InStep r limit m (drop (nla_align w.0) b) (drop (nla_align z.0) c)) e on.5 in
       (x, z, s.2, on.3, frame_transitive limit a b c x y z s.2 s.3 on.3 s.4 on.4, transitive limit n m (drop (nla_align x.0) a) (drop (nla_align y.0) b) (drop (nla_align z.0) c) s.5 rest)
 
-  determines : (limit : ℕ) (a b : List ℕ) → limit < 2 ^ 32 → IsLegalUnder r limit a → IsLegalUnder r limit b → texts_under r limit a ≡ texts_under r limit b → InSteps r limit a b
+  determines : (limit : ℕ) (a b : List ℕ) → limit < 2 ^ 32 → IsLegal r limit a → IsLegal r limit b → texts r limit a ≡ texts r limit b → InSteps r limit a b
   determines limit a b l p q e =
       let i = texts_in_step r lawful limit a l p in
       let j = texts_in_step r lawful limit b l q in
-      let there : InStep r limit i.0 a (texts_under r limit b) = subst (λ t. InStep r limit i.0 a t) e i.1 in
-      (i.0, transitive limit i.0 j.0 a (texts_under r limit b) b there (symmetric limit j.0 b (texts_under r limit b) j.1))
+      let there : InStep r limit i.0 a (texts r limit b) = subst (λ t. InStep r limit i.0 a t) e i.1 in
+      (i.0, transitive limit i.0 j.0 a (texts r limit b) b there (symmetric limit j.0 b (texts r limit b) j.1))
 
   pub texts_determine_meanings : TextsDetermineMeanings r
   texts_determine_meanings = record {
@@ -170,5 +170,5 @@ module _ (r : Rule) (lawful : Lawful r) where
         of_steps r limit a c (w.0, transitive limit w.0 v.0 a b c w.1 v.1);
   }
 
-  pub bodies_determine_meanings : BodiesDetermineMeanings r
+  pub bodies_determine_meanings : BodyTextsDetermineMeanings r
   bodies_determine_meanings t a b x y p q = (body_determined t a b x y p q, body_determines t a b x y p q)

@@ -3,18 +3,18 @@ use Rattle.std.proofs.Common.{◌≡◌, ℕ, ◌+◌, List, ◌++◌, take, dro
 use Rattle.std.proofs.lemmas.List.{take-append-drop}
 use Rattle.netlink_packet_core_grammar.specs.Attributes.{nla_align}
 use Rattle.attribute_tables_grammar.specs.Rules.{Rule}
-use Rattle.link_capture_grammar.specs.Captures.{first_frame_under, first_fault_under, texts_under, shifted}
-use Rattle.link_capture_grammar.specs.Laws.{DifferInPadding, PaddingIsIgnored}
-use Rattle.link_capture_grammar.specs.Numbers.{attributes_under, frame_attributes_under, frames_under}
+use Rattle.link_capture_grammar.specs.Captures.{first_frame, first_fault, texts, shifted}
+use Rattle.link_capture_grammar.specs.Laws.{EqualOutsidePadding, PaddingIsIgnored}
+use Rattle.link_capture_grammar.specs.Numbers.{attribute_count, frame_attribute_count, frame_count}
 use Rattle.link_capture_grammar.proofs.Frames.{first_frame-more, first_frame-take, fault_step, not_cut, texts_step}
 use Rattle.link_capture_grammar.proofs.Numbers.{count_step, sum_step}
 
 module _ (r : Rule) where
-  same_frame : (limit : ℕ) (c d : List ℕ) (frame : ℕ × List ℕ) → first_frame_under r limit c ≡ Ok frame → DifferInPadding frame.0 c d → first_frame_under r limit d ≡ Ok frame
+  same_frame : (limit : ℕ) (c d : List ℕ) (frame : ℕ × List ℕ) → first_frame r limit c ≡ Ok frame → EqualOutsidePadding frame.0 c d → first_frame r limit d ≡ Ok frame
   same_frame limit c d frame h p =
-      let same_result : first_frame_under r limit (take frame.0 d) ≡ Ok frame = ap (first_frame_under r limit) (sym p.leading) ∙ first_frame-take r limit c frame.0 frame h (omega arith) in
-      ap (first_frame_under r limit) (sym (take-append-drop frame.0 d))
-      ∙ first_frame-more r limit (take frame.0 d) (drop frame.0 d) (not_cut (first_frame_under r limit (take frame.0 d)) frame same_result)
+      let same_result : first_frame r limit (take frame.0 d) ≡ Ok frame = ap (first_frame r limit) (sym p.leading) ∙ first_frame-take r limit c frame.0 frame h (omega arith) in
+      ap (first_frame r limit) (sym (take-append-drop frame.0 d))
+      ∙ first_frame-more r limit (take frame.0 d) (drop frame.0 d) (not_cut (first_frame r limit (take frame.0 d)) frame same_result)
       ∙ same_result
 
   pub padding_is_ignored : PaddingIsIgnored r
@@ -22,19 +22,19 @@ module _ (r : Rule) where
     frame = same_frame;
     fault = λ limit c d frame h p.
         fault_step r limit d frame (same_frame limit c d frame h p)
-        ∙ ap (λ x. shifted (nla_align frame.0) (first_fault_under r limit x)) (sym p.following)
+        ∙ ap (λ x. shifted (nla_align frame.0) (first_fault r limit x)) (sym p.following)
         ∙ sym (fault_step r limit c frame h);
     texts = λ limit c d frame h p.
         texts_step r limit d frame (same_frame limit c d frame h p)
-        ∙ ap (λ x. frame.1 ++ texts_under r limit x) (sym p.following)
+        ∙ ap (λ x. frame.1 ++ texts r limit x) (sym p.following)
         ∙ sym (texts_step r limit c frame h);
     frames = λ limit c d frame h p.
         count_step r limit d frame (same_frame limit c d frame h p)
-        ∙ ap (λ x. 1 + frames_under r limit x) (sym p.following)
+        ∙ ap (λ x. 1 + frame_count r limit x) (sym p.following)
         ∙ sym (count_step r limit c frame h);
     attributes = λ limit c d frame h p.
-        sum_step r (frame_attributes_under r) limit d frame (same_frame limit c d frame h p)
-        ∙ ap (λ x. frame_attributes_under r x + attributes_under r limit (drop (nla_align frame.0) d)) (sym p.leading)
-        ∙ ap (λ x. frame_attributes_under r (take frame.0 c) + attributes_under r limit x) (sym p.following)
-        ∙ sym (sum_step r (frame_attributes_under r) limit c frame h);
+        sum_step r (frame_attribute_count r) limit d frame (same_frame limit c d frame h p)
+        ∙ ap (λ x. frame_attribute_count r x + attribute_count r limit (drop (nla_align frame.0) d)) (sym p.leading)
+        ∙ ap (λ x. frame_attribute_count r (take frame.0 c) + attribute_count r limit x) (sym p.following)
+        ∙ sym (sum_step r (frame_attribute_count r) limit c frame h);
   }

@@ -6,10 +6,10 @@ use Rattle.std.proofs.lemmas.List.{take-append-drop}
 use Rattle.netlink_packet_core_grammar.specs.Attributes.{nla_align}
 use Rattle.netlink_packet_core_grammar.specs.Frames.{frame_length, frame_type, frame_body}
 use Rattle.attribute_tables_grammar.specs.Rules.{Rule, Lawful}
-use Rattle.link_capture_grammar.specs.Bodies.{ruled_text, is_link_type, body_text_under}
-use Rattle.link_capture_grammar.specs.Captures.{first_frame_under, IsLegalUnder}
-use Rattle.link_capture_grammar.specs.Laws.{LegalFrameUnder, NeedsHeaders, SamenessUnfoldsByFrames}
-use Rattle.link_capture_grammar.specs.Same.{same_body_under, SameFrameUnder}
+use Rattle.link_capture_grammar.specs.Bodies.{ruled_text, is_link_type, body_text}
+use Rattle.link_capture_grammar.specs.Captures.{first_frame, IsLegal}
+use Rattle.link_capture_grammar.specs.Laws.{LegalFrame, NeedsHeaders, SamenessUnfoldsByFrames}
+use Rattle.link_capture_grammar.specs.Same.{same_body, SameFrame}
 use Rattle.link_capture_grammar.proofs.Frames.{accepted, fault_step, fault_stop, first_frame-more, first_frame-take, frame_body-more, frame_header-more, seen}
 use Rattle.link_capture_grammar.proofs.Meanings.{body_determines}
 use Rattle.link_capture_grammar.proofs.Normal.{ruled, texted}
@@ -24,8 +24,8 @@ no b x y z k h = subst (λ c. cond c x y ≡ z) k h
 
 module _ (r : Rule) where
   -- a link's body has the text of its rule
-  pub link_ruled : (t : ℕ) (b x : List ℕ) → is_link_type t ≡ true → body_text_under r t b ≡ Ok x → ruled_text r b ≡ Ok x
-  unfolding body_text_under
+  pub link_ruled : (t : ℕ) (b x : List ℕ) → is_link_type t ≡ true → body_text r t b ≡ Ok x → ruled_text r b ≡ Ok x
+  unfolding body_text
   link_ruled t b x h g =
       let l = leb-true 16 t (and_parts (nat_le 16 t) (nat_le t 19) h).0 in
       let other : (k : ℕ) → k < 16 → t ≡ k → ⊥ = λ k m e. absurd (omega (arith, e, l, m)) in
@@ -34,14 +34,14 @@ module _ (r : Rule) where
       (no (eqb t 2) _ _ _ (ne_eqb t 2 (other 2 (omega arith)))
       (no (eqb t 1) _ _ _ (ne_eqb t 1 (other 1 (omega arith))) g)))
 
-  following : (limit : ℕ) (c : List ℕ) → IsLegalUnder r limit c → LegalFrameUnder r limit c → IsLegalUnder r limit (drop (nla_align (frame_length c)) c)
+  following : (limit : ℕ) (c : List ℕ) → IsLegal r limit c → LegalFrame r limit c → IsLegal r limit (drop (nla_align (frame_length c)) c)
   following limit c h p = not_shifted (nla_align (frame_length c)) _ (sym (fault_step r limit c (frame_length c, p.text) p.is) ∙ h)
 
-module _ (r : Rule) (limit : ℕ) (a b : List ℕ) (p : LegalFrameUnder r limit a) (q : LegalFrameUnder r limit b) where
-  onto : SameFrameUnder r a b → InSteps r limit (drop (nla_align (frame_length a)) a) (drop (nla_align (frame_length b)) b) → InSteps r limit a b
+module _ (r : Rule) (limit : ℕ) (a b : List ℕ) (p : LegalFrame r limit a) (q : LegalFrame r limit b) where
+  onto : SameFrame r a b → InSteps r limit (drop (nla_align (frame_length a)) a) (drop (nla_align (frame_length b)) b) → InSteps r limit a b
   onto h s = (suc s.0, ((frame_length a, p.text), (frame_length b, q.text), p.is, q.is, h, s.1))
 
-  apart : InSteps r limit a b → SameFrameUnder r a b × InSteps r limit (drop (nla_align (frame_length a)) a) (drop (nla_align (frame_length b)) b)
+  apart : InSteps r limit a b → SameFrame r a b × InSteps r limit (drop (nla_align (frame_length a)) a) (drop (nla_align (frame_length b)) b)
   apart (zero, s) = absurd (let e : length a ≡ 0 = ap length s.0 in omega (arith, e, p.frame.has_header))
   apart (suc n, s) =
       let x = accepted r limit a s.0 s.2 in
@@ -51,10 +51,10 @@ module _ (r : Rule) (limit : ℕ) (a b : List ℕ) (p : LegalFrameUnder r limit 
 -- ---- the first frame, under a rule that accepts no body without a header
 
 module _ (r : Rule) (headers : NeedsHeaders r) where
-  link_header : (t : ℕ) (b x : List ℕ) → body_text_under r t b ≡ Ok x → is_link_type t ≡ true → 16 ≤ length b
+  link_header : (t : ℕ) (b x : List ℕ) → body_text r t b ≡ Ok x → is_link_type t ≡ true → 16 ≤ length b
   link_header t b x g h = headers b (ruled r b x (link_ruled r t b x h g)).accepted
 
-  judged : (limit : ℕ) (c : List ℕ) (frame : ℕ × List ℕ) → first_frame_under r limit c ≡ Ok frame → LegalFrameUnder r limit c
+  judged : (limit : ℕ) (c : List ℕ) (frame : ℕ × List ℕ) → first_frame r limit c ≡ Ok frame → LegalFrame r limit c
   judged limit c frame h =
       let a = accepted r limit c frame h in
       let t = texted r limit c frame h in
@@ -65,19 +65,19 @@ module _ (r : Rule) (headers : NeedsHeaders r) where
         body = link_header (frame_type c) (frame_body c) t.body t.body_is;
       }
 
-  leading : (limit : ℕ) (c : List ℕ) → IsLegalUnder r limit c → 0 < length c → LegalFrameUnder r limit c
+  leading : (limit : ℕ) (c : List ℕ) → IsLegal r limit c → 0 < length c → LegalFrame r limit c
   leading limit c h l =
-      elim (seen (first_frame_under r limit c)) [
+      elim (seen (first_frame r limit c)) [
         | inl w ↦ judged limit c w.0 w.1
         | inr w ↦ (let e = sym (fault_stop r limit c w.0 l w.1) ∙ h in absurd cc)
       ]
 
 -- two frames with equal bytes
-module _ (r : Rule) (limit : ℕ) (a b : List ℕ) (p : LegalFrameUnder r limit a) (e : take (frame_length a) b ≡ take (frame_length a) a) where
+module _ (r : Rule) (limit : ℕ) (a b : List ℕ) (p : LegalFrame r limit a) (e : take (frame_length a) b ≡ take (frame_length a) a) where
   abbrev frame : List ℕ
   frame = take (frame_length a) a
 
-  first_frame_of_equal : first_frame_under r limit frame ≡ Ok (frame_length a, p.text)
+  first_frame_of_equal : first_frame r limit frame ≡ Ok (frame_length a, p.text)
   first_frame_of_equal = first_frame-take r limit a (frame_length a) (frame_length a, p.text) p.is (omega arith)
 
   is_left : frame ++ drop (frame_length a) a ≡ a
@@ -86,8 +86,8 @@ module _ (r : Rule) (limit : ℕ) (a b : List ℕ) (p : LegalFrameUnder r limit 
   is_right : frame ++ drop (frame_length a) b ≡ b
   is_right = ap (λ x. x ++ drop (frame_length a) b) (sym e) ∙ take-append-drop (frame_length a) b
 
-  judged_right : first_frame_under r limit b ≡ Ok (frame_length a, p.text)
-  judged_right = sym (ap (first_frame_under r limit) is_right) ∙ first_frame-more r limit frame (drop (frame_length a) b) (λ h. (let f = sym h ∙ first_frame_of_equal in absurd cc)) ∙ first_frame_of_equal
+  judged_right : first_frame r limit b ≡ Ok (frame_length a, p.text)
+  judged_right = sym (ap (first_frame r limit) is_right) ∙ first_frame-more r limit frame (drop (frame_length a) b) (λ h. (let f = sym h ∙ first_frame_of_equal in absurd cc)) ∙ first_frame_of_equal
 
   one_header : take 12 (drop 4 a) ≡ take 12 (drop 4 b)
   one_header =
@@ -102,13 +102,13 @@ module _ (r : Rule) (limit : ℕ) (a b : List ℕ) (p : LegalFrameUnder r limit 
       sym (ap frame_body is_left) ∙ frame_body-more frame (drop (frame_length a) a) k.header n
       ∙ sym (frame_body-more frame (drop (frame_length a) b) k.header n) ∙ ap frame_body is_right
 
-  equal : Lawful r → NeedsHeaders r → LegalFrameUnder r limit b × SameFrameUnder r a b
+  equal : Lawful r → NeedsHeaders r → LegalFrame r limit b × SameFrame r a b
   equal lawful headers =
       let t = texted r limit a (frame_length a, p.text) p.is in (
         judged r headers limit b _ judged_right,
         record {
           header = one_header;
-          body = subst (λ x. same_body_under r (frame_type a) (frame_body a) x ≡ true) one_body (body_determines r lawful (frame_type a) (frame_body a) (frame_body a) t.body t.body t.body_is t.body_is refl);
+          body = subst (λ x. same_body r (frame_type a) (frame_body a) x ≡ true) one_body (body_determines r lawful (frame_type a) (frame_body a) (frame_body a) t.body t.body t.body_is t.body_is refl);
         },
       )
 

@@ -4,8 +4,8 @@ use Rattle.std.proofs.lemmas.List.{length-take-le}
 use Rattle.netlink_packet_core_grammar.specs.Attributes.{nla_align}
 use Rattle.netlink_packet_core_grammar.specs.Frames.{frame_length, frame_type, frame_body}
 use Rattle.attribute_tables_grammar.specs.Rules.{Rule, Lawful}
-use Rattle.link_capture_grammar.specs.Bodies.{error_text, done_text, ruled_text, body_text_under}
-use Rattle.link_capture_grammar.specs.Captures.{first_frame_under, texts_under}
+use Rattle.link_capture_grammar.specs.Bodies.{error_text, done_text, ruled_text, body_text}
+use Rattle.link_capture_grammar.specs.Captures.{first_frame, texts}
 use Rattle.link_capture_grammar.proofs.Bodies.{by_type}
 use Rattle.link_capture_grammar.proofs.Frames.{guard, accepted, by_frames, texts_step, texts_stop}
 use Rattle.link_capture_grammar.proofs.Normal.{ruled, texted, frame_text_size}
@@ -34,12 +34,12 @@ module _ (r : Rule) (lawful : Lawful r) where
       let k = ruled r b text h in
       subst (λ (x : List ℕ). nla_align (4 + length x) ≤ 77 * (4 + length b)) k.is (lawful.bounded b k.accepted)
 
-  body_small : (t : ℕ) (b text : List ℕ) → body_text_under r t b ≡ Ok text → nla_align (4 + length text) ≤ 77 * (4 + length b)
+  body_small : (t : ℕ) (b text : List ℕ) → body_text r t b ≡ Ok text → nla_align (4 + length text) ≤ 77 * (4 + length b)
   body_small = by_type r (λ text same attributes. (b x : List ℕ) → text b ≡ Ok x → nla_align (4 + length x) ≤ 77 * (4 + length b))
       (λ b x h. let e : [] ≡ x = cc in omega (arith, ap length e))
       error_small done_small ruled_small (λ b x h. same_size b x cc)
 
-  frame_small : (limit : ℕ) (c : List ℕ) (frame : ℕ × List ℕ) → first_frame_under r limit c ≡ Ok frame → length frame.1 ≤ 77 * frame.0
+  frame_small : (limit : ℕ) (c : List ℕ) (frame : ℕ × List ℕ) → first_frame r limit c ≡ Ok frame → length frame.1 ≤ 77 * frame.0
   frame_small limit c frame h =
       let a = accepted r limit c frame h in
       let t = texted r limit c frame h in
@@ -50,11 +50,11 @@ module _ (r : Rule) (lawful : Lawful r) where
       let body = length-take-le (frame_length c - 16) (drop 16 c) (omega (arith, rest, a.is, a.whole)) in
       omega (arith, l, size, small, body, a.is, a.low)
 
-  pub texts_small : (limit : ℕ) (c : List ℕ) → length (texts_under r limit c) ≤ 77 * length c
+  pub texts_small : (limit : ℕ) (c : List ℕ) → length (texts r limit c) ≤ 77 * length c
   texts_small limit =
-      by_frames r limit (λ c. length (texts_under r limit c) ≤ 77 * length c)
+      by_frames r limit (λ c. length (texts r limit c) ≤ 77 * length c)
       (λ c frame h following.
       let a = accepted r limit c frame h in
       let rest = drop (nla_align frame.0) c in
-      omega (arith, a.low, a.whole, frame_small limit c frame h, ap length (texts_step r limit c frame h), length-append frame.1 (texts_under r limit rest), following, length-drop (nla_align frame.0) c))
+      omega (arith, a.low, a.whole, frame_small limit c frame h, ap length (texts_step r limit c frame h), length-append frame.1 (texts r limit rest), following, length-drop (nla_align frame.0) c))
       (λ c kind h. omega (arith, ap length (texts_stop r limit c kind h)))

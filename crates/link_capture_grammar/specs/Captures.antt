@@ -5,32 +5,20 @@ use Rattle.std.specs.List.{sum_by}
 use Rattle.netlink_packet_core_grammar.specs.Attributes.{nla_align}
 use Rattle.netlink_packet_core_grammar.specs.Frames.{frame_length, frame_type, frame_body, frame_text}
 use Rattle.attribute_tables_grammar.specs.Rules.{Rule}
-use Rattle.link_message_grammar.specs.Body.{link_body}
 use Rattle.link_capture_grammar.specs.declared.fault.FaultKind.{FaultKind}
-use Rattle.link_capture_grammar.specs.declared.fault.FaultKind.TheVariants.{Cut, ShortLength, OverLimit, Refused}
-use Rattle.link_capture_grammar.specs.declared.fault.FaultKind.TheVariants.{EmptyPorts, Unfit, TextOverLimit, Memory}
+use Rattle.link_capture_grammar.specs.declared.fault.FaultKind.TheVariants.{Cut, ShortLength, OverLimit}
+use Rattle.link_capture_grammar.specs.declared.fault.FaultKind.TheVariants.{TextOverLimit, Memory}
 use Rattle.link_capture_grammar.specs.declared.fault.FaultKind.TheVariants.{Read, Write, TooLong, Failed}
 use Rattle.link_capture_grammar.specs.declared.fault.CaptureFault.{CaptureFault}
-use Rattle.link_capture_grammar.specs.Bodies.{Refusal, refused, empty_ports, unfit, body_text_under}
-
--- The fault of a frame whose body has no text.
-abbrev pub fault_of : Refusal → FaultKind
-fault_of refused = Refused
-fault_of empty_ports = EmptyPorts
-fault_of unfit = Unfit
-
--- The text of a body, or the fault of its frame.
-abbrev pub text_or_fault : Result (List ℕ) Refusal → Result (List ℕ) FaultKind
-text_or_fault (Ok text) = Ok text
-text_or_fault (Err why) = Err (fault_of why)
+use Rattle.link_capture_grammar.specs.Bodies.{body_text}
 
 -- The result for a frame: its length and its text, or its fault.
 abbrev pub Judged : Type 0
 Judged = Result (ℕ × List ℕ) FaultKind
 
 -- The result for a frame with an intact header, from the result for its body: the text must be within the limit.
-abbrev pub judged_text : ℕ → List ℕ → Result (List ℕ) Refusal → Judged
-judged_text limit c (Err why) = Err (fault_of why)
+abbrev pub judged_text : ℕ → List ℕ → Result (List ℕ) FaultKind → Judged
+judged_text limit c (Err kind) = Err kind
 judged_text limit c (Ok body) =
     cond (nat_lt limit (16 + length body)) (Err TextOverLimit) (Ok (frame_length c, frame_text c body))
 
@@ -44,19 +32,18 @@ checked_header limit size length' judged =
     (cond (nat_lt size length') (Err Cut) judged)))
 
 -- The result for the first frame: its length and its text, or its fault.
-unfoldable pub first_frame_under : Rule → ℕ → List ℕ → Judged
-first_frame_under r limit c =
+unfoldable pub first_frame : Rule → ℕ → List ℕ → Judged
+first_frame r limit c =
     checked_header limit (length c) (frame_length c)
-    (judged_text limit c (body_text_under r (frame_type c) (frame_body c)))
+    (judged_text limit c (body_text r (frame_type c) (frame_body c)))
 
--- What acceptance implies of a frame's length: its bytes are there, and they have the length in its header, which is
--- from 16 to the limit.
-pub record Accepted (limit : ℕ) (c : List ℕ) (frame : ℕ × List ℕ) : Type 0 where
+-- c begins with a whole frame of n bytes: n is the length in its header, and from 16 to the limit.
+pub record IsFrameOfLength (limit : ℕ) (c : List ℕ) (n : ℕ) : Type 0 where
   pub header : 16 ≤ length c
-  pub low : 16 ≤ frame.0
-  pub high : frame.0 ≤ limit
-  pub whole : frame.0 ≤ length c
-  pub is : frame_length c ≡ frame.0
+  pub low : 16 ≤ n
+  pub high : n ≤ limit
+  pub whole : n ≤ length c
+  pub is : frame_length c ≡ n
 
 -- A frame that is cut after its header: the length in the header is within the limit, but more than the bytes.
 pub record CutInBody (limit : ℕ) (c : List ℕ) : Type 0 where
@@ -85,13 +72,13 @@ next_split (Ok frame) c rest = record {
 }
 next_split (Err kind) c rest = record { frames = []; fault = Some kind }
 
--- The same, at most n frames.
+-- As `split`, but after n frames the rest is ignored.
 unfoldable pub split_within : Rule → ℕ → ℕ → List ℕ → Split
 split_within r limit n [] = record { frames = []; fault = None }
 split_within r limit zero (b ∷ c) = record { frames = []; fault = None }
-split_within r limit (suc n) (b ∷ c) = next_split (first_frame_under r limit (b ∷ c)) (b ∷ c) (split_within r limit n)
+split_within r limit (suc n) (b ∷ c) = next_split (first_frame r limit (b ∷ c)) (b ∷ c) (split_within r limit n)
 
--- A capture as frames. It has fewer frames than bytes.
+-- A capture as frames. Each takes at least 16 bytes, so there are no more frames than bytes.
 abbrev pub split : Rule → ℕ → List ℕ → Split
 split r limit c = split_within r limit (length c) c
 
@@ -100,43 +87,43 @@ abbrev pub padded_size : List Frame → ℕ
 padded_size frames = sum_by (λ f. nla_align (length f.bytes)) frames
 
 -- The first fault of a capture with its offset: it is after the accepted frames.
-abbrev pub first_fault_under : Rule → ℕ → List ℕ → Option CaptureFault
-first_fault_under r limit c =
+abbrev pub first_fault : Rule → ℕ → List ℕ → Option CaptureFault
+first_fault r limit c =
     option_map (λ kind. record { kind = kind; offset = padded_size (split r limit c).frames }) (split r limit c).fault
 
 -- The texts of the frames of a capture before its first fault.
-abbrev pub texts_under : Rule → ℕ → List ℕ → List ℕ
-texts_under r limit c = flat_map (λ f. f.text) (split r limit c).frames
+abbrev pub texts : Rule → ℕ → List ℕ → List ℕ
+texts r limit c = flat_map (λ f. f.text) (split r limit c).frames
 
 -- A fault with its offset increased by k.
 abbrev pub shifted : ℕ → Option CaptureFault → Option CaptureFault
 shifted k None = None
 shifted k (Some fault) = Some (record { kind = fault.kind; offset = k + fault.offset })
 
--- The offset that the whole frames of a capture reach, including the full padding of the last one, from its size and
--- its first fault: that of the first fault, or the next multiple of 4.
+-- The offset that the accepted frames before the first fault reach, including the full padding of the last one, from the
+-- size of the capture and that fault: the fault's offset, or the next multiple of 4.
 abbrev pub reach_by : ℕ → Option CaptureFault → ℕ
 reach_by size None = nla_align size
 reach_by size (Some fault) = fault.offset
 
--- The offset that the whole frames of a capture reach, including the full padding of the last one.
-abbrev pub reach_under : Rule → ℕ → List ℕ → ℕ
-reach_under r limit c = reach_by (length c) (first_fault_under r limit c)
+-- The offset that the accepted frames before the first fault reach, including the full padding of the last one.
+abbrev pub reach : Rule → ℕ → List ℕ → ℕ
+reach r limit c = reach_by (length c) (first_fault r limit c)
 
 -- A capture without a fault is legal; its texts are its normal text.
-abbrev pub IsLegalUnder : Rule → ℕ → List ℕ → Type 0
-IsLegalUnder r limit c = first_fault_under r limit c ≡ None
+abbrev pub IsLegal : Rule → ℕ → List ℕ → Type 0
+IsLegal r limit c = first_fault r limit c ≡ None
 
 -- The first header isn't refused: fewer than 16 bytes are there, or its length is from 16 to the limit.
 abbrev pub HeaderIsAllowed : ℕ → List ℕ → Type 0
 HeaderIsAllowed limit c = (length c < 16) ⊎ ((16 ≤ frame_length c) × (frame_length c ≤ limit))
 
 -- At offset `offset` of c a frame begins whose header isn't refused, and the bytes before it are legal.
-pub record StopsAtUnder (r : Rule) (limit : ℕ) (c : List ℕ) (offset : ℕ) : Type 0 where
+pub record ReachesFrameAt (r : Rule) (limit : ℕ) (c : List ℕ) (offset : ℕ) : Type 0 where
   pub inside : offset < length c
   pub start : offset % 4 ≡ 0
   pub header : HeaderIsAllowed limit (drop offset c)
-  pub legal : IsLegalUnder r limit (take offset c)
+  pub legal : IsLegal r limit (take offset c)
 
 -- The kinds of fault that a frame itself can have.
 abbrev pub IsOfFrames : FaultKind → Type 0
@@ -146,29 +133,3 @@ IsOfFrames Write = ⊥
 IsOfFrames TooLong = ⊥
 IsOfFrames Failed = ⊥
 IsOfFrames kind = Unit {0}
-
--- ---- the same under the rule of link bodies in force
-
--- `first_frame_under` under the rule of link bodies in force.
-abbrev pub first_frame : ℕ → List ℕ → Judged
-first_frame = first_frame_under link_body
-
--- `first_fault_under` under the rule of link bodies in force.
-abbrev pub first_fault : ℕ → List ℕ → Option CaptureFault
-first_fault = first_fault_under link_body
-
--- `texts_under` under the rule of link bodies in force.
-abbrev pub texts : ℕ → List ℕ → List ℕ
-texts = texts_under link_body
-
--- `reach_under` under the rule of link bodies in force.
-abbrev pub reach : ℕ → List ℕ → ℕ
-reach = reach_under link_body
-
--- `IsLegalUnder` under the rule of link bodies in force.
-abbrev pub IsLegal : ℕ → List ℕ → Type 0
-IsLegal = IsLegalUnder link_body
-
--- `StopsAtUnder` under the rule of link bodies in force.
-abbrev pub StopsAt : ℕ → List ℕ → ℕ → Type 0
-StopsAt = StopsAtUnder link_body

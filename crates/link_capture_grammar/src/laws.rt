@@ -4,13 +4,13 @@
 
 ghost use Rattle.link_message_grammar.specs.Body.{link_body};
 ghost use Rattle.link_capture_grammar.specs.Laws.{CaptureLawsHoldUnderEveryRule};
-ghost use Rattle.link_capture_grammar.specs.Laws.{TextsAreLegal, TextsAreNormal, JoinedFaults, JoinedLegal};
+ghost use Rattle.link_capture_grammar.specs.Laws.{TextsAreLegal, TextsAreCanonical, JoinedFaults, JoinedLegal};
 ghost use Rattle.link_capture_grammar.specs.Laws.{JoinedTexts, PrefixFaults, PrefixTexts, TextsAreSmall, FaultsAreAtFrames};
-ghost use Rattle.link_capture_grammar.specs.Laws.{BodiesAreNormal, TextsMeanTheSame, SameAreLegal};
+ghost use Rattle.link_capture_grammar.specs.Laws.{BodyTextsAreCanonical, TextsMeanTheSame, SameAreLegal};
 ghost use Rattle.link_capture_grammar.specs.Laws.{FramesAreIndependent, CapturesUnfoldByFrames};
 ghost use Rattle.link_capture_grammar.specs.Laws.{FramesAreJudged, CapturesAreCounted, TextsKeepFrames, PaddingIsIgnored};
 ghost use Rattle.link_capture_grammar.specs.Laws.{SmallFramesFit, UnlistedAttributesAreKept, OldCapturesAreMigrated};
-ghost use Rattle.link_capture_grammar.specs.Laws.{BodiesDetermineMeanings, TextsDetermineMeanings, SamenessUnfoldsByFrames};
+ghost use Rattle.link_capture_grammar.specs.Laws.{BodyTextsDetermineMeanings, TextsDetermineMeanings, SamenessUnfoldsByFrames};
 
 /// The texts of any bytes are legal under the same limit.
 pub fn texts_are_legal()
@@ -18,8 +18,8 @@ pub fn texts_are_legal()
 {}
 
 /// The texts of any bytes are already canonical: normalising them again changes nothing.
-pub fn texts_are_normal()
-    ensures { TextsAreNormal link_body }
+pub fn texts_are_canonical()
+    ensures { TextsAreCanonical link_body }
 {}
 
 /// Let a capture be legal, with a size that is a multiple of 4. The first fault of that capture
@@ -62,8 +62,8 @@ pub fn faults_are_at_frames()
 {}
 
 /// The text of a body is already canonical.
-pub fn bodies_are_normal()
-    ensures { BodiesAreNormal link_body }
+pub fn body_texts_are_canonical()
+    ensures { BodyTextsAreCanonical link_body }
 {}
 
 /// If a capture is legal under the rule that kept peers as bytes and under the rule in force, its
@@ -92,8 +92,8 @@ pub fn texts_determine_meanings()
 
 /// Two bodies of messages of one type that have texts mean the same if and only if these texts are
 /// equal.
-pub fn same_bodies_have_one_text()
-    ensures { BodiesDetermineMeanings link_body }
+pub fn body_texts_determine_meanings()
+    ensures { BodyTextsDetermineMeanings link_body }
 {}
 
 /// The text of a legal frame keeps its type, flags, sequence number and port number. It keeps its

@@ -1,19 +1,20 @@
 -- The rows with names are those of the grammar's tables.
-use Rattle.std.proofs.Common.{◌≡◌, ℕ, zero, suc, Bool, true, false, cond, List, [], ◌∷◌, get_or, map, Option, Some, None, refl, sym, ap, ◌∙◌}
+use Rattle.std.proofs.Common.{◌≡◌, ℕ, zero, suc, Bool, true, false, cond, List, [], ◌∷◌, get_or, map, Option, Some, None, refl, sym, ap, ◌∙◌, ◌<◌, arith}
 use Rattle.std.proofs.Math.ListN.{get_or-map}
+use Rattle.std.proofs.lemmas.Bool.{ne_eqb}
 use Rattle.std.specs.List.{list_all}
 use Rattle.std.specs.Prelude.{◌==◌, not, option_map}
 use Rattle.attribute_tables_grammar.specs.Laws.{RowsAreLookedUp, NamesAreLookedUp}
 use Rattle.attribute_tables_grammar.specs.Lists.{any, Context, list_rule}
-use Rattle.attribute_tables_grammar.specs.LookUps.{line_at, Line, link_info_of, payload_at, row_of_line, rows_rule, rule_or_raw, table_row}
-use Rattle.attribute_tables_grammar.specs.Peers.{Peer}
+use Rattle.attribute_tables_grammar.specs.LookUps.{line_at, Line, link_info_rule, payload_at, row_of_line, rows_rule, rule_or_raw, table_row}
+use Rattle.attribute_tables_grammar.specs.Peers.{RuleOfPeers}
 use Rattle.attribute_tables_grammar.specs.Rules.{shape_rule}
 use Rattle.attribute_tables_grammar.specs.Shapes as shapes
-use Rattle.attribute_tables_grammar.specs.Tables.{info_row as grammar_row, named, Names, Payload, Table as Rows, Table.end, Table.row, row_in_force}
+use Rattle.attribute_tables_grammar.specs.Tables.{info_row as grammar_row, rule_of_name, Names, Payload, Table as Rows, Table.end, Table.row, row_in_force}
 use Rattle.link_info_grammar.specs.Families.{kinds, port_kinds}
-use Rattle.link_info_grammar.specs.LinkInfo.{info_grammar_under}
+use Rattle.link_info_grammar.specs.LinkInfo.{info_grammar}
 use Rattle.link_interpreter.specs.Measures.{rows_of}
-use Rattle.link_message_grammar.specs.Body.{list_rule_of}
+use Rattle.link_message_grammar.specs.Body.{attributes_rule}
 use Rattle.link_message_grammar.specs.LinkMessage.{bridge, family_of, inet_6, link_table, other, unspec}
 use Rattle.link_message_grammar.specs.NestedTables.{resized}
 use Rattle.link_tables.proofs.Built.{kinds_built, port_kinds_built}
@@ -79,15 +80,15 @@ all_paired n = paired_at table_rows all_tables n refl
 -- ---- rules
 
 module _ (law : RowsAreLookedUp) (judged : Bool) where
-  abbrev p : Peer
+  abbrev p : RuleOfPeers
   p = peer_of judged
 
   of_rows : (t : Table) → not (is_link_info t) ≡ true → rows_of p (table_of t.0) ≡ grammar_at judged t
   unfolding grammar_at
-  of_rows t h = elim (is_link_info t) as (λ b. not b ≡ true → rows_of p (table_of t.0) ≡ cond b (info_grammar_under p) (rows_of p (table_of t.0))) [ true ↦ (λ e. absurd cc) | false ↦ (λ e. refl) ] h
+  of_rows t h = elim (is_link_info t) as (λ b. not b ≡ true → rows_of p (table_of t.0) ≡ cond b (info_grammar p) (rows_of p (table_of t.0))) [ true ↦ (λ e. absurd cc) | false ↦ (λ e. refl) ] h
 
   content_is : (h : Held) → has_rows h ≡ true → held_rule p h ≡ inside_rule judged (inside_of h)
-  unfolding rows_rule grammar_at link_info_of info_grammar_under info_payload
+  unfolding rows_rule grammar_at link_info_rule info_grammar info_payload
   content_is (H.Plain s) e = refl
   content_is H.Peer e = refl
   content_is (H.List f t) e = law.named p _ (table_of t.0) ∙ ap (list_rule (form_of f)) (of_rows t e)
@@ -111,17 +112,17 @@ module _ (law : RowsAreLookedUp) (judged : Bool) where
 
   module _ (names : NamesAreLookedUp) where
     name_is : (rows : List NameRow) (built : Names) → names_of table_of info_payload rows ≡ built → list_all (λ r. has_rows r.2) rows ≡ true →
-        (n : List ℕ) → named p built n ≡ inside_rule judged (inside_of (held_by_name rows n))
+        (n : List ℕ) → rule_of_name p built n ≡ inside_rule judged (inside_of (held_by_name rows n))
     name_is rows built e h n =
         names p built n ∙ ap (λ ns. rule_or_raw p (payload_at ns n)) (sym e) ∙ sym (found_name p table_of info_payload rows n)
         ∙ content_is (held_by_name rows n) (held_all has_rows refl rows n h)
 
-    kind_is : (o : Option (List ℕ)) → (row_in_force o (named p kinds)).rule ≡ inside_rule judged (info_inside 2 (data_under o))
+    kind_is : (o : Option (List ℕ)) → (row_in_force o (rule_of_name p kinds)).rule ≡ inside_rule judged (info_inside 2 (data_under o))
     unfolding data_under
     kind_is None = refl
     kind_is (Some n) = name_is KINDS kinds kinds_built refl n
 
-    port_is : (o : Option (List ℕ)) → (row_in_force o (named p port_kinds)).rule ≡ inside_rule judged (info_inside 5 (port_data_under o))
+    port_is : (o : Option (List ℕ)) → (row_in_force o (rule_of_name p port_kinds)).rule ≡ inside_rule judged (info_inside 5 (port_data_under o))
     unfolding port_data_under
     port_is None = refl
     port_is (Some n) = name_is PORT_KINDS port_kinds port_kinds_built refl n
@@ -130,19 +131,23 @@ module _ (law : RowsAreLookedUp) (judged : Bool) where
     statistics_is None = refl
     statistics_is (Some n) = refl
 
-    info_is : (c : Context) (k : ℕ) → (grammar_row (named p kinds) (named p port_kinds) c k).rule ≡ row_rule judged (R.info_row c k)
+    -- a kind above 5 is raw
+    rule_above : (c : Context) (k : ℕ) → 5 < k → (grammar_row (rule_of_name p kinds) (rule_of_name p port_kinds) c k).rule ≡ row_rule judged (R.info_row c k)
+    rule_above c k h = simp (ne_eqb k 1 (λ e. omega arith), ne_eqb k 4 (λ e. omega arith), ne_eqb k 5 (λ e. omega arith), ne_eqb k 2 (λ e. omega arith), ne_eqb k 3 (λ e. omega arith))
+
+    info_is : (c : Context) (k : ℕ) → (grammar_row (rule_of_name p kinds) (rule_of_name p port_kinds) c k).rule ≡ row_rule judged (R.info_row c k)
     info_is c zero = refl
     info_is c (suc zero) = refl
     info_is c (suc (suc zero)) = kind_is c.kind
     info_is c (suc (suc (suc zero))) = statistics_is c.kind
     info_is c (suc (suc (suc (suc zero)))) = refl
     info_is c (suc (suc (suc (suc (suc zero))))) = port_is c.port_kind
-    info_is c (suc (suc (suc (suc (suc (suc k)))))) = refl
+    info_is c (suc (suc (suc (suc (suc (suc k)))))) = rule_above c (suc (suc (suc (suc (suc (suc k)))))) (omega arith)
 
     table_is : (t : Table) (c : Context) (k : ℕ) → ((grammar_at judged t).row c k).rule ≡ row_rule judged (row_in t c k)
-    unfolding grammar_at row_in info_grammar_under
+    unfolding grammar_at row_in info_grammar
     table_is t c k =
-        elim (is_link_info t) as (λ b. ((cond b (info_grammar_under p) (rows_of p (table_of t.0))).row c k).rule ≡ row_rule judged (cond b (R.info_row c k) (R.table_row (find k (get_or table_rows t.0 [])))))
+        elim (is_link_info t) as (λ b. ((cond b (info_grammar p) (rows_of p (table_of t.0))).row c k).rule ≡ row_rule judged (cond b (R.info_row c k) (R.table_row (find k (get_or table_rows t.0 [])))))
         [ true ↦ info_is c k | false ↦ found_is t.0 k ]
 
 pub tables : RowsAreLookedUp → NamesAreLookedUp → RowsAreTheTables
@@ -167,7 +172,7 @@ picked_rows false false true = refl
 picked_rows false false false = refl
 
 pub links : RowsAreLookedUp → LinksAreTables
-unfolding list_rule_of rows_rule
+unfolding attributes_rule rows_rule
 links law judged n =
     law.payload (peer_of judged) any (link_table (family_of n)) ∙ ap (λ t. list_rule any (rows_of (peer_of judged) t)) (sym (picked_table (n == 0) (n == 7) (n == 10)))
     ∙ ap (list_rule any) (of_rows law judged (family_table n) (picked_rows (n == 0) (n == 7) (n == 10)))

@@ -3,14 +3,14 @@ use Rattle.std.proofs.Common.{◌≡◌, ℕ, zero, suc, ◌+◌, ◌-◌, ◌<�
 use Rattle.std.specs.Prelude.{◌==◌, ◌&&◌, nat_lt, not}
 use Rattle.std.specs.List.{list_all}
 use Rattle.std.specs.Str.{IsAscii, IsUtf8}
-use Rattle.std.proofs.lemmas.Bool.{and_parts, cond_both, ltb-true}
+use Rattle.std.proofs.lemmas.Bool.{and_parts, cond_both, ltb-true, ne_eqb}
 use Rattle.std.proofs.lemmas.List.{get_or-append_right, get_or_append_left}
 use Rattle.std.proofs.lemmas.Str.{IsUtf8-from_ascii}
 use Rattle.std.proofs.lemmas.Str.Ascii.{IsAscii-nil, IsAscii-cons}
 use Rattle.netlink_packet_core_grammar.specs.Attributes.{Attribute, proper_kind}
 use Rattle.attribute_tables_grammar.specs.Lists.{is_kept}
 use Rattle.attribute_tables_grammar.specs.Tables.{info_next}
-use Rattle.link_info_grammar.specs.LinkInfo.{info_grammar_under}
+use Rattle.link_info_grammar.specs.LinkInfo.{info_grammar}
 use Rattle.link_tables.proofs.NameRows.{held_all}
 use Rattle.link_tables.specs.declared.kinds.TheConstants.{KINDS, PORT_KINDS}
 use Rattle.link_tables.specs.declared.rows.Form.{Form}
@@ -130,6 +130,10 @@ statistics_lower : (k : ℕ) (o : Option (List ℕ)) → IsLower LINK_INFO.0 (in
 statistics_lower k None = refused_lower k
 statistics_lower k (Some n) = some_lower k (H.Plain Raw) refl
 
+-- a kind above 5 is raw
+raw_above : (c : Context) (k : ℕ) → 5 < k → held_in_force c k ≡ Some (H.Plain Raw)
+raw_above c k h = simp (ne_eqb k 1 (λ e. omega arith), ne_eqb k 4 (λ e. omega arith), ne_eqb k 5 (λ e. omega arith), ne_eqb k 2 (λ e. omega arith), ne_eqb k 3 (λ e. omega arith))
+
 -- for all kinds in force
 pub info_lower : (c : Context) (k : ℕ) → IsLower LINK_INFO.0 (info_inside k (held_in_force c k))
 unfolding data_under port_data_under
@@ -139,12 +143,12 @@ info_lower c (suc (suc zero)) = held_lower KINDS refl 2 c.kind
 info_lower c (suc (suc (suc zero))) = statistics_lower 3 c.kind
 info_lower c (suc (suc (suc (suc zero)))) = some_lower 4 (H.Plain Text) refl
 info_lower c (suc (suc (suc (suc (suc zero))))) = held_lower PORT_KINDS refl 5 c.port_kind
-info_lower c (suc (suc (suc (suc (suc (suc k)))))) = some_lower (suc (suc (suc (suc (suc (suc k)))))) (H.Plain Raw) refl
+info_lower c (suc (suc (suc (suc (suc (suc k)))))) = subst (λ h. IsLower LINK_INFO.0 (info_inside (suc (suc (suc (suc (suc (suc k)))))) h)) (sym (raw_above c (suc (suc (suc (suc (suc (suc k)))))) (omega arith))) (some_lower (suc (suc (suc (suc (suc (suc k)))))) (H.Plain Raw) refl)
 
 -- ---- lists
 
-next_in : (judged info : Bool) (t : Table) (c : Context) (e : Attribute) → info ≡ true → (cond info (info_grammar_under (peer_of judged)) (rows_of (peer_of judged) (table_of t.0))).next c e ≡ info_next c (proper_kind e.kind) e.payload
-unfolding info_grammar_under
+next_in : (judged info : Bool) (t : Table) (c : Context) (e : Attribute) → info ≡ true → (cond info (info_grammar (peer_of judged)) (rows_of (peer_of judged) (table_of t.0))).next c e ≡ info_next c (proper_kind e.kind) e.payload
+unfolding info_grammar
 next_in judged true t c e h = refl
 next_in judged false t c e h = absurd cc
 

@@ -71,13 +71,12 @@ info_inside k None = I.Refused (cond (k == 5) Port Link)
 
 -- The name of a kind in link info.
 abbrev pub info_name : ℕ → Option (List ℕ)
-info_name zero = None
-info_name (suc zero) = Some (codes "IFLA_INFO_KIND")
-info_name (suc (suc zero)) = Some (codes "IFLA_INFO_DATA")
-info_name (suc (suc (suc zero))) = Some (codes "IFLA_INFO_XSTATS")
-info_name (suc (suc (suc (suc zero)))) = Some (codes "IFLA_INFO_SLAVE_KIND")
-info_name (suc (suc (suc (suc (suc zero))))) = Some (codes "IFLA_INFO_SLAVE_DATA")
-info_name k = None
+info_name k =
+    cond (k == 1) (Some (codes "IFLA_INFO_KIND"))
+    (cond (k == 2) (Some (codes "IFLA_INFO_DATA"))
+    (cond (k == 3) (Some (codes "IFLA_INFO_XSTATS"))
+    (cond (k == 4) (Some (codes "IFLA_INFO_SLAVE_KIND"))
+    (cond (k == 5) (Some (codes "IFLA_INFO_SLAVE_DATA")) None))))
 
 -- The name of a kind in link info, and the content of its payload under the kinds in force.
 abbrev pub info_row : Context → ℕ → Option (List ℕ × Inside)

@@ -2,12 +2,12 @@
 use Rattle.std.specs.Prelude.{◌≡◌, ℕ, Bool, true, cond, List, Option, Some, None}
 use Rattle.netlink_packet_core_grammar.specs.Attributes.{Attribute}
 use Rattle.attribute_tables_grammar.specs.Lists.{any, Context, Grammar, is_kept, list_rule, row_of}
-use Rattle.attribute_tables_grammar.specs.Peers.{Peer, bytes_peer, peer_rule}
+use Rattle.attribute_tables_grammar.specs.Peers.{RuleOfPeers, bytes_peer, peer_rule}
 use Rattle.attribute_tables_grammar.specs.Rules.{Rule, raw_rule, shape_rule}
 use Rattle.attribute_tables_grammar.specs.Shapes.{never}
-use Rattle.link_info_grammar.specs.LinkInfo.{info_grammar_under}
+use Rattle.link_info_grammar.specs.LinkInfo.{info_grammar}
 use Rattle.link_interpreter.specs.Measures.{rows_of}
-use Rattle.link_message_grammar.specs.Body.{link_peer, list_rule_of}
+use Rattle.link_message_grammar.specs.Body.{link_peer, attributes_rule}
 use Rattle.link_message_grammar.specs.LinkMessage.{family_of}
 use Rattle.link_tables.specs.declared.table.Table.{Table}
 use Rattle.link_tables.specs.Rows.{form_of, shape_of}
@@ -17,13 +17,13 @@ use Rattle.link_capture_lists.specs.declared.tables.Inside.TheVariants as I
 use Rattle.link_capture_lists.specs.ListTables.{Listing, row_in}
 
 -- The rule of peers: links' bodies, inside which peers are bytes; or only bytes.
-abbrev pub peer_of : Bool → Peer
+abbrev pub peer_of : Bool → RuleOfPeers
 peer_of judged = cond judged link_peer bytes_peer
 
 -- The rows of a table, and the context after each attribute.
 unfoldable pub grammar_at : Bool → Table → Grammar
 grammar_at judged t =
-    cond (is_link_info t) (info_grammar_under (peer_of judged)) (rows_of (peer_of judged) (table_of t.0))
+    cond (is_link_info t) (info_grammar (peer_of judged)) (rows_of (peer_of judged) (table_of t.0))
 
 -- The rows of the table of a list, and the context after each attribute.
 abbrev pub grammar_of : Listing → Grammar
@@ -65,4 +65,4 @@ RowsAreTheTables = (judged : Bool) (t : Table) (c : Context) (k : ℕ) →
 -- The attributes of a link of an address family are those of its table.
 abbrev pub LinksAreTables : Type 0
 LinksAreTables = (judged : Bool) (n : ℕ) →
-    list_rule_of (peer_of judged) (family_of n) ≡ list_rule any (grammar_at judged (family_table n))
+    attributes_rule (peer_of judged) (family_of n) ≡ list_rule any (grammar_at judged (family_table n))

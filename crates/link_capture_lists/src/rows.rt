@@ -5,8 +5,8 @@ use crate::named_rows;
 use link_tables::Form::{Any, OfKindOne, Ports};
 use link_tables::Held::{LinkInfo, List, Peer, Plain};
 use link_tables::Shape::{
-    AtMost, BooleanOfFour, Either, Exact, FixedRecord, IdAndBoolean, NonzeroByte, OneByte,
-    Presence, Raw, Resized, Text,
+    AtMost, BooleanIfNonzero, BooleanIfOne, BooleanOfFour, Either, Exact, FixedRecord,
+    IdAndBoolean, Presence, Raw, Resized, Text,
 };
 use link_tables::kinds::{DATA_COUNT, MACVLAN_ADDRESS};
 use link_tables::table::{

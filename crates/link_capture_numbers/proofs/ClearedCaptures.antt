@@ -4,10 +4,10 @@ use Rattle.std.specs.Prelude.{◌&&◌, nat_le, nat_lt}
 use Rattle.std.proofs.lemmas.Bool.{and_from, le-leb, ltb-false, ltb-true}
 use Rattle.std.proofs.lemmas.List.{length-take, length-take-le, drop_at, drop_all}
 use Rattle.netlink_packet_core_grammar.specs.Attributes.{nla_align}
-use Rattle.netlink_packet_core_grammar.specs.Frames.{frame_length, is_frame}
+use Rattle.netlink_packet_core_grammar.specs.Frames.{frame_length, begins_with_frame}
 use Rattle.link_message_grammar.specs.Body.{link_body}
 use Rattle.link_capture_grammar.specs.declared.fault.FaultKind.{FaultKind}
-use Rattle.link_capture_grammar.specs.Captures.{Accepted, shifted, first_frame, first_fault, texts}
+use Rattle.link_capture_grammar.specs.Captures.{IsFrameOfLength, shifted, first_frame, first_fault, texts}
 use Rattle.link_capture_numbers.specs.Cleared.{first_frame_cleared, numbers_cleared}
 use Rattle.link_capture_numbers.specs.Laws.{ClearedCapturesHaveClearedTexts}
 use Rattle.link_capture_grammar.proofs.WholeFrames.{length_of}
@@ -34,7 +34,7 @@ nothing : (c : List ℕ) → c ≡ [] → numbers_cleared c ≡ []
 nothing c e = subst (λ z. numbers_cleared z ≡ []) (sym e) (stopped [] refl)
 
 -- the bytes after the first frame of a cleared capture
-pub following : (c : List ℕ) → is_frame c ≡ true → drop (nla_align (frame_length c)) (numbers_cleared c) ≡ numbers_cleared (drop (nla_align (frame_length c)) c)
+pub following : (c : List ℕ) → begins_with_frame c ≡ true → drop (nla_align (frame_length c)) (numbers_cleared c) ≡ numbers_cleared (drop (nla_align (frame_length c)) c)
 following c f =
     let n = nla_align (frame_length c) in
     let bounds = length_of c f in
@@ -42,7 +42,7 @@ following c f =
     ∙ after_by c n (first_frame_cleared c) (numbers_cleared (drop n c)) (nat_lt (length c) n) (cleared_first c bounds.0 bounds.1).size refl (nothing (drop n c))
 
 -- an accepted frame is whole
-frame_is : (limit : ℕ) (c : List ℕ) (frame : ℕ × List ℕ) → Accepted limit c frame → is_frame c ≡ true
+frame_is : (limit : ℕ) (c : List ℕ) (frame : ℕ × List ℕ) → IsFrameOfLength limit c frame.0 → begins_with_frame c ≡ true
 frame_is limit c frame a =
     let header = a.header in
     let low = a.low in
@@ -53,46 +53,46 @@ frame_is limit c frame a =
 
 module _ (limit : ℕ) (small : limit < 2 ^ 32) where
   -- the first frame of a cleared capture
-  first_cleared : (c : List ℕ) → is_frame c ≡ true → first_frame limit (numbers_cleared c) ≡ judged_cleared (first_frame limit c)
+  first_cleared : (c : List ℕ) → begins_with_frame c ≡ true → first_frame link_body limit (numbers_cleared c) ≡ judged_cleared (first_frame link_body limit c)
   first_cleared c f =
       let bounds = length_of c f in
       let more = numbers_cleared (drop (nla_align (frame_length c)) c) in
       let d = take (nla_align (frame_length c)) (first_frame_cleared c) ++ more in
-      ap (first_frame limit) (whole c f) ∙ judged limit small c d bounds.0 bounds.1 (shape c more bounds.0 bounds.1)
+      ap (first_frame link_body limit) (whole c f) ∙ judged limit small c d bounds.0 bounds.1 (shape c more bounds.0 bounds.1)
 
   -- its first fault is that of the capture, and its texts are cleared
   abbrev IsCleared : List ℕ → Type 0
-  IsCleared c = (first_fault limit (numbers_cleared c) ≡ first_fault limit c) × (texts limit (numbers_cleared c) ≡ numbers_cleared (texts limit c))
+  IsCleared c = (first_fault link_body limit (numbers_cleared c) ≡ first_fault link_body limit c) × (texts link_body limit (numbers_cleared c) ≡ numbers_cleared (texts link_body limit c))
 
-  next : (c : List ℕ) (frame : ℕ × List ℕ) → first_frame limit c ≡ Ok frame → IsCleared (drop (nla_align frame.0) c) → IsCleared c
+  next : (c : List ℕ) (frame : ℕ × List ℕ) → first_frame link_body limit c ≡ Ok frame → IsCleared (drop (nla_align frame.0) c) → IsCleared c
   next c frame h more =
       let a = accepted link_body limit c frame h in
       let f = frame_is limit c frame a in
       let n = nla_align frame.0 in
-      let cleared_result : first_frame limit (numbers_cleared c) ≡ Ok (frame.0, first_frame_cleared frame.1) = first_cleared c f ∙ ap judged_cleared h in
+      let cleared_result : first_frame link_body limit (numbers_cleared c) ≡ Ok (frame.0, first_frame_cleared frame.1) = first_cleared c f ∙ ap judged_cleared h in
       let rest : drop n (numbers_cleared c) ≡ numbers_cleared (drop n c) = subst (λ m. drop (nla_align m) (numbers_cleared c) ≡ numbers_cleared (drop (nla_align m) c)) a.is (following c f) in (
         fault_step link_body limit (numbers_cleared c) (frame.0, first_frame_cleared frame.1) cleared_result
-            ∙ ap (λ z. shifted n (first_fault limit z)) rest
+            ∙ ap (λ z. shifted n (first_fault link_body limit z)) rest
             ∙ ap (shifted n) more.0
             ∙ sym (fault_step link_body limit c frame h),
         texts_step link_body limit (numbers_cleared c) (frame.0, first_frame_cleared frame.1) cleared_result
-            ∙ ap (λ z. first_frame_cleared frame.1 ++ texts limit z) rest
+            ∙ ap (λ z. first_frame_cleared frame.1 ++ texts link_body limit z) rest
             ∙ ap (λ z. first_frame_cleared frame.1 ++ z) more.1
-            ∙ sym (first_frame_of_text limit small c frame h (texts limit (drop n c)))
+            ∙ sym (first_frame_of_text limit small c frame h (texts link_body limit (drop n c)))
             ∙ sym (ap numbers_cleared (texts_step link_body limit c frame h)),
       )
 
-  stop : (c : List ℕ) (kind : FaultKind) → first_frame limit c ≡ Err kind → IsCleared c
-  stop c kind h = by (is_frame c) refl
+  stop : (c : List ℕ) (kind : FaultKind) → first_frame link_body limit c ≡ Err kind → IsCleared c
+  stop c kind h = by (begins_with_frame c) refl
     where
-      no_text : numbers_cleared (texts limit c) ≡ []
-      no_text = nothing (texts limit c) (texts_stop link_body limit c kind h)
+      no_text : numbers_cleared (texts link_body limit c) ≡ []
+      no_text = nothing (texts link_body limit c) (texts_stop link_body limit c kind h)
 
-      by : (b : Bool) → is_frame c ≡ b → IsCleared c
-      by false f = (ap (first_fault limit) (stopped c f), ap (texts limit) (stopped c f) ∙ texts_stop link_body limit c kind h ∙ sym no_text)
+      by : (b : Bool) → begins_with_frame c ≡ b → IsCleared c
+      by false f = (ap (first_fault link_body limit) (stopped c f), ap (texts link_body limit) (stopped c f) ∙ texts_stop link_body limit c kind h ∙ sym no_text)
       by true f =
           let bounds = length_of c f in
-          let cleared_result : first_frame limit (numbers_cleared c) ≡ Err kind = first_cleared c f ∙ ap judged_cleared h in
+          let cleared_result : first_frame link_body limit (numbers_cleared c) ≡ Err kind = first_cleared c f ∙ ap judged_cleared h in
           let long = (shape c (numbers_cleared (drop (nla_align (frame_length c)) c)) bounds.0 bounds.1).long in (
             fault_stop link_body limit (numbers_cleared c) kind (omega (arith, ap length (whole c f), long, bounds.0)) cleared_result ∙ sym (fault_stop link_body limit c kind (omega (arith, bounds.0, bounds.1)) h),
             texts_stop link_body limit (numbers_cleared c) kind cleared_result ∙ sym no_text,

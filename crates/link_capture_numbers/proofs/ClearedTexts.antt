@@ -3,10 +3,10 @@ use Rattle.std.proofs.Common.{◌≡◌, ℕ, ◌+◌, ◌^◌, ◌<◌, ◌≤�
 use Rattle.std.proofs.lemmas.Bool.{and_from, le-leb}
 use Rattle.std.proofs.lemmas.List.{length-append, take_at, drop_at}
 use Rattle.netlink_packet_core_grammar.specs.Attributes.{nla_align}
-use Rattle.netlink_packet_core_grammar.specs.Frames.{frame_length, frame_type, frame_body, frame_text, is_frame}
+use Rattle.netlink_packet_core_grammar.specs.Frames.{frame_length, frame_type, frame_body, frame_text, begins_with_frame}
 use Rattle.link_message_grammar.specs.Body.{link_body}
 use Rattle.link_capture_grammar.specs.Bodies.{body_text}
-use Rattle.link_capture_grammar.specs.Captures.{Accepted, first_frame}
+use Rattle.link_capture_grammar.specs.Captures.{IsFrameOfLength, first_frame}
 use Rattle.link_capture_numbers.specs.Cleared.{repeats_request, first_frame_cleared, numbers_cleared}
 use Rattle.link_capture_numbers.proofs.Steps.{first_frame_joined, whole}
 use Rattle.link_capture_numbers.proofs.Zeros.{repeated, cleared_first}
@@ -18,8 +18,8 @@ use Rattle.link_capture_grammar.proofs.Normal.{Texted, texted, frame_text_size, 
 -- ---- the text followed by other bytes
 
 -- the text of an accepted frame
-module _ (limit : ℕ) (small : limit < 2 ^ 32) (c : List ℕ) (frame : ℕ × List ℕ) (h : first_frame limit c ≡ Ok frame) where
-  a : Accepted limit c frame
+module _ (limit : ℕ) (small : limit < 2 ^ 32) (c : List ℕ) (frame : ℕ × List ℕ) (h : first_frame link_body limit c ≡ Ok frame) where
+  a : IsFrameOfLength limit c frame.0
   a = accepted link_body limit c frame h
 
   i : Texted link_body limit c frame
@@ -33,7 +33,7 @@ module _ (limit : ℕ) (small : limit < 2 ^ 32) (c : List ℕ) (frame : ℕ × L
 
   error : frame_type c ≡ 2 → 16 + length i.body ≡ frame_length c
   error two =
-      let same : frame_body c ≡ i.body = error_is (frame_body c) i.body (sym (ap (λ t. body_text t (frame_body c)) two) ∙ i.body_is) in
+      let same : frame_body c ≡ i.body = error_is (frame_body c) i.body (sym (ap (λ t. body_text link_body t (frame_body c)) two) ∙ i.body_is) in
       omega (arith, ap length same, body_size c (omega (arith, a.low, a.is)) (omega (arith, a.whole, a.is)), a.low, a.is)
 
   size : length t ≡ nla_align (16 + length i.body)
@@ -54,7 +54,7 @@ module _ (limit : ℕ) (small : limit < 2 ^ 32) (c : List ℕ) (frame : ℕ × L
   long : repeats_request t ≡ true → 36 ≤ length t
   long r = omega (arith, repeated t r, size, determined)
 
-  is_whole : (more : List ℕ) → is_frame (t ++ more) ≡ true
+  is_whole : (more : List ℕ) → begins_with_frame (t ++ more) ≡ true
   is_whole more =
       let all = length-append t more in
       let l = text_length c i.body more short in

@@ -4,7 +4,7 @@ use Rattle.std.proofs.lemmas.List.{length-append, length-take-le, length-drop, t
 use Rattle.std.proofs.Math.Seq.{take-append-add, drop-append-add}
 use borrow.Rule.Slice.PartMut.{put_mid, mid_of}
 use Rattle.netlink_packet_core_grammar.specs.Attributes.{nla_align}
-use Rattle.netlink_packet_core_grammar.specs.Frames.{frame_length, is_frame}
+use Rattle.netlink_packet_core_grammar.specs.Frames.{frame_length, begins_with_frame}
 use Rattle.link_capture_numbers.specs.Cleared.{first_frame_cleared, numbers_cleared}
 use Rattle.link_capture_grammar.proofs.WholeFrames.{length_of}
 use Rattle.link_capture_numbers.proofs.Steps.{whole}
@@ -21,7 +21,7 @@ pub put_mid_rest : (at : ℕ) (text : List ℕ) → at ≤ length text → mid_o
 put_mid_rest at text h = take_all (length text - at) (drop at text) (omega (arith, length-drop at text))
 
 -- one more frame is cleared
-pub stepped : (at n m : ℕ) (text whole' : List ℕ) → at ≤ length text → is_frame (drop at text) ≡ true → n ≡ nla_align (frame_length (drop at text)) → m ≡ min n (length text - at)
+pub stepped : (at n m : ℕ) (text whole' : List ℕ) → at ≤ length text → begins_with_frame (drop at text) ≡ true → n ≡ nla_align (frame_length (drop at text)) → m ≡ min n (length text - at)
     → take at text ++ numbers_cleared (drop at text) ≡ whole'
     → take (at + m) (take at text ++ first_frame_cleared (drop at text)) ++ numbers_cleared (drop (at + m) (take at text ++ first_frame_cleared (drop at text))) ≡ whole'
 stepped at n m text whole' h f e i w =
@@ -45,7 +45,7 @@ stepped at n m text whole' h f e i w =
     ∙ w
 
 -- the number of bytes stays the same
-pub kept_size : (at : ℕ) (text : List ℕ) → at ≤ length text → is_frame (drop at text) ≡ true → length (take at text ++ first_frame_cleared (drop at text)) ≡ length text
+pub kept_size : (at : ℕ) (text : List ℕ) → at ≤ length text → begins_with_frame (drop at text) ≡ true → length (take at text ++ first_frame_cleared (drop at text)) ≡ length text
 kept_size at text h f =
     let rest : List ℕ = drop at text in
     let bounds = length_of rest f in

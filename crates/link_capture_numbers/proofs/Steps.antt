@@ -4,7 +4,7 @@ use Rattle.std.specs.Prelude.{◌&&◌, nat_eq, nat_le}
 use Rattle.std.proofs.lemmas.Bool.{cases_lt}
 use Rattle.std.proofs.lemmas.List.{drop_all, length-take, take_all, take_at, take-append-drop}
 use Rattle.netlink_packet_core_grammar.specs.Attributes.{nla_align}
-use Rattle.netlink_packet_core_grammar.specs.Frames.{frame_length, frame_type, is_frame}
+use Rattle.netlink_packet_core_grammar.specs.Frames.{frame_length, frame_type, begins_with_frame}
 use Rattle.netlink_packet_core_grammar.proofs.Numbers.{u32_at-append}
 use Rattle.link_capture_grammar.specs.WholeFrames.{whole_frames}
 use Rattle.link_capture_grammar.proofs.Frames.{frame_type-more}
@@ -27,7 +27,7 @@ first_frame_joined t more h q e =
     ap (λ b. cond b (zeros_at 28 (zeros_at 8 (t ++ more))) (zeros_at 8 (t ++ more))) e ∙ first_frame_joined_by t more (repeats_request t) h q
 
 -- The first frame is cleared as its bytes are.
-own_cleared : (c : List ℕ) → is_frame c ≡ true → first_frame_cleared (take (nla_align (frame_length c)) c) ≡ take (nla_align (frame_length c)) (first_frame_cleared c)
+own_cleared : (c : List ℕ) → begins_with_frame c ≡ true → first_frame_cleared (take (nla_align (frame_length c)) c) ≡ take (nla_align (frame_length c)) (first_frame_cleared c)
 own_cleared c h =
     let n = nla_align (frame_length c) in
     let t : List ℕ = take n c in
@@ -50,7 +50,7 @@ own_cleared c h =
 
 -- ---- one frame after the other
 
-pub whole : (c : List ℕ) → is_frame c ≡ true → numbers_cleared c ≡ take (nla_align (frame_length c)) (first_frame_cleared c) ++ numbers_cleared (drop (nla_align (frame_length c)) c)
+pub whole : (c : List ℕ) → begins_with_frame c ≡ true → numbers_cleared c ≡ take (nla_align (frame_length c)) (first_frame_cleared c) ++ numbers_cleared (drop (nla_align (frame_length c)) c)
 unfolding numbers_cleared
 whole c h =
     let rest = whole_frames (drop (nla_align (frame_length c)) c) in
@@ -58,6 +58,6 @@ whole c h =
     ∙ append_assoc (first_frame_cleared (take (nla_align (frame_length c)) c)) (flat_map first_frame_cleared rest.frames) rest.rest
     ∙ ap (λ z. z ++ (flat_map first_frame_cleared rest.frames ++ rest.rest)) (own_cleared c h)
 
-pub stopped : (c : List ℕ) → is_frame c ≡ false → numbers_cleared c ≡ c
+pub stopped : (c : List ℕ) → begins_with_frame c ≡ false → numbers_cleared c ≡ c
 unfolding numbers_cleared
 stopped c h = ap (λ w. flat_map first_frame_cleared w.frames ++ w.rest) (whole_stop c h)

@@ -3,8 +3,8 @@ use Rattle.std.proofs.Common.{◌≡◌, ℕ, ◌+◌, Bool, true, false, cond, 
 use Rattle.std.specs.Prelude.{◌&&◌, nat_le, slice_index}
 use Rattle.std.proofs.Math.Bool.{and-false}
 use Rattle.std.proofs.lemmas.Bool.{and_parts}
-use Rattle.attribute_tables_grammar.specs.Peers.{Peer, bytes_peer}
-use Rattle.link_message_grammar.specs.Body.{header_text, attribute_bytes, family, list_rule_of, body_rule, link_peer, link_body}
+use Rattle.attribute_tables_grammar.specs.Peers.{RuleOfPeers, bytes_peer}
+use Rattle.link_message_grammar.specs.Body.{header_text, attribute_bytes, family, attributes_rule, body_rule, link_peer, link_body}
 use Rattle.link_message_grammar.specs.LinkMessage.{family_of, unspec, bridge, inet_6, other}
 use Rattle.link_message_grammar.proofs.Body.{written_header}
 use Rattle.link_capture_quirks.specs.declared.quirk_at.Quirk.TheVariants.{HeaderByte}
@@ -42,14 +42,14 @@ header-none t b more h offset =
     ap (λ n. quirks_at offset (quirk_if (eqb t 18 && not (eqb n 0)) HeaderByte)) (second-byte b more h)
     ∙ ap (λ x. quirks_at offset (quirk_if x HeaderByte)) (and-false (eqb t 18))
 
-module _ (s : ListsUnfoldByAttributes) (w : WrittenAttributesHaveNone) (p : Peer) (j : Bool) (peers : PeerHasNone p j) where
+module _ (s : ListsUnfoldByAttributes) (w : WrittenAttributesHaveNone) (p : RuleOfPeers) (j : Bool) (peers : PeerHasNone p j) where
   -- the attributes of the text of a body
   pub list-none : (b : List ℕ) → (body_rule p).accepted b ≡ true → (offset : ℕ) →
       list_quirks (whole (family_table (slice_index ((body_rule p).canonical b) 0)) j) offset (drop 16 ((body_rule p).canonical b)) ≡ []
   unfolding body_rule
   list-none b a offset =
-      let h = and_parts (nat_le 16 (length b)) ((list_rule_of p (family b)).accepted (attribute_bytes b)) a in
-      let text = (list_rule_of p (family b)).canonical (attribute_bytes b) in
+      let h = and_parts (nat_le 16 (length b)) ((attributes_rule p (family b)).accepted (attribute_bytes b)) a in
+      let text = (attributes_rule p (family b)).canonical (attribute_bytes b) in
       let rest : List ℕ = drop 16 (header_text b ++ text) in
       ap (λ n. list_quirks (whole (family_table n) j) offset rest) (first-byte b text h.0)
       ∙ ap (λ t. list_quirks (whole t j) offset rest) (family-list (slice_index b 0))
@@ -77,7 +77,7 @@ module _ (s : ListsUnfoldByAttributes) (w : WrittenAttributesHaveNone) where
   pub body-none : (offset t : ℕ) (b : List ℕ) → link_body.accepted b ≡ true → link_quirks offset t (link_body.canonical b) ≡ []
   unfolding link_quirks body_rule
   body-none offset t b a =
-      let h = and_parts (nat_le 16 (length b)) ((list_rule_of link_peer (family b)).accepted (attribute_bytes b)) a in
+      let h = and_parts (nat_le 16 (length b)) ((attributes_rule link_peer (family b)).accepted (attribute_bytes b)) a in
       let text = link_body.canonical b in
-      ap (λ z. z ++ list_quirks (body_list text) (offset + 16) (drop 16 text)) (header-none t b ((list_rule_of link_peer (family b)).canonical (attribute_bytes b)) h.0 (offset + 1))
+      ap (λ z. z ++ list_quirks (body_list text) (offset + 16) (drop 16 text)) (header-none t b ((attributes_rule link_peer (family b)).canonical (attribute_bytes b)) h.0 (offset + 1))
       ∙ list-none s w link_peer true links-none b a (offset + 16)

@@ -11,7 +11,7 @@ use Rattle.link_capture_grammar.proofs.Frames.{accepted, no_frames, own_bytes, s
 use Rattle.link_capture_quirks.specs.CaptureQuirks.{frame_quirks, frames_quirks, link_quirks, quirks_from}
 use Rattle.link_capture_quirks.specs.QuirkLaws.{QuirksUnfoldByFrames}
 
-stop : (limit offset : ℕ) (c : List ℕ) (kind : FaultKind) → first_frame limit c ≡ Err kind → quirks_from limit offset c ≡ []
+stop : (limit offset : ℕ) (c : List ℕ) (kind : FaultKind) → first_frame link_body limit c ≡ Err kind → quirks_from limit offset c ≡ []
 unfolding quirks_from
 stop limit offset c kind h = ap (frames_quirks offset) (no_frames link_body limit c kind h)
 
@@ -20,14 +20,14 @@ unfolding quirks_from
 nothing limit offset = ap (λ s. frames_quirks offset s.frames) (split_nil link_body limit)
 
 -- the quirks of the first frame are those of its bytes
-own_quirks : (limit offset : ℕ) (c : List ℕ) (frame : ℕ × List ℕ) → first_frame limit c ≡ Ok frame → frame_quirks offset (take frame.0 c) ≡ frame_quirks offset c
+own_quirks : (limit offset : ℕ) (c : List ℕ) (frame : ℕ × List ℕ) → first_frame link_body limit c ≡ Ok frame → frame_quirks offset (take frame.0 c) ≡ frame_quirks offset c
 unfolding frame_quirks
 own_quirks limit offset c frame h =
     let own = own_bytes link_body limit c frame h in
     ap (λ t. cond (is_link_type t) (link_quirks (offset + 16) t (frame_body (take frame.0 c))) []) own.type
     ∙ ap (λ b. cond (is_link_type (frame_type c)) (link_quirks (offset + 16) (frame_type c) b) []) own.body
 
-next : (limit offset : ℕ) (c : List ℕ) (frame : ℕ × List ℕ) → first_frame limit c ≡ Ok frame → quirks_from limit offset c ≡ frame_quirks offset c ++ quirks_from limit (offset + nla_align frame.0) (drop (nla_align frame.0) c)
+next : (limit offset : ℕ) (c : List ℕ) (frame : ℕ × List ℕ) → first_frame link_body limit c ≡ Ok frame → quirks_from limit offset c ≡ frame_quirks offset c ++ quirks_from limit (offset + nla_align frame.0) (drop (nla_align frame.0) c)
 unfolding quirks_from
 next limit offset c frame h =
     let a = accepted link_body limit c frame h in

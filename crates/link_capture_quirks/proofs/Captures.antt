@@ -4,11 +4,11 @@ use Rattle.netlink_packet_core_grammar.specs.Attributes.{nla_align}
 use Rattle.netlink_packet_core_grammar.specs.Frames.{frame_type, frame_body, frame_text}
 use Rattle.netlink_packet_core_grammar.proofs.Attributes.{first_attribute_text}
 use Rattle.netlink_packet_core_grammar.proofs.Together.{first_is_within}
-use Rattle.attribute_tables_grammar.specs.Rules.{Migrates}
+use Rattle.attribute_tables_grammar.specs.Rules.{IsMigratedBy}
 use Rattle.attribute_tables_grammar.proofs.Attributes.{migrates_reflexive}
 use Rattle.link_message_grammar.specs.Body.{link_body, link_peer}
 use Rattle.link_message_grammar.proofs.Body.{body_lawful, link_peer_lawful}
-use Rattle.link_capture_grammar.specs.Bodies.{is_link_type, body_text_under}
+use Rattle.link_capture_grammar.specs.Bodies.{is_link_type, body_text}
 use Rattle.link_capture_grammar.specs.Captures.{first_frame, texts}
 use Rattle.link_capture_grammar.specs.Laws.{IsLimit}
 use Rattle.link_capture_grammar.proofs.Frames as Frames
@@ -36,12 +36,12 @@ by_frames = Steps.steps
 pub attributes : WrittenAttributesHaveNone
 attributes = written by_lists first_attribute_text
 
-migrates : Migrates link_body link_body
+migrates : IsMigratedBy link_body link_body
 migrates = migrates_reflexive link_body (body_lawful link_peer link_peer_lawful)
 
 -- ---- frames
 
-frame-none : (limit : ℕ) (c : List ℕ) (frame : ℕ × List ℕ) (more : List ℕ) → IsLimit limit → first_frame limit c ≡ Ok frame → (offset : ℕ) → frame_quirks offset (frame.1 ++ more) ≡ []
+frame-none : (limit : ℕ) (c : List ℕ) (frame : ℕ × List ℕ) (more : List ℕ) → IsLimit limit → first_frame link_body limit c ≡ Ok frame → (offset : ℕ) → frame_quirks offset (frame.1 ++ more) ≡ []
 unfolding frame_quirks
 frame-none limit c frame more l h offset =
     let t = texted link_body limit c frame h in
@@ -52,17 +52,17 @@ frame-none limit c frame more l h offset =
     ∙ ap (λ b. cond (is_link_type (frame_type c)) (link_quirks (offset + 16) (frame_type c) b) []) (text_body c t.body more a.header (omega (arith, t.fits, l)))
     ∙ by (is_link_type (frame_type c)) refl t.body t.body_is
   where
-    by : (k : Bool) → is_link_type (frame_type c) ≡ k → (body : List ℕ) → body_text_under link_body (frame_type c) (frame_body c) ≡ Ok body → cond k (link_quirks (offset + 16) (frame_type c) body) [] ≡ []
+    by : (k : Bool) → is_link_type (frame_type c) ≡ k → (body : List ℕ) → body_text link_body (frame_type c) (frame_body c) ≡ Ok body → cond k (link_quirks (offset + 16) (frame_type c) body) [] ≡ []
     by true k body h =
         let r = ruled link_body (frame_body c) body (link_ruled link_body (frame_type c) (frame_body c) body k h) in
         ap (link_quirks (offset + 16) (frame_type c)) (sym r.is) ∙ body-none by_lists attributes (offset + 16) (frame_type c) (frame_body c) r.accepted
     by false k body h = refl
 
-texts-none : (limit : ℕ) (c : List ℕ) → IsLimit limit → (offset : ℕ) → quirks_from limit offset (texts limit c) ≡ []
+texts-none : (limit : ℕ) (c : List ℕ) → IsLimit limit → (offset : ℕ) → quirks_from limit offset (texts link_body limit c) ≡ []
 texts-none limit c l =
-    Frames.by_frames link_body limit (λ c. (offset : ℕ) → quirks_from limit offset (texts limit c) ≡ [])
+    Frames.by_frames link_body limit (λ c. (offset : ℕ) → quirks_from limit offset (texts link_body limit c) ≡ [])
     (λ c frame h more offset.
-    let rest = texts limit (drop (nla_align frame.0) c) in
+    let rest = texts link_body limit (drop (nla_align frame.0) c) in
     let f = first_frame_migrated link_body link_body migrates limit c frame frame rest l h h in
     let following = offset + nla_align f.0 in
     ap (quirks_from limit offset) (Frames.texts_step link_body limit c frame h)

@@ -12,6 +12,7 @@ use Rattle.link_capture_quirks.specs.QuirkLists.{quirks_at, list_quirks}
 use Rattle.link_capture_quirks.specs.CaptureQuirks.{body_list, link_quirks, frame_quirks, quirks_from}
 use Rattle.link_capture_quirks.specs.QuirkWalks.{optional_quirk, level_quirks, walk_quirks, rest_quirks}
 use Rattle.link_capture_quirks.specs.QuirkLaws.{QuirksUnfoldByFrames}
+use Rattle.link_message_grammar.specs.Body.{link_body}
 
 pub not-entered : (offset : ℕ) (c : List ℕ) → is_link_type (frame_type c) ≡ false → [] ≡ frame_quirks offset c
 unfolding frame_quirks
@@ -29,5 +30,5 @@ entered offset t c b first l ls e f link inside_frame header list =
     ∙ ap (λ y. cond y (link_quirks (offset + 16) (frame_type c) (frame_body c)) []) (sym link)
 
 -- after a frame
-pub quirks-after-frame : QuirksUnfoldByFrames → (limit at n : ℕ) (c text : List ℕ) → first_frame limit (drop at c) ≡ Ok (n, text) → rest_quirks limit c at ≡ frame_quirks at (drop at c) ++ rest_quirks limit c (at + nla_align n)
+pub quirks-after-frame : QuirksUnfoldByFrames → (limit at n : ℕ) (c text : List ℕ) → first_frame link_body limit (drop at c) ≡ Ok (n, text) → rest_quirks limit c at ≡ frame_quirks at (drop at c) ++ rest_quirks limit c (at + nla_align n)
 quirks-after-frame s limit at n c text h = s.next limit at (drop at c) (n, text) h ∙ ap (λ z. frame_quirks at (drop at c) ++ quirks_from limit (at + nla_align n) z) (drop-drop (nla_align n) at c)

@@ -5,7 +5,7 @@ use Rattle.std.proofs.Math.Bool.{and-false}
 use Rattle.std.proofs.lemmas.Bool.{eqb-true, and_right, cond_both}
 use Rattle.netlink_packet_core_grammar.specs.Attributes.{Attribute, proper_kind, nla_align, attribute_length, first_attribute}
 use Rattle.attribute_tables_grammar.specs.Rules.{Rule}
-use Rattle.attribute_tables_grammar.specs.Lists.{Row, rewrite}
+use Rattle.attribute_tables_grammar.specs.Lists.{Row, canonical_form}
 use Rattle.attribute_tables_grammar.proofs.Attributes.{proper_kind-written}
 use Rattle.link_capture_quirks.specs.declared.quirk_at.Quirk.{Quirk}
 use Rattle.link_capture_quirks.specs.declared.quirk_at.QuirkAt.{QuirkAt}
@@ -49,7 +49,7 @@ without-peer l k q h =
     ∙ ap (λ b. cond b peer (at_payload_start l (inside_table l.table l.context k))) (unjudged (eqb k 1) l.judged (leb 16 (length q)))
 
 -- the list inside an attribute, as its row writes it
-pub written-inside : (l : Listing) (r : Row) (e : Attribute) → has_peer l.table ≡ false → NoneInside (at_payload_start l (inside_table l.table l.context (proper_kind e.kind))) (r.rule.canonical e.payload) → NoneInside (inside_of l (rewrite r e)) (r.rule.canonical e.payload)
+pub written-inside : (l : Listing) (r : Row) (e : Attribute) → has_peer l.table ≡ false → NoneInside (at_payload_start l (inside_table l.table l.context (proper_kind e.kind))) (r.rule.canonical e.payload) → NoneInside (inside_of l (canonical_form r e)) (r.rule.canonical e.payload)
 written-inside l r e h s =
     let q = r.rule.canonical e.payload in
     subst (λ o. NoneInside o q) (sym (ap (λ k. inside l k q) (proper_kind-written r e.kind) ∙ without-peer l (proper_kind e.kind) q h)) s

@@ -4,12 +4,12 @@ use Rattle.netlink_packet_core_grammar.specs.Attributes.{Attribute, proper_kind,
 use Rattle.link_capture_grammar.specs.declared.fault.FaultKind.{FaultKind}
 use Rattle.link_capture_grammar.specs.Captures.{first_frame}
 use Rattle.attribute_tables_grammar.specs.Shapes.{Shape}
-use Rattle.attribute_tables_grammar.specs.Lists.{rewrite, is_kept, of_kind_one, first_only, list_rule}
+use Rattle.attribute_tables_grammar.specs.Lists.{canonical_form, is_kept, of_kind_one, first_only, list_rule}
 use Rattle.attribute_tables_grammar.specs.LookUps.{table_row}
-use Rattle.attribute_tables_grammar.specs.Peers.{Peer}
+use Rattle.attribute_tables_grammar.specs.Peers.{RuleOfPeers}
 use Rattle.attribute_tables_grammar.specs.Tables.{Table as Rows, grammar}
 use Rattle.link_info_grammar.specs.Families.{vxlan, geneve, gre, gre6, ip_tunnel, bareudp, batadv, netkit, pair}
-use Rattle.link_message_grammar.specs.Body.{attribute_row_under, header_text}
+use Rattle.link_message_grammar.specs.Body.{attribute_row, header_text, link_body}
 use Rattle.link_message_grammar.specs.LinkMessage.{Family, unspec, bridge, inet_6, other}
 use Rattle.link_message_grammar.specs.NestedTables.{inet, xdp, vf_infos}
 use Rattle.link_capture_quirks.specs.declared.tables.Data.{Data}
@@ -32,10 +32,10 @@ ListsUnfoldByAttributes = UnfoldsByAttributes quirk_walk list_quirks
 -- The quirks of a capture are those of its first frame, and of the bytes after it and its padding. From a faulty frame
 -- on there are none.
 pub record QuirksUnfoldByFrames : Type 0 where
-  pub next : (limit offset : ℕ) (c : List ℕ) (frame : ℕ × List ℕ) → first_frame limit c ≡ Ok frame →
+  pub next : (limit offset : ℕ) (c : List ℕ) (frame : ℕ × List ℕ) → first_frame link_body limit c ≡ Ok frame →
       quirks_from limit offset c ≡
       frame_quirks offset c ++ quirks_from limit (offset + nla_align frame.0) (drop (nla_align frame.0) c)
-  pub fault : (limit offset : ℕ) (c : List ℕ) (kind : FaultKind) → first_frame limit c ≡ Err kind →
+  pub fault : (limit offset : ℕ) (c : List ℕ) (kind : FaultKind) → first_frame link_body limit c ≡ Err kind →
       quirks_from limit offset c ≡ []
   pub none : (limit offset : ℕ) → quirks_from limit offset [] ≡ []
 
@@ -64,21 +64,21 @@ IsDataTable _ t = ⊥
 -- it is written.
 pub record WrittenAttributesHaveNone : Type 0 where
   -- attributes of a link
-  pub link : (p : Peer) (f : Family) (offset : ℕ) (e : Attribute) →
-      (attribute_row_under p f (proper_kind e.kind)).rule.accepted e.payload ≡ true →
-      direct_quirks (link_list f) offset (rewrite (attribute_row_under p f (proper_kind e.kind)) e) ≡ []
+  pub link : (p : RuleOfPeers) (f : Family) (offset : ℕ) (e : Attribute) →
+      (attribute_row p f (proper_kind e.kind)).rule.accepted e.payload ≡ true →
+      direct_quirks (link_list f) offset (canonical_form (attribute_row p f (proper_kind e.kind)) e) ≡ []
   -- of the data of a kind of link
-  pub of_kind : (p : Peer) (d : Data) (t : Rows) (offset : ℕ) (e : Attribute) → IsDataTable d t →
-      direct_quirks (OfKind d) offset (rewrite (table_row p t (proper_kind e.kind)) e) ≡ []
+  pub of_kind : (p : RuleOfPeers) (d : Data) (t : Rows) (offset : ℕ) (e : Attribute) → IsDataTable d t →
+      direct_quirks (OfKind d) offset (canonical_form (table_row p t (proper_kind e.kind)) e) ≡ []
   -- of the settings of IPv4, and of programs
-  pub settings : (p : Peer) (offset : ℕ) (e : Attribute) →
-      direct_quirks Inet offset (rewrite (table_row p inet (proper_kind e.kind)) e) ≡ []
-  pub programs : (p : Peer) (offset : ℕ) (e : Attribute) →
-      direct_quirks Programs offset (rewrite (table_row p xdp (proper_kind e.kind)) e) ≡ []
+  pub settings : (p : RuleOfPeers) (offset : ℕ) (e : Attribute) →
+      direct_quirks Inet offset (canonical_form (table_row p inet (proper_kind e.kind)) e) ≡ []
+  pub programs : (p : RuleOfPeers) (offset : ℕ) (e : Attribute) →
+      direct_quirks Programs offset (canonical_form (table_row p xdp (proper_kind e.kind)) e) ≡ []
   -- of the virtual functions that are kept
-  pub functions : (p : Peer) (offset : ℕ) (e : Attribute) → is_kept of_kind_one e ≡ true →
-      direct_quirks Functions offset (rewrite (table_row p vf_infos (proper_kind e.kind)) e) ≡ []
+  pub functions : (p : RuleOfPeers) (offset : ℕ) (e : Attribute) → is_kept of_kind_one e ≡ true →
+      direct_quirks Functions offset (canonical_form (table_row p vf_infos (proper_kind e.kind)) e) ≡ []
   -- the text of a pair's data has no attribute after the first one, and no quirk
-  pub pair : (p : Peer) (offset : ℕ) (b : List ℕ) → (list_rule first_only (grammar p pair)).accepted b ≡ true →
+  pub pair : (p : RuleOfPeers) (offset : ℕ) (b : List ℕ) → (list_rule first_only (grammar p pair)).accepted b ≡ true →
       list_quirks (whole (OfKind Pair) false) offset ((list_rule first_only (grammar p pair)).canonical b) ≡ []
   pub header : (t : ℕ) (b : List ℕ) → header_quirk t (header_text b) ≡ None

@@ -9,6 +9,7 @@ use Rattle.link_capture_walks.specs.Listings.{listing}
 use Rattle.link_capture_quirks.specs.QuirkTables.{depth}
 use Rattle.link_capture_quirks.specs.QuirkLists.{list_quirks}
 use Rattle.link_capture_quirks.specs.CaptureQuirks.{quirks_from}
+use Rattle.link_message_grammar.specs.Body.{link_body}
 
 -- The quirks of the rest of one list.
 abbrev pub level_quirks : Level → List QuirkAt
@@ -52,7 +53,7 @@ rest_quirks limit c offset = quirks_from limit offset (drop offset c)
 
 -- The first fault of a capture from an offset on.
 abbrev pub rest_fault : ℕ → List ℕ → ℕ → Option CaptureFault
-rest_fault limit c offset = shifted offset (first_fault limit (drop offset c))
+rest_fault limit c offset = shifted offset (first_fault link_body limit (drop offset c))
 
 -- A step of a walk: the quirks `from` of the frames begun so far, which end at the offset `start`, become `to` and
 -- `offset`, and the step yields the next quirk, the first fault, or None. The fault is that of the frame at `start`; no

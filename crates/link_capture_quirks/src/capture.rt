@@ -5,6 +5,7 @@ ghost use Rattle.std.specs.Iterator.{YieldsFirst, item_count};
 ghost use Rattle.link_capture_grammar.specs.Captures.{first_fault};
 ghost use Rattle.link_capture_quirks.specs.CaptureQuirks.{capture_quirks, QuirksLeft, items_left};
 ghost use Rattle.link_capture_quirks.specs.QuirkWalks.{walk_quirks, AreWithin, rest_quirks, rest_fault, IsStep};
+ghost use Rattle.link_message_grammar.specs.Body.{link_body};
 
 use crate::laws::quirks_unfold_by_frames;
 use crate::quirk_at::QuirkAt;
@@ -45,7 +46,7 @@ impl<'a> Model for CaptureQuirks<'a> {
 /// `limit` is the greatest length in bytes of a frame and of its text. Allocates nothing.
 pub fn quirks(bytes: &[u8], limit: u32) -> CaptureQuirks<'_>
     ensures quirks_left { result.quirks_left ≡ capture_quirks limit bytes.now }
-    ensures fault { result.fault ≡ first_fault limit bytes.now }
+    ensures fault { result.fault ≡ first_fault link_body limit bytes.now }
 {
     CaptureQuirks {
         limit,

@@ -1,7 +1,7 @@
 //! A walk through the nested lists of a frame.
 
 ghost use Rattle.std.specs.Prelude.{◌≡◌, ◌≤◌, ◌<◌, ◌+◌, ◌^◌, ◌∷◌, ◌++◌, [], true, length, IfSome, IfNone};
-ghost use Rattle.netlink_packet_core.specs.Frames.{IsFrame, frame_type, frame_body};
+ghost use Rattle.netlink_packet_core.specs.Frames.{BeginsWithFrame, frame_type, frame_body};
 ghost use Rattle.link_capture_grammar.specs.Bodies.{is_link_type};
 ghost use Rattle.link_capture_quirks.specs.QuirkLists.{quirks_at};
 ghost use Rattle.link_capture_quirks.specs.CaptureQuirks.{frame_quirks};
@@ -79,7 +79,7 @@ impl<'a> Walk<'a> {
 
     /// Begins the first frame of `bytes`, which are at `offset`.
     pub(crate) fn enter(&mut self, bytes: &'a [u8], offset: usize)
-        requires frame { IsFrame bytes.now }
+        requires frame { BeginsWithFrame bytes.now }
         requires body { is_link_type (frame_type bytes.now) ≡ true → 16 ≤ length (frame_body bytes.now) }
         requires near { offset + length bytes.now < 2 ^ 63 }
         requires quirks_left { walk_quirks self.old.first self.old.second self.old.levels.items ≡ [] }

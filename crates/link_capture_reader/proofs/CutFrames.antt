@@ -21,7 +21,7 @@ two_steps old piece one two m n e f =
 
 -- A cut frame of 16 bytes or more, which was filled to exactly 16 at first, has a length in its header that is within
 -- the limit and more than its bytes.
-pub header_exact : NumbersAreIndependent → FramesAreIndependent link_body → (limit : ℕ) (old new : List ℕ) → first_frame limit old ≡ Err Cut → length new ≤ max 16 (length old) → (more : List ℕ) → new ≡ old ++ more → (length new ≤ 16) ⊎ ((u32_at 0 new ≡ u32_at 0 old) × (16 ≤ u32_at 0 old) × (u32_at 0 old ≤ limit) × (length new < u32_at 0 old))
+pub header_exact : NumbersAreIndependent → FramesAreIndependent link_body → (limit : ℕ) (old new : List ℕ) → first_frame link_body limit old ≡ Err Cut → length new ≤ max 16 (length old) → (more : List ℕ) → new ≡ old ++ more → (length new ≤ 16) ⊎ ((u32_at 0 new ≡ u32_at 0 old) × (16 ≤ u32_at 0 old) × (u32_at 0 old ≤ limit) × (length new < u32_at 0 old))
 header_exact numbers frames limit old new h le more e =
     elim (frames.cut limit old h) [
       | inl a ↦ inl (omega arith)
@@ -31,7 +31,7 @@ header_exact numbers frames limit old new h le more e =
     ]
 
 -- a frame whose length is known, and is there, isn't cut
-pub not_cut_short : FramesAreIndependent link_body → (limit : ℕ) (c : List ℕ) → 16 ≤ length c → (u32_at 0 c < 16) ⊎ (limit < u32_at 0 c) ⊎ (u32_at 0 c ≤ length c) → first_frame limit c ≢ Err Cut
+pub not_cut_short : FramesAreIndependent link_body → (limit : ℕ) (c : List ℕ) → 16 ≤ length c → (u32_at 0 c < 16) ⊎ (limit < u32_at 0 c) ⊎ (u32_at 0 c ≤ length c) → first_frame link_body limit c ≢ Err Cut
 not_cut_short frames limit c h w e =
     elim (frames.cut limit c e) [
       | inl a ↦ omega arith
@@ -67,16 +67,16 @@ header_is_allowed numbers limit c l low high =
     let n : frame_length c ≡ frame_length (take 16 c) = ap frame_length (sym (take-append-drop 16 c)) ∙ numbers.four_bytes (take 16 c) (drop 16 c) (omega (arith, length-take 16 c)) in
     inr (omega (arith, low, n), omega (arith, high, n))
 
-pub header_cut : NumbersAreIndependent → FramesAreIndependent link_body → (limit : ℕ) (c : List ℕ) → 16 ≤ length c → first_frame limit (take 16 c) ≡ Err Cut → HeaderIsAllowed limit c
+pub header_cut : NumbersAreIndependent → FramesAreIndependent link_body → (limit : ℕ) (c : List ℕ) → 16 ≤ length c → first_frame link_body limit (take 16 c) ≡ Err Cut → HeaderIsAllowed limit c
 header_cut numbers frames limit c l h =
     elim (frames.cut limit (take 16 c) h) [
       | inl a ↦ absurd (omega (arith, length-take 16 c, a))
       | inr a ↦ header_is_allowed numbers limit c l a.low a.high
     ]
 
-pub header_refused : FramesAreIndependent link_body → (limit : ℕ) (c : List ℕ) (kind : FaultKind) → kind ≢ Cut → first_frame limit (take 16 c) ≡ Err kind → first_frame limit c ≡ Err kind
+pub header_refused : FramesAreIndependent link_body → (limit : ℕ) (c : List ℕ) (kind : FaultKind) → kind ≢ Cut → first_frame link_body limit (take 16 c) ≡ Err kind → first_frame link_body limit c ≡ Err kind
 header_refused frames limit c kind n h =
-    ap (first_frame limit) (sym (take-append-drop 16 c)) ∙ frames.unchanged_by_more limit (take 16 c) (drop 16 c) (λ e. n cc) ∙ h
+    ap (first_frame link_body limit) (sym (take-append-drop 16 c)) ∙ frames.unchanged_by_more limit (take 16 c) (drop 16 c) (λ e. n cc) ∙ h
 
 -- the bytes that were moved, and those that weren't
 pub whole : (old piece new : List ℕ) (m : ℕ) → new ≡ old ++ take m piece → old ++ piece ≡ new ++ drop m piece
@@ -85,12 +85,12 @@ whole old piece new m e =
 
 -- the frame that is whole now
 pub record Completed (limit : ℕ) (old piece new : List ℕ) (m claimed : ℕ) (text : List ℕ) : Type 0 where
-  pub prefix_is : first_frame limit (old ++ piece) ≡ Ok (claimed, text)
+  pub prefix_is : first_frame link_body limit (old ++ piece) ≡ Ok (claimed, text)
   pub size : length new ≡ claimed
   pub total : length (old ++ piece) ≡ claimed + (length piece - m)
   pub left : drop (nla_align claimed) (old ++ piece) ≡ drop (m + (nla_align claimed - claimed)) piece
 
-pub completed : FramesAreIndependent link_body → (limit : ℕ) (old piece new : List ℕ) (m claimed : ℕ) (text : List ℕ) → new ≡ old ++ take m piece → m ≤ length piece → length new ≤ max 16 (u32_at 0 new) → first_frame limit new ≡ Ok (claimed, text) → Completed limit old piece new m claimed text
+pub completed : FramesAreIndependent link_body → (limit : ℕ) (old piece new : List ℕ) (m claimed : ℕ) (text : List ℕ) → new ≡ old ++ take m piece → m ≤ length piece → length new ≤ max 16 (u32_at 0 new) → first_frame link_body limit new ≡ Ok (claimed, text) → Completed limit old piece new m claimed text
 completed frames limit old piece new m claimed text e l x h =
     let a = frames.accepted limit new (claimed, text) h in
     let w = whole old piece new m e in
@@ -98,7 +98,7 @@ completed frames limit old piece new m claimed text e l x h =
     let total : length (old ++ piece) ≡ claimed + (length piece - m) = ap length w ∙ length-append new (drop m piece) ∙ omega (arith, length-drop m piece) in
     let reach : nla_align claimed ≡ length new + (nla_align claimed - claimed) = omega arith in
     record {
-      prefix_is = ap (first_frame limit) w ∙ frames.unchanged_by_more limit new (drop m piece) (λ q. cc) ∙ h;
+      prefix_is = ap (first_frame link_body limit) w ∙ frames.unchanged_by_more limit new (drop m piece) (λ q. cc) ∙ h;
       size = size;
       total = total;
       left = ap (drop (nla_align claimed)) w ∙ ap (λ n. drop n (new ++ drop m piece)) reach ∙ drop-append-add new (drop m piece) (nla_align claimed - claimed) ∙ drop-drop (nla_align claimed - claimed) m piece;

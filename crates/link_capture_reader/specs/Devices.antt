@@ -1,5 +1,5 @@
--- What sources and sinks count.
-use Rattle.std.specs.Prelude.{◌≡◌, ℕ, ◌+◌, ◌-◌, ◌^◌, ◌&&◌, min, List, Option, Result, Ok, Err, nat_lt, nat_eq, cond}
+-- What sources and sinks count, and prefixes of what they read and write.
+use Rattle.std.specs.Prelude.{◌≡◌, ℕ, ◌+◌, ◌-◌, ◌^◌, ◌&&◌, min, List, ◌++◌, Option, Result, Ok, Err, nat_lt, nat_eq, cond}
 use Rattle.std.specs.Prelude.{Bool, false, true}
 use Rattle.std.specs.Io.KnownBytes.{IsAtEnd}
 use Rattle.link_capture_reader.specs.declared.devices.DeviceFailed.{DeviceFailed}
@@ -34,3 +34,7 @@ Rises old new = new ≡ risen old
 -- The source reported its end, and if the bytes to come are known, there are none.
 abbrev pub ReportsItsEnd : ℕ → ℕ → Option (List ℕ) → Type 0
 ReportsItsEnd old new to_come = Rises old new × IsAtEnd to_come
+
+-- One string of bytes is a prefix of another.
+abbrev pub IsPrefix : List ℕ → List ℕ → Type 0
+IsPrefix prefix whole = (rest : List ℕ) × (whole ≡ prefix ++ rest)

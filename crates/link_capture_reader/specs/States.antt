@@ -1,8 +1,7 @@
 -- The states of sources and sinks, and what was written to a sink between two states.
 use Rattle.std.specs.Prelude.{◌≡◌, ℕ, Bool, true, false, List, Option}
 use Rattle.std.specs.Io.KnownBytes.{Appends}
-use Rattle.link_capture_reader.specs.Devices.{Rises}
-use Rattle.link_capture_reader.specs.Outcomes.{IsPrefix}
+use Rattle.link_capture_reader.specs.Devices.{Rises, IsPrefix}
 
 -- The state of a source: the bytes to come, if they are known; how often it failed; and how often it reported its end.
 pub record SourceState : Type 0 where
@@ -31,5 +30,5 @@ IsReported before after text false = Rises before.failures after.failures ×
     ((prefix : List ℕ) × IsPrefix prefix text × Appends before.holds after.holds prefix)
 
 -- A text was written to a sink, all of it or a prefix.
-abbrev pub IsReportedOrCut : SinkState → SinkState → List ℕ → Type 0
-IsReportedOrCut before after text = (complete : Bool) × IsReported before after text complete
+abbrev pub IsReportedUnlessSinkFails : SinkState → SinkState → List ℕ → Type 0
+IsReportedUnlessSinkFails before after text = (complete : Bool) × IsReported before after text complete

@@ -4,6 +4,7 @@ ghost use Rattle.std.specs.Prelude.{◌≡◌, ◌+◌, ◌-◌, ◌^◌, ◌≤
 ghost use Rattle.std.specs.Io.KnownBytes.{Consumes, Appends};
 ghost use Rattle.link_capture_reader.specs.Devices.{Rises, ReportsItsEnd};
 ghost use Rattle.link_capture_reader.specs.Outcomes.{Normalizes, ReadFault};
+ghost use Rattle.link_capture_reader.specs.States.{source_state, sink_state};
 
 use super::devices::{Sink, Source};
 use super::first::{FirstBytes, keep_first};
@@ -62,11 +63,9 @@ pub fn normalize<S: Source, K: Sink>(
     limit: u32,
 ) -> Result<(), CaptureFault>
     requires { 16 ≤ limit }
-    ensures { Normalizes (S.to_come source.old) (S.to_come source.new)
-        (K.holds sink.old) (K.holds sink.new)
-        (ReportsItsEnd (S.ends_reported source.old) (S.ends_reported source.new) (S.to_come source.new))
-        (Rises (S.failures source.old) (S.failures source.new))
-        (Rises (K.failures sink.old) (K.failures sink.new)) limit result }
+    ensures { Normalizes (source_state S.to_come S.failures S.ends_reported source.old)
+        (source_state S.to_come S.failures S.ends_reported source.new)
+        (sink_state K.holds K.failures sink.old) (sink_state K.holds K.failures sink.new) limit result }
 {
     captures_unfold_by_frames();
     frames_are_independent();

@@ -1,8 +1,9 @@
 //! The frames of bytes, one after the other.
 
 ghost use Rattle.std.specs.Prelude.{◌≡◌, ◌≢◌, ◌+◌, ◌≤◌, ◌<◌, length, take, Some, IfErr, OnOk};
-ghost use Rattle.link_capture_grammar.specs.Captures.{first_fault, IsLegal, StopsAt};
+ghost use Rattle.link_capture_grammar.specs.Captures.{first_fault, IsLegal, ReachesFrameAt};
 ghost use Rattle.link_capture_reader.specs.Readers.{GainsTexts, IsFrameOffsetOf, LacksCapacityAt};
+ghost use Rattle.link_capture_grammar.specs.Body.{link_body};
 
 use link_capture_checks::push_frame;
 use link_capture_grammar::fault::{CaptureFault, FaultKind};
@@ -13,13 +14,13 @@ use netlink_packet_core::nla_align;
 /// where a cut frame is a fault, or with `Memory` at a frame if an allocation fails.
 pub(crate) fn push_frames(bytes: &[u8], limit: u32, out: &mut Vec<u8>) -> Result<(), CaptureFault>
     requires { 16 ≤ limit }
-    ensures legal { OnOk result (IsLegal limit bytes.now × GainsTexts limit bytes.now out.old out.new) }
+    ensures legal { OnOk result (IsLegal link_body limit bytes.now × GainsTexts limit bytes.now out.old out.new) }
     ensures fault { IfErr result
-        (λ fault. fault.kind ≢ FaultKind.Memory → (first_fault limit bytes.now ≡ Some fault)
+        (λ fault. fault.kind ≢ FaultKind.Memory → (first_fault link_body limit bytes.now ≡ Some fault)
         × GainsTexts limit bytes.now out.old out.new) }
     ensures offset { IfErr result (λ fault. IsFrameOffsetOf bytes.now fault.offset) }
     ensures memory { IfErr result
-        (λ fault. fault.kind ≡ FaultKind.Memory → StopsAt limit bytes.now fault.offset
+        (λ fault. fault.kind ≡ FaultKind.Memory → ReachesFrameAt link_body limit bytes.now fault.offset
         × GainsTexts limit (take fault.offset bytes.now) out.old out.new) }
     ensures capacity { IfErr result
         (λ fault. fault.kind ≡ FaultKind.Memory → LacksCapacityAt limit bytes.now fault.offset out.old) }

@@ -5,8 +5,9 @@ ghost use Rattle.std.specs.Prelude.{IfErr, OnOk, OnErr, Err, ⊤};
 ghost use Rattle.netlink_packet_core.specs.Attributes.{nla_align};
 ghost use Rattle.netlink_packet_core.specs.Frames.{frame_length};
 ghost use Rattle.link_capture_grammar.specs.Captures.{first_frame, first_fault, HeaderIsAllowed, IsOfFrames};
-ghost use Rattle.link_capture_reader.specs.Readers.{CanKeep, IsReader, Resumes, Gains, FeedFault, MemoryFaultIsJustified, unfailed};
-ghost use Rattle.link_capture_reader.specs.Walks.{ReadsTo, Faults, RunsOutOfMemory};
+ghost use Rattle.link_capture_reader.specs.Readers.{CanKeep, IsReader, IsPendingAfter, Gains, FeedFault, MemoryFaultIsJustified, unfailed};
+ghost use Rattle.link_capture_reader.specs.Walks.{ReadsTo, OtherFaultIsFirst, MemoryFaultIsAtFrame};
+ghost use Rattle.link_capture_grammar.specs.Body.{link_body};
 
 use super::frames::push_frames;
 use link_capture_checks::{frame_len, push_frame};
@@ -66,7 +67,7 @@ fn joined_header(kept: &[u8], piece: &[u8]) -> [u8; NETLINK_HEADER_LEN]
 fn judge_header(kept: &[u8], piece: &[u8], limit: u32) -> Result<(), FaultKind>
     ensures ok { OnOk result (HeaderIsAllowed limit (kept.now ++ piece.now)) }
     ensures err { IfErr result
-        (λ kind. (kind ≢ FaultKind.Cut) × (first_frame limit (kept.now ++ piece.now) ≡ Err kind)) }
+        (λ kind. (kind ≢ FaultKind.Cut) × (first_frame link_body limit (kept.now ++ piece.now) ≡ Err kind)) }
     ensures of_frames { IfErr result (λ kind. IsOfFrames kind) }
 {
     if piece.len() < NETLINK_HEADER_LEN.saturating_sub(kept.len()) {
@@ -91,11 +92,11 @@ fn judge_header(kept: &[u8], piece: &[u8], limit: u32) -> Result<(), FaultKind>
 /// Moves bytes from the start of the piece until the cut frame can be judged, or the piece is used
 /// up. Returns how many.
 fn complete_frame(kept: &mut Vec<u8>, piece: &[u8], limit: u32) -> Result<usize, AllocError>
-    requires { first_frame limit kept.old.items ≡ Err FaultKind.Cut }
+    requires { first_frame link_body limit kept.old.items ≡ Err FaultKind.Cut }
     ensures within { IfOk result (λ n. n ≤ length piece.now) }
     ensures moved { IfOk result (λ n. kept.new.items ≡ kept.old.items ++ take n piece.now) }
     ensures judged { IfOk result
-        (λ n. (n ≡ length piece.now) ⊎ (first_frame limit kept.new.items ≢ Err FaultKind.Cut)) }
+        (λ n. (n ≡ length piece.now) ⊎ (first_frame link_body limit kept.new.items ≢ Err FaultKind.Cut)) }
     ensures exact { OnOk result (length kept.new.items ≤ max 16 (frame_length kept.new.items)) }
     ensures full { OnErr result (vec_capacity kept.old < length kept.old.items + length piece.now) }
 {
@@ -140,12 +141,12 @@ impl Pending {
         ensures reader { OnOk result (IsReader
             (unfailed self.new.limit self.new.accepted self.new.kept.items (vec_capacity self.new.kept) self.new.owed)) }
         ensures ok { OnOk result ((s : List ℕ) → self.old.accepted ≡ length s
-            → Resumes (first_fault self.old.limit s) s self.old.kept.items self.old.owed
-            → Resumes (first_fault self.old.limit (s ++ piece.now)) (s ++ piece.now)
+            → IsPendingAfter (first_fault link_body self.old.limit s) s self.old.kept.items self.old.owed
+            → IsPendingAfter (first_fault link_body self.old.limit (s ++ piece.now)) (s ++ piece.now)
             self.new.kept.items self.new.owed
             × Gains self.old.limit s (s ++ piece.now) out.old.items out.new.items) }
         ensures fault { IfErr result (λ fault. (s : List ℕ) → self.old.accepted ≡ length s
-            → Resumes (first_fault self.old.limit s) s self.old.kept.items self.old.owed
+            → IsPendingAfter (first_fault link_body self.old.limit s) s self.old.kept.items self.old.owed
             → FeedFault (CanKeep self.old.kept.items (vec_capacity self.old.kept) (length piece.now))
             self.old.limit s piece.now out.old.items out.new.items fault.kind fault.offset) }
         ensures capacity { IfErr result (λ fault. self.old.kept.items ≡ [] → self.old.owed ≡ 0
@@ -191,14 +192,14 @@ impl Pending {
     ) -> Result<(), CaptureFault>
         requires limit { 16 ≤ self.old.limit }
         requires owed { self.old.owed ≡ 0 }
-        requires cut { first_frame self.old.limit self.old.kept.items ≡ Err FaultKind.Cut }
+        requires cut { first_frame link_body self.old.limit self.old.kept.items ≡ Err FaultKind.Cut }
         requires more { 0 < length bytes.now }
         requires fits { start + (length self.old.kept.items + length bytes.now) < 2 ^ 64 }
         ensures ok { OnOk result (ReadsTo self.old.limit (self.old.kept.items ++ bytes.now)
             out.old.items out.new.items self.new.kept.items self.new.owed) }
-        ensures fault { IfErr result (λ fault. Faults self.old.limit start
+        ensures fault { IfErr result (λ fault. OtherFaultIsFirst self.old.limit start
             (self.old.kept.items ++ bytes.now) out.old.items out.new.items fault) }
-        ensures memory { IfErr result (λ fault. RunsOutOfMemory
+        ensures memory { IfErr result (λ fault. MemoryFaultIsAtFrame
             (CanKeep self.old.kept.items (vec_capacity self.old.kept) (length bytes.now)) self.old.limit start
             (self.old.kept.items ++ bytes.now) out.old.items out.new.items fault) }
         ensures capacity { IfErr result (λ fault. self.old.kept.items ≡ []
@@ -264,9 +265,9 @@ impl Pending {
         requires fits { start + length bytes.now < 2 ^ 64 }
         ensures ok { OnOk result (ReadsTo self.old.limit bytes.now
             out.old.items out.new.items self.new.kept.items self.new.owed) }
-        ensures fault { IfErr result (λ fault. Faults self.old.limit start bytes.now
+        ensures fault { IfErr result (λ fault. OtherFaultIsFirst self.old.limit start bytes.now
             out.old.items out.new.items fault) }
-        ensures memory { IfErr result (λ fault. RunsOutOfMemory ⊤ self.old.limit start bytes.now
+        ensures memory { IfErr result (λ fault. MemoryFaultIsAtFrame ⊤ self.old.limit start bytes.now
             out.old.items out.new.items fault) }
         ensures capacity { IfErr result
             (λ fault. MemoryFaultIsJustified self.old.limit start bytes.now fault out.old) }

@@ -4,6 +4,7 @@ ghost use Rattle.std.specs.Prelude.{◌≡◌, ◌≢◌, ◌+◌, ◌^◌, ◌<
 ghost use Rattle.std.specs.Prelude.{OnOk, OnErr, IfErr, IfSome, None, Some, Err};
 ghost use Rattle.link_capture_grammar.specs.Captures.{first_fault};
 ghost use Rattle.link_capture_reader.specs.Readers.{ReaderState, CanKeep, IsReader, IsConsistentWith, Gains, FeedFault, MemoryFaultIsJustified};
+ghost use Rattle.link_capture_grammar.specs.Body.{link_body};
 
 use super::pieces::Pending;
 use link_capture_grammar::fault::{CaptureFault, FaultKind};
@@ -68,7 +69,7 @@ impl CaptureReader {
     /// Returns the offset of the frame that is cut.
     fn cut_offset(&self) -> u64
         requires { self.now.kept ≢ [] }
-        ensures { (s : List ℕ) → IsConsistentWith self.now s → first_fault self.now.limit s
+        ensures { (s : List ℕ) → IsConsistentWith self.now s → first_fault link_body self.now.limit s
             ≡ Some (record { kind = FaultKind.Cut; offset = result }) }
     {
         faults_are_at_frames();
@@ -87,7 +88,7 @@ impl CaptureReader {
         ensures kind { IfErr result (λ fault. fault.kind ≡ FaultKind.Memory) }
         // An allocation fails only if a frame is cut, and the fault is at it.
         ensures offset { IfErr result (λ fault. (s : List ℕ) → IsConsistentWith self.old s
-            → first_fault self.old.limit s ≡ Some (record { kind = FaultKind.Cut; offset = fault.offset })) }
+            → first_fault link_body self.old.limit s ≡ Some (record { kind = FaultKind.Cut; offset = fault.offset })) }
         ensures others { self.new ≡ record self.old { capacity = self.new.capacity } }
     {
         if self.pending.kept.is_empty() || self.pending.kept.reserve(size).is_ok() {
@@ -154,9 +155,9 @@ impl CaptureReader {
     /// if a call of `feed` has failed.
     pub fn finish(self) -> Result<(), CaptureFault>
         ensures ok { OnOk result
-            ((s : List ℕ) → IsConsistentWith self s → first_fault self.limit s ≡ None) }
+            ((s : List ℕ) → IsConsistentWith self s → first_fault link_body self.limit s ≡ None) }
         ensures fault { IfErr result (λ fault. (s : List ℕ) → IsConsistentWith self s
-            → (fault.kind ≡ FaultKind.Cut) × (first_fault self.limit s ≡ Some fault)) }
+            → (fault.kind ≡ FaultKind.Cut) × (first_fault link_body self.limit s ≡ Some fault)) }
         ensures failed_before { IfSome self.failed (λ offset.
             result ≡ Err (record { kind = FaultKind.Failed; offset = offset })) }
     {

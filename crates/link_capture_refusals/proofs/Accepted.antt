@@ -4,13 +4,13 @@ use Rattle.std.specs.Prelude.{◌&&◌, nat_le, nat_lt, is_none, option_map, sli
 use Rattle.netlink_packet_core_grammar.specs.Attributes.{Attribute, nla_align, attribute_length, first_attribute, proper_kind}
 use Rattle.netlink_packet_core_grammar.specs.Laws.{FirstIsWithin}
 use Rattle.attribute_tables_grammar.specs.Laws.{MeasuresUnfold, MeasuresDetermineRules}
-use Rattle.attribute_tables_grammar.specs.Lists.{any, Context, nothing, Grammar, first_only, is_kept, list_rule, ListForm, row_of}
+use Rattle.attribute_tables_grammar.specs.Lists.{any, Context, no_kind_in_force, Grammar, first_only, is_kept, list_rule, ListForm, row_of}
 use Rattle.attribute_tables_grammar.specs.Rules.{Rule}
-use Rattle.attribute_tables_grammar.specs.Walks.{closed, dropped, IsWalked, Measure, measure, MeasuredSoFar, none_yet, plus, with_header}
+use Rattle.attribute_tables_grammar.specs.Walks.{whole_measure, dropped, IsWalked, Measure, measure, MeasuredSoFar, none_yet, plus, with_header}
 use Rattle.link_tables.specs.Rows.{form_of}
 use Rattle.link_tables.specs.declared.rows.Form.{Form}
 use Rattle.link_tables.specs.declared.rows.Form.TheVariants.{Any, OfKindOne, FirstOnly}
-use Rattle.link_message_grammar.specs.Body.{body_rule, family, list_rule_of}
+use Rattle.link_message_grammar.specs.Body.{body_rule, family, attributes_rule}
 use Rattle.link_capture_lists.specs.declared.tables.Inside.{Inside}
 use Rattle.link_capture_lists.specs.declared.tables.Inside.TheVariants as I
 use Rattle.link_tables.specs.declared.table.Table.{Table}
@@ -51,7 +51,7 @@ refused r p h = sym (ap (λ b. cond b (Some (record { size = length (r.canonical
 
 module _ (law : ListsUnfoldByAttributes) (w : FirstIsWithin) (steps : MeasuresUnfold) (determines : MeasuresDetermineRules) (rows : RowsAreTheTables) where
   done : (form : ListForm) (g : Grammar) (bytes : List ℕ) (c : Context) (m : Measure) → IsWalked form bytes → MeasuredSoFar form g bytes m c [] → (list_rule form g).accepted bytes ≡ true
-  done form g bytes c m k s = (determines.determines (list_rule form g) bytes (closed form m) (steps.done form g bytes [] c m k refl s)).accepted
+  done form g bytes c m k s = (determines.determines (list_rule form g) bytes (whole_measure form m) (steps.done form g bytes [] c m k refl s)).accepted
 
   ended : (judged : Bool) (f : Form) (t : Table) (c : Context) (offset : ℕ) (bytes : List ℕ) (m : Measure) → IsWalked (form_of f) bytes → MeasuredSoFar (form_of f) (grammar_at judged t) bytes m c [] →
       (list_rule (form_of f) (grammar_at judged t)).accepted bytes ≡ is_none (list_refusal (record { table = list_table f t; context = c; judged = judged }) offset [])
@@ -68,12 +68,12 @@ module _ (law : ListsUnfoldByAttributes) (w : FirstIsWithin) (steps : MeasuresUn
   module _ (n : ℕ) (k : Known n) where
     listed : (judged : Bool) (f : Form) (t : Table) (attribute_offset : ℕ) (p : List ℕ) → length p ≤ n → (list_rule (form_of f) (grammar_at judged t)).accepted p ≡ is_none (whole_refusal list_refusal (whole f t judged) attribute_offset p)
     unfolding first_attribute
-    listed judged Any t attribute_offset [] h = done any (grammar_at judged t) [] nothing none_yet tt (steps.start any (grammar_at judged t) [])
-    listed judged OfKindOne t attribute_offset [] h = done (form_of OfKindOne) (grammar_at judged t) [] nothing none_yet tt (steps.start (form_of OfKindOne) (grammar_at judged t) [])
+    listed judged Any t attribute_offset [] h = done any (grammar_at judged t) [] no_kind_in_force none_yet tt (steps.start any (grammar_at judged t) [])
+    listed judged OfKindOne t attribute_offset [] h = done (form_of OfKindOne) (grammar_at judged t) [] no_kind_in_force none_yet tt (steps.start (form_of OfKindOne) (grammar_at judged t) [])
     listed judged FirstOnly t attribute_offset [] h = determines.rejects (list_rule first_only (grammar_at judged t)) [] (determines.first_none (grammar_at judged t) [] refl)
     listed judged f t attribute_offset [] h = determines.rejects (list_rule (form_of f) (grammar_at judged t)) [] (determines.no_bytes (form_of f) (grammar_at judged t) [] refl tt)
     listed judged FirstOnly t attribute_offset (b ∷ p) h = k.first judged t (attribute_offset + 4) b p h
-    listed judged f t attribute_offset (b ∷ p) h = k.walked judged f t nothing (attribute_offset + 4) (b ∷ p) (b ∷ p) none_yet (search (rules, arith)) h (steps.start (form_of f) (grammar_at judged t) (b ∷ p))
+    listed judged f t attribute_offset (b ∷ p) h = k.walked judged f t no_kind_in_force (attribute_offset + 4) (b ∷ p) (b ∷ p) none_yet (search (rules, arith)) h (steps.start (form_of f) (grammar_at judged t) (b ∷ p))
 
     inside_some : (judged : Bool) (i : Inside) (attribute_offset : ℕ) (p : List ℕ) → length p ≤ n → (row_rule judged (Some ([], i))).accepted p ≡ false → is_none (inside_refusal list_refusal judged i attribute_offset p) ≡ false
     inside_some judged (I.Value s) attribute_offset p l h = refl
@@ -147,22 +147,22 @@ module _ (law : ListsUnfoldByAttributes) (w : FirstIsWithin) (steps : MeasuresUn
       walked_suc f c offset bytes (b ∷ rest) m v l x = walked_next f c offset bytes b rest m v l x (first_attribute (b ∷ rest)) refl ∙ sym (ap is_none (law.next (at f c) offset b rest))
 
       -- a list of which only the first attribute is kept
-      first_more : (offset : ℕ) (bytes : List ℕ) (e : Attribute) (after : List ℕ) → first_attribute bytes ≡ Some (e, after) → length bytes ≤ suc n → (a : Bool) → (here nothing e).accepted e.payload ≡ a →
+      first_more : (offset : ℕ) (bytes : List ℕ) (e : Attribute) (after : List ℕ) → first_attribute bytes ≡ Some (e, after) → length bytes ≤ suc n → (a : Bool) → (here no_kind_in_force e).accepted e.payload ≡ a →
           (list_rule first_only g).accepted bytes ≡ is_none (or_else (attribute_refusal list_refusal (whole FirstOnly t judged) offset e) (list_refusal (following (whole FirstOnly t judged) e) (offset + nla_align (attribute_length e)) []))
       first_more offset bytes e after h l true j =
           let next = offset + nla_align (attribute_length e) in
-          (determines.determines (list_rule first_only g) bytes (with_header (measure_of (here nothing e) e.payload)) (determines.first_some g bytes e after (Some (measure_of (here nothing e) e.payload)) h (measured (here nothing e) e.payload j))).accepted
+          (determines.determines (list_rule first_only g) bytes (with_header (measure_of (here no_kind_in_force e) e.payload)) (determines.first_some g bytes e after (Some (measure_of (here no_kind_in_force e) e.payload)) h (measured (here no_kind_in_force e) e.payload j))).accepted
           ∙ ap is_none (sym (law.none (following (whole FirstOnly t judged) e) next))
-          ∙ ap is_none (sym (nothing_here FirstOnly nothing offset e (list_refusal (following (whole FirstOnly t judged) e) next []) j))
+          ∙ ap is_none (sym (nothing_here FirstOnly no_kind_in_force offset e (list_refusal (following (whole FirstOnly t judged) e) next []) j))
       first_more offset bytes e after h l false j =
           let p = w.within bytes e after h in
-          determines.rejects (list_rule first_only g) bytes (determines.first_some g bytes e after None h (refused (here nothing e) e.payload j))
+          determines.rejects (list_rule first_only g) bytes (determines.first_some g bytes e after None h (refused (here no_kind_in_force e) e.payload j))
           ∙ sym (none_before _ _ (attribute_some (whole FirstOnly t judged) offset e (omega (arith, p, l)) j))
 
       first_next : (offset b : ℕ) (bytes : List ℕ) → length (b ∷ bytes) ≤ suc n → (o : Option (Attribute × List ℕ)) → first_attribute (b ∷ bytes) ≡ o →
           (list_rule first_only g).accepted (b ∷ bytes) ≡ is_none (next_refusal list_refusal (whole FirstOnly t judged) offset (b ∷ bytes) o)
       first_next offset b bytes l None h = determines.rejects (list_rule first_only g) (b ∷ bytes) (determines.first_none g (b ∷ bytes) h)
-      first_next offset b bytes l (Some x) h = first_more offset (b ∷ bytes) x.0 x.1 h l ((here nothing x.0).accepted x.0.payload) refl
+      first_next offset b bytes l (Some x) h = first_more offset (b ∷ bytes) x.0 x.1 h l ((here no_kind_in_force x.0).accepted x.0.payload) refl
 
       first_suc : (offset b : ℕ) (bytes : List ℕ) → length (b ∷ bytes) ≤ suc n → (list_rule first_only g).accepted (b ∷ bytes) ≡ is_none (list_refusal (whole FirstOnly t judged) offset (b ∷ bytes))
       first_suc offset b bytes l = first_next offset b bytes l (first_attribute (b ∷ bytes)) refl ∙ sym (ap is_none (law.next (whole FirstOnly t judged) offset b bytes))
@@ -185,15 +185,15 @@ module _ (law : ListsUnfoldByAttributes) (w : FirstIsWithin) (steps : MeasuresUn
 
   module _ (tables : LinksAreTables) where
     any_list : (judged : Bool) (t : Table) (offset : ℕ) (p : List ℕ) → (list_rule any (grammar_at judged t)).accepted p ≡ is_none (list_refusal (whole Any t judged) offset p)
-    any_list judged t offset p = (known (length p)).walked judged Any t nothing offset p p none_yet tt (omega arith) (steps.start any (grammar_at judged t) p)
+    any_list judged t offset p = (known (length p)).walked judged Any t no_kind_in_force offset p p none_yet tt (omega arith) (steps.start any (grammar_at judged t) p)
 
     link_by : (judged : Bool) (attribute_offset offset : ℕ) (b : List ℕ) (short : Bool) → nat_lt (length b) 16 ≡ short →
-        nat_le 16 (length b) && (list_rule_of (peer_of judged) (family b)).accepted (drop 16 b) ≡ is_none (link_refusal list_refusal judged attribute_offset offset b)
+        nat_le 16 (length b) && (attributes_rule (peer_of judged) (family b)).accepted (drop 16 b) ≡ is_none (link_refusal list_refusal judged attribute_offset offset b)
     link_by judged attribute_offset offset b true h =
-        ap (λ x. x && (list_rule_of (peer_of judged) (family b)).accepted (drop 16 b)) (lt-leb 16 (length b) (ltb-true (length b) 16 h))
+        ap (λ x. x && (attributes_rule (peer_of judged) (family b)).accepted (drop 16 b)) (lt-leb 16 (length b) (ltb-true (length b) 16 h))
         ∙ ap (λ x. is_none (cond x (Some (found_at attribute_offset (R.CutLink (length b)))) (list_refusal (whole Any (family_table (slice_index b 0)) judged) (offset + 16) (drop 16 b)))) (sym h)
     link_by judged attribute_offset offset b false h =
-        ap (λ x. x && (list_rule_of (peer_of judged) (family b)).accepted (drop 16 b)) (le-leb 16 (length b) (ltb-false (length b) 16 h))
+        ap (λ x. x && (attributes_rule (peer_of judged) (family b)).accepted (drop 16 b)) (le-leb 16 (length b) (ltb-false (length b) 16 h))
         ∙ ap (λ r. r.accepted (drop 16 b)) (tables judged (slice_index b 0))
         ∙ any_list judged (family_table (slice_index b 0)) (offset + 16) (drop 16 b)
         ∙ ap (λ x. is_none (cond x (Some (found_at attribute_offset (R.CutLink (length b)))) (list_refusal (whole Any (family_table (slice_index b 0)) judged) (offset + 16) (drop 16 b)))) (sym h)

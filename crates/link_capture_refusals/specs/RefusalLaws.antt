@@ -2,11 +2,11 @@
 use Rattle.std.specs.Prelude.{◌≡◌, ℕ, ◌+◌, ◌≤◌, Bool, cond, List, [], ◌∷◌, ◌++◌, drop, is_none, IsSome, Option, Some}
 use Rattle.std.specs.Prelude.{None}
 use Rattle.netlink_packet_core_grammar.specs.Attributes.{first_attribute}
-use Rattle.netlink_packet_core_grammar.specs.Frames.{IsFrame, frame_length, frame_type}
+use Rattle.netlink_packet_core_grammar.specs.Frames.{BeginsWithFrame, frame_length, frame_type}
 use Rattle.attribute_tables_grammar.specs.Lists.{list_rule}
 use Rattle.link_tables.specs.Rows.{form_of}
 use Rattle.link_tables.specs.declared.rows.Form.{Form}
-use Rattle.link_message_grammar.specs.Body.{body_rule}
+use Rattle.link_message_grammar.specs.Body.{body_rule, link_body}
 use Rattle.link_capture_grammar.specs.Captures.{first_fault}
 use Rattle.link_capture_grammar.specs.Bodies.{is_link_type}
 use Rattle.link_capture_grammar.specs.declared.fault.FaultKind.TheVariants.{Refused}
@@ -36,7 +36,7 @@ ListsAreAccepted = (judged : Bool) (f : Form) (t : Table) (attribute_offset : �
 -- If the first fault of a capture is a refused body, the frame at its offset is whole.
 abbrev pub RefusedFramesAreWhole : Type 0
 RefusedFramesAreWhole = (limit offset : ℕ) (c : List ℕ) →
-    first_fault limit c ≡ Some (record { kind = Refused; offset = offset }) → IsFrame (drop offset c)
+    first_fault link_body limit c ≡ Some (record { kind = Refused; offset = offset }) → BeginsWithFrame (drop offset c)
 
 -- There is an offset, and it is from low to high, both included.
 abbrev pub IsBetween : ℕ → ℕ → Option ℕ → Type 0
@@ -52,12 +52,12 @@ IsInFrame offset c f =
 -- A capture has a refusal if and only if its first fault is a refused body; the refusal is in that frame.
 pub record RefusedBodiesHaveRefusals : Type 0 where
   pub refused_body_has_refusal : (limit offset : ℕ) (c : List ℕ) →
-      first_fault limit c ≡ Some (record { kind = Refused; offset = offset }) → IsSome (refusal limit c)
+      first_fault link_body limit c ≡ Some (record { kind = Refused; offset = offset }) → IsSome (refusal limit c)
   pub offset_in_frame : (limit : ℕ) (c : List ℕ) (f : Found) → refusal limit c ≡ Some f →
-      (offset : ℕ) × (first_fault limit c ≡ Some (record { kind = Refused; offset = offset })) ×
+      (offset : ℕ) × (first_fault link_body limit c ≡ Some (record { kind = Refused; offset = offset })) ×
       IsInFrame offset (drop offset c) f
 
 -- The refusal of a frame depends only on the frame's bytes.
 abbrev pub RefusalsAreIndependent : Type 0
-RefusalsAreIndependent = (offset : ℕ) (c d : List ℕ) → IsFrame c →
+RefusalsAreIndependent = (offset : ℕ) (c d : List ℕ) → BeginsWithFrame c →
     frame_refusal offset (c ++ d) ≡ frame_refusal offset c

@@ -9,7 +9,7 @@ use Rattle.netlink_packet_core_grammar.specs.Numbers.{u16_at}
 use Rattle.attribute_tables_grammar.specs.Peers.{bytes_peer}
 use Rattle.link_tables.specs.declared.rows.Form.{Form}
 use Rattle.link_tables.specs.declared.rows.Form.TheVariants.{Any, NonEmpty, OfKindOne, Ports, FirstOnly}
-use Rattle.link_message_grammar.specs.Body.{body_rule}
+use Rattle.link_message_grammar.specs.Body.{body_rule, link_body}
 use Rattle.link_capture_grammar.specs.Bodies.{is_link_type}
 use Rattle.link_capture_grammar.specs.Captures.{first_fault}
 use Rattle.link_capture_grammar.specs.declared.fault.CaptureFault.{CaptureFault}
@@ -139,4 +139,4 @@ first_fault_refusal c (Some fault) = fault_refusal c fault.offset fault.kind
 
 -- The refusal of a capture, if its first fault is a refused body.
 abbrev pub refusal : ℕ → List ℕ → Option Found
-refusal limit c = first_fault_refusal c (first_fault limit c)
+refusal limit c = first_fault_refusal c (first_fault link_body limit c)

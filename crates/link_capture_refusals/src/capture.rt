@@ -1,7 +1,7 @@
 //! Why the body of a capture's first faulty frame is refused.
 
 ghost use Rattle.std.specs.Prelude.{◌≡◌, ◌<◌, ◌+◌, ◌^◌, length};
-ghost use Rattle.netlink_packet_core.specs.Frames.{IsFrame};
+ghost use Rattle.netlink_packet_core.specs.Frames.{BeginsWithFrame};
 ghost use Rattle.link_capture_refusals.specs.Refusals.{frame_refusal, refusal};
 ghost use Rattle.link_capture_refusals.specs.RefusalViews.{all_found};
 
@@ -22,7 +22,7 @@ use netlink_packet_core::{NETLINK_HEADER_LEN, NetlinkBuffer};
 /// (`refusals_are_independent`). Allocates nothing.
 #[tactic(auto, unfolding(crate::specs::Refusals::frame_refusal))]
 pub fn why_frame(frame: &[u8], offset: u64) -> Option<Refusal>
-    requires frame { IsFrame frame.now }
+    requires frame { BeginsWithFrame frame.now }
     requires near { offset + length frame.now < 2 ^ 63 }
     ensures { all_found result ≡ frame_refusal offset frame.now }
 {

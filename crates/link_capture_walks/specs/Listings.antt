@@ -1,6 +1,6 @@
 -- Lists of attributes, from some attribute on.
 use Rattle.std.specs.Prelude.{ℕ, Bool, List}
-use Rattle.attribute_tables_grammar.specs.Lists.{Context, nothing}
+use Rattle.attribute_tables_grammar.specs.Lists.{Context, no_kind_in_force}
 use Rattle.attribute_tables_grammar.specs.Tables.{info_next}
 use Rattle.link_tables.specs.InForce.{in_force}
 use Rattle.link_capture_walks.specs.declared.listed.Listed.{Listed}
@@ -18,7 +18,7 @@ listing l = record { table = l.table; context = in_force l.force; judged = l.jud
 
 -- A list from its first attribute on.
 abbrev pub whole : {T : Type 0} → T → Bool → Listing T
-whole t judged = record { table = t; context = nothing; judged = judged }
+whole t judged = record { table = t; context = no_kind_in_force; judged = judged }
 
 -- The rest of a list of link info after an attribute, whose kind has no flag bits: other kinds may be in force there.
 abbrev pub after_info : {T : Type 0} → Listing T → ℕ → List ℕ → Listing T

@@ -3,10 +3,10 @@ use Rattle.std.specs.Prelude.{◌≡◌, ℕ, Bool, true, false, ⊤, List, Opti
 use Rattle.std.specs.Borrow.{Bor}
 use Rattle.netlink_packet_core.specs.Attributes.{Attribute, proper_kind}
 use Rattle.netlink_packet_core.specs.AttributeViews.{viewed_attribute, viewed_kind, viewed_payload}
-use Rattle.attribute_tables_grammar.specs.Lists.{Context, Row, rewrite}
-use Rattle.attribute_tables_grammar.specs.Peers.{Peer}
+use Rattle.attribute_tables_grammar.specs.Lists.{Context, Row, canonical_form}
+use Rattle.attribute_tables_grammar.specs.Peers.{RuleOfPeers, bytes_peer}
 use Rattle.attribute_tables_grammar.specs.Tables.{info_next}
-use Rattle.link_info_grammar.specs.LinkInfo.{link_info_row, link_info_row_under}
+use Rattle.link_info_grammar.specs.LinkInfo.{link_info_row}
 use Rattle.link_info_kinds.specs.Kinds.{info_kind_entry, info_kind_is_named, IsNamedBy}
 use Rattle.link_info_kinds.specs.PortKinds.{info_port_kind_entry, info_port_kind_is_named, IsPortNamedBy}
 use Rattle.link_info_kinds.specs.declared.info_kind.InfoKind.{InfoKind}
@@ -51,20 +51,20 @@ in_force f = context_of f.kind f.port_kind
 -- ---- the attribute at the start of the bytes, under a rule of peers and in a context
 
 -- The row of the first attribute.
-abbrev pub row_in : Peer → Context → List ℕ → Row
-row_in p c b = link_info_row_under p c (proper_kind (viewed_kind b))
+abbrev pub row_in : RuleOfPeers → Context → List ℕ → Row
+row_in p c b = link_info_row p c (proper_kind (viewed_kind b))
 
 -- The row of the first attribute accepts its payload.
-abbrev pub is_accepted_in : Peer → Context → List ℕ → Bool
+abbrev pub is_accepted_in : RuleOfPeers → Context → List ℕ → Bool
 is_accepted_in p c b = (row_in p c b).rule.accepted (viewed_payload b)
 
 -- Everything inside the first attribute fits, by its row.
-abbrev pub fits_in : Peer → Context → List ℕ → Bool
+abbrev pub fits_in : RuleOfPeers → Context → List ℕ → Bool
 fits_in p c b = (row_in p c b).rule.fits (viewed_payload b)
 
 -- The canonical form of the first attribute.
-abbrev pub written_in : Peer → Context → List ℕ → Attribute
-written_in p c b = rewrite (row_in p c b) (viewed_attribute b)
+abbrev pub written_in : RuleOfPeers → Context → List ℕ → Attribute
+written_in p c b = canonical_form (row_in p c b) (viewed_attribute b)
 
 -- The context after the first attribute.
 abbrev pub context_after_first : Context → List ℕ → Context
@@ -89,4 +89,4 @@ link_info_is_row_variant c (Info.Kind k) = info_kind_is_named k ≡ true
 link_info_is_row_variant c (Info.Data d) = data_is_row_variant c.kind d
 link_info_is_row_variant c (Info.PortKind k) = info_port_kind_is_named k ≡ true
 link_info_is_row_variant c (Info.PortData d) = port_data_is_row_variant c.port_kind d
-link_info_is_row_variant c (Info.Other a) = (link_info_row c (proper_kind a.kind)).is_typed ≡ false
+link_info_is_row_variant c (Info.Other a) = (link_info_row bytes_peer c (proper_kind a.kind)).is_typed ≡ false

@@ -3,13 +3,12 @@
 //! read under the latest port kind, which is then no longer in force.
 
 ghost use Rattle.std.specs.Prelude.{◌≡◌, ◌<◌, false, true, length, Some, IfOk, IfErr};
-ghost use Rattle.netlink_packet_core.specs.AttributeViews.{IsAttribute};
+ghost use Rattle.netlink_packet_core.specs.AttributeViews.{BeginsWithAttribute};
 ghost use Rattle.netlink_packet_core.specs.NlaBuffers.{storage};
-ghost use Rattle.attribute_tables_grammar.specs.Lists.{any, nothing};
-ghost use Rattle.attribute_tables_grammar.specs.Peers.{Peer};
-ghost use Rattle.attribute_tables_grammar.specs.Readings.{reading_as, all_named};
-ghost use Rattle.link_info_grammar.specs.LinkInfo.{data_rule_under, port_data_rule, info_grammar, info_rule};
-ghost use Rattle.link_info_grammar.specs.LinkInfo.{info_grammar_under, info_rule_under};
+ghost use Rattle.attribute_tables_grammar.specs.Lists.{any, no_kind_in_force};
+ghost use Rattle.attribute_tables_grammar.specs.Peers.{RuleOfPeers, bytes_peer};
+ghost use Rattle.attribute_tables_grammar.specs.Readings.{reading_as, AreRowVariants};
+ghost use Rattle.link_info_grammar.specs.LinkInfo.{data_rule, port_data_rule, info_grammar, info_rule};
 ghost use Rattle.link_info_data.specs.Data.{info_data_fits, info_data_payload};
 ghost use Rattle.link_info_data.specs.PortData.{info_port_data_fits, info_port_data_payload};
 ghost use Rattle.link_info.specs.LinkInfo.{data_is_row_variant, port_data_is_row_variant};
@@ -108,11 +107,11 @@ fn next_in_force<'a>(
     force: NamesInForce<'a>,
     buf: &NlaBuffer<&'a [u8]>,
 ) -> Result<NamesInForce<'a>, DecodeError>
-    requires { IsAttribute (storage buf.now).now }
+    requires { BeginsWithAttribute (storage buf.now).now }
     ensures next { IfOk result
         (λ f. in_force f ≡ context_after_first (in_force force.entry) (storage buf.now).now) }
     ensures err { IfErr result
-        (λ _. (p : Peer)
+        (λ _. (p : RuleOfPeers)
         → is_accepted_in p (in_force force.entry) (storage buf.now).now ≡ false) }
 {
     match buf.kind() {
@@ -139,9 +138,9 @@ fn parse_data<R: PeerRule>(
     payload: &[u8],
     rule: &R,
 ) -> Result<InfoData, DecodeError>
-    ensures judged { SucceedsIf result ((data_rule_under R.peer name.now).accepted payload.now) }
+    ensures judged { SucceedsIf result ((data_rule R.peer name.now).accepted payload.now) }
     ensures written { IsWrittenBy result info_data_payload info_data_fits
-        (data_rule_under R.peer name.now) payload.now }
+        (data_rule R.peer name.now) payload.now }
     ensures is_row_variant { IfOk result (λ d. data_is_row_variant (Some name.now) d) }
 {
     names_determine_rules();
@@ -151,9 +150,9 @@ fn parse_data<R: PeerRule>(
 
 // Reads the data of the port kind with this name.
 fn parse_port_data(alloc: Global, name: &str, payload: &[u8]) -> Result<InfoPortData, DecodeError>
-    ensures judged { SucceedsIf result ((port_data_rule name.now).accepted payload.now) }
+    ensures judged { SucceedsIf result ((port_data_rule bytes_peer name.now).accepted payload.now) }
     ensures written { IsWrittenBy result info_port_data_payload info_port_data_fits
-        (port_data_rule name.now) payload.now }
+        (port_data_rule bytes_peer name.now) payload.now }
     ensures is_row_variant { IfOk result (λ d. port_data_is_row_variant (Some name.now) d) }
 {
     port_names_determine_rules();
@@ -169,7 +168,7 @@ impl LinkInfo {
         buf: &NlaBuffer<&[u8]>,
         rule: &R,
     ) -> Result<LinkInfo, DecodeError>
-        requires { IsAttribute (storage buf.now).now }
+        requires { BeginsWithAttribute (storage buf.now).now }
         ensures judged { SucceedsIf result
             (is_accepted_in R.peer (in_force force.entry) (storage buf.now).now) }
         ensures value { IfOk result
@@ -211,13 +210,13 @@ impl LinkInfo {
         bytes: &[u8],
         rule: &R,
     ) -> Result<Vec<LinkInfo>, DecodeError>
-        ensures judged { SucceedsIf result ((info_rule_under R.peer).accepted bytes.now) }
+        ensures judged { SucceedsIf result ((info_rule R.peer).accepted bytes.now) }
         ensures read { ListIsReadAs result link_info_entry link_info_fits
-            (reading_as any (info_grammar_under R.peer) bytes.now) }
+            (reading_as any (info_grammar R.peer) bytes.now) }
         ensures written { ListIsWrittenBy result link_info_entry link_info_fits
-            (info_rule_under R.peer) bytes.now }
+            (info_rule R.peer) bytes.now }
         ensures is_row_variant { IfOk result
-            (λ v. all_named (info_grammar_under R.peer) link_info_entry link_info_is_row_variant nothing v.items) }
+            (λ v. AreRowVariants (info_grammar R.peer) link_info_entry link_info_is_row_variant no_kind_in_force v.items) }
         ensures not_empty { IfErr result (λ _. 0 < length bytes.now) }
     {
         readings_unfold();
@@ -248,12 +247,12 @@ impl LinkInfo {
     /// and only if it isn't. If an allocation fails, the rest of the list is checked without
     /// allocating.
     pub fn parse_list(alloc: Global, bytes: &[u8]) -> Result<Vec<LinkInfo>, DecodeError>
-        ensures judged { IsRefusedUnless result (info_rule.accepted bytes.now) }
+        ensures judged { IsRefusedUnless result ((info_rule bytes_peer).accepted bytes.now) }
         ensures read { ListIsReadAs result link_info_entry link_info_fits
-            (reading_as any info_grammar bytes.now) }
-        ensures written { ListIsWrittenBy result link_info_entry link_info_fits info_rule bytes.now }
+            (reading_as any (info_grammar bytes_peer) bytes.now) }
+        ensures written { ListIsWrittenBy result link_info_entry link_info_fits (info_rule bytes_peer) bytes.now }
         ensures is_row_variant { IfOk result
-            (λ v. all_named info_grammar link_info_entry link_info_is_row_variant nothing v.items) }
+            (λ v. AreRowVariants (info_grammar bytes_peer) link_info_entry link_info_is_row_variant no_kind_in_force v.items) }
         ensures not_empty { IfErr result (λ _. 0 < length bytes.now) }
     {
         Self::parse_list_with(alloc, bytes, &BytesPeer)
@@ -273,13 +272,13 @@ impl LinkInfo {
         bytes: &[u8],
         rule: &R,
     ) -> Result<Vec<LinkInfo>, DecodeError>
-        ensures judged { IsRefusedUnless result ((info_rule_under R.peer).accepted bytes.now) }
+        ensures judged { IsRefusedUnless result ((info_rule R.peer).accepted bytes.now) }
         ensures read { ListIsReadAs result link_info_entry link_info_fits
-            (reading_as any (info_grammar_under R.peer) bytes.now) }
+            (reading_as any (info_grammar R.peer) bytes.now) }
         ensures written { ListIsWrittenBy result link_info_entry link_info_fits
-            (info_rule_under R.peer) bytes.now }
+            (info_rule R.peer) bytes.now }
         ensures is_row_variant { IfOk result
-            (λ v. all_named (info_grammar_under R.peer) link_info_entry link_info_is_row_variant nothing v.items) }
+            (λ v. AreRowVariants (info_grammar R.peer) link_info_entry link_info_is_row_variant no_kind_in_force v.items) }
         ensures not_empty { IfErr result (λ _. 0 < length bytes.now) }
     {
         match Self::read_list(alloc, bytes, rule) {

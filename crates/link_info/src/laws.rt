@@ -3,7 +3,7 @@
 ghost use Rattle.link_info.specs.Laws.{LinkInfoIsLawful, KindsAreTheNames};
 
 pub use attribute_tables_grammar::laws::{
-    canonical_lists_are_cut, old_texts_are_migrated, peers_that_are_bytes_are_lawful,
+    canonical_lists_are_split, old_texts_are_migrated, peers_that_are_bytes_are_lawful,
     rules_without_peers_are_one, same_lists_leave_one_context, short_texts_fit, tables_are_lawful,
     texts_determine_meanings, texts_keep_meanings,
 };

@@ -4,10 +4,10 @@ use Rattle.std.specs.Prelude.{bytes_eq}
 use Rattle.std.proofs.lemmas.Bool.{and_parts}
 use Rattle.attribute_tables_grammar.specs.Laws.{NamesAreLookedUp, RulesWithoutPeersAreOne}
 use Rattle.attribute_tables_grammar.specs.LookUps.{payload_at, rule_or_raw}
-use Rattle.attribute_tables_grammar.specs.Peers.{Peer}
+use Rattle.attribute_tables_grammar.specs.Peers.{RuleOfPeers}
 use Rattle.attribute_tables_grammar.specs.Tables.{Payload, Names, Names.others, Names.name, holds_no_peers, names_hold_no_peers}
 use Rattle.link_info_grammar.specs.Families.{port_kinds}
-use Rattle.link_info_grammar.specs.LinkInfo.{port_data_rule_under}
+use Rattle.link_info_grammar.specs.LinkInfo.{port_data_rule}
 use Rattle.link_info_kinds.specs.declared.info_kind.InfoKind.{InfoKind}
 use Rattle.link_info_kinds.specs.declared.info_kind.InfoKind.TheVariants as Kind
 use Rattle.link_info_data.specs.Data.{data_payload_of, has_peers}
@@ -42,7 +42,7 @@ of_name (name m s ns) h n =
     picked (bytes_eq n m) s (payload_at ns n) parts.0 (of_name ns parts.1 n)
 
 module _ (one : RulesWithoutPeersAreOne) where
-  one_rule : (p q : Peer) (o : Option Payload) → none_held o ≡ true → rule_or_raw p o ≡ rule_or_raw q o
+  one_rule : (p q : RuleOfPeers) (o : Option Payload) → none_held o ≡ true → rule_or_raw p o ≡ rule_or_raw q o
   one_rule p q None h = refl
   one_rule p q (Some s) h = one.payloads p q s h
 
@@ -50,5 +50,5 @@ module _ (one : RulesWithoutPeersAreOne) where
   data_without_peers p q k h = one_rule p q (data_payload_of k) (of_kind k h)
 
   pub port_data : NamesAreLookedUp → PortDataHaveOneRule
-  unfolding port_data_rule_under
+  unfolding port_data_rule
   port_data names p q n = names p port_kinds n ∙ one_rule p q (payload_at port_kinds n) (of_name port_kinds refl n) ∙ sym (names q port_kinds n)

@@ -6,7 +6,7 @@ use Rattle.netlink_packet_core.specs.Attributes.{Attribute, attribute_text}
 use Rattle.netlink_packet_core.specs.Fits.{attribute_fits}
 use Rattle.netlink_packet_core.specs.Lists.{text_by, all_fit_by}
 use Rattle.attribute_tables_grammar.specs.LookUps.{payload_at, rule_or_raw}
-use Rattle.attribute_tables_grammar.specs.Peers.{Peer, bytes_peer}
+use Rattle.attribute_tables_grammar.specs.Peers.{RuleOfPeers, bytes_peer}
 use Rattle.attribute_tables_grammar.specs.Rules.{Rule}
 use Rattle.attribute_tables_grammar.specs.Tables.{Payload}
 use Rattle.link_info_grammar.specs.Families.{kinds}
@@ -43,7 +43,7 @@ data_payload_of (Kind.Other s) = None
 data_payload_of k = payload_at kinds (info_kind_text k)
 
 -- The rule of the data of a kind; data of a kind without a table are kept as bytes.
-abbrev pub data_rule_of_under : Peer → InfoKind → Rule
+abbrev pub data_rule_of_under : RuleOfPeers → InfoKind → Rule
 data_rule_of_under p k = rule_or_raw p (data_payload_of k)
 
 -- The rule of the data of a kind, with peers as bytes.

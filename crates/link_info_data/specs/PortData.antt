@@ -4,7 +4,7 @@ use Rattle.std.specs.List.{All}
 use Rattle.netlink_packet_core.specs.Attributes.{Attribute}
 use Rattle.netlink_packet_core.specs.Lists.{text_by, all_fit_by}
 use Rattle.attribute_tables_grammar.specs.LookUps.{payload_at, rule_or_raw}
-use Rattle.attribute_tables_grammar.specs.Peers.{Peer, bytes_peer}
+use Rattle.attribute_tables_grammar.specs.Peers.{RuleOfPeers, bytes_peer}
 use Rattle.attribute_tables_grammar.specs.Rules.{Rule}
 use Rattle.attribute_tables_grammar.specs.Tables.{Payload}
 use Rattle.link_info_grammar.specs.Families.{port_kinds}
@@ -22,7 +22,7 @@ port_data_payload_of (PortKind.Other s) = None
 port_data_payload_of k = payload_at port_kinds (info_port_kind_text k)
 
 -- The rule of the data of a port kind; data of a port kind without a table are kept as bytes.
-abbrev pub port_data_rule_of_under : Peer → InfoPortKind → Rule
+abbrev pub port_data_rule_of_under : RuleOfPeers → InfoPortKind → Rule
 port_data_rule_of_under p k = rule_or_raw p (port_data_payload_of k)
 
 -- The rule of the data of a port kind, with peers as bytes.

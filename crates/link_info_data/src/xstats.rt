@@ -2,7 +2,7 @@
 //! (`rtnl_link_ops.fill_xstats`).
 
 ghost use Rattle.std.specs.Prelude.{◌≡◌, ⊤, nat_lt, true, length};
-ghost use Rattle.netlink_packet_core.specs.AttributeViews.{IsAttribute, viewed_payload};
+ghost use Rattle.netlink_packet_core.specs.AttributeViews.{BeginsWithAttribute, viewed_payload};
 ghost use Rattle.netlink_packet_core.specs.NlaBuffers.{storage};
 ghost use Rattle.link_info_data.specs.Xstats.{xstats_bytes};
 
@@ -36,7 +36,7 @@ impl Emitable for LinkXstats {
 }
 
 impl<'a, 'b> ParseableParametrized<NlaBuffer<&'a [u8]>, &'b InfoKind> for LinkXstats {
-    ghost can_parse = { λ b _. IsAttribute (storage b).now };
+    ghost can_parse = { λ b _. BeginsWithAttribute (storage b).now };
 
     ghost accepts = { λ _ _. true };
 

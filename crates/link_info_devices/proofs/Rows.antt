@@ -9,8 +9,8 @@ use Rattle.netlink_packet_core.specs.Families.{attribute}
 use Rattle.netlink_packet_core.specs.Lists.{text_by, all_fit_by}
 use Rattle.netlink_packet_core.specs.Families.{family_row}
 use Rattle.attribute_tables_grammar.specs.Laws.{RowsWithoutListsFit}
-use Rattle.attribute_tables_grammar.specs.Lists.{any, row_at, rewrite}
-use Rattle.attribute_tables_grammar.specs.LookUps.{line_at, row_of_line, has_no_row, list_of}
+use Rattle.attribute_tables_grammar.specs.Lists.{any, row_at, canonical_form}
+use Rattle.attribute_tables_grammar.specs.LookUps.{line_at, row_of_line, HasNoRow, table_list_rule}
 use Rattle.attribute_tables_grammar.specs.Peers.{bytes_peer}
 use Rattle.link_info_grammar.specs.Families.{macvlan, macvlan_address}
 use Rattle.link_info_devices.specs.MacVlan.{mac_vlan_entry, mac_vlan_texts, mac_vlan_fits, mac_vlan_all_fit, mac_vlan_is_row_variant, mac_vlan_address_is_row_variant}
@@ -65,7 +65,7 @@ same-line k h = rw (ne_eqb k 5 h) refl
 pub same-row : (k : ℕ) → k ≢ 5 → family_row macvlan k ≡ family_row macvlan_address k
 same-row k h = ap (row_of_line bytes_peer) (same-line k h)
 
-pub no-row-outside : (k : ℕ) → k ≢ 5 → has_no_row macvlan_address k → has_no_row macvlan k
+pub no-row-outside : (k : ℕ) → k ≢ 5 → HasNoRow macvlan_address k → HasNoRow macvlan k
 no-row-outside k h n = same-line k h ∙ n
 
 -- the payload of an attribute in the list fits
@@ -75,7 +75,7 @@ address-fits law k bytes = law bytes_peer macvlan_address refl k bytes
 pub ruleset address_rows = (same-row, no-row-outside, address-fits)
 
 -- the canonical form of an attribute under the row of the list
-pub list-written : (e : Attribute) → proper_kind e.kind ≡ 5 → rewrite (row_at (family_row macvlan) e) e ≡ attribute 5 ((list_of bytes_peer any macvlan_address).canonical e.payload)
+pub list-written : (e : Attribute) → proper_kind e.kind ≡ 5 → canonical_form (row_at (family_row macvlan) e) e ≡ attribute 5 ((table_list_rule bytes_peer any macvlan_address).canonical e.payload)
 list-written e h = ap (λ k. record {
   kind = cond (family_row macvlan k).is_typed (k + cond (family_row macvlan k).is_nested 0x8000 0) e.kind;
   payload = (family_row macvlan k).rule.canonical e.payload;

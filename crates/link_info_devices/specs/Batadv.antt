@@ -2,7 +2,7 @@
 use Rattle.std.specs.Prelude.{[], ◌∷◌, ◌++◌, string_bytes}
 use Rattle.netlink_packet_core.specs.Attributes.{Attribute, proper_kind}
 use Rattle.link_info_grammar.specs.Families.{batadv}
-use Rattle.attribute_tables_grammar.specs.LookUps.{has_no_row}
+use Rattle.attribute_tables_grammar.specs.LookUps.{HasNoRow}
 use Rattle.netlink_packet_core.specs.Families.{attribute}
 use Rattle.link_info_devices.specs.declared.batadv.InfoBatAdv.{InfoBatAdv}
 use Rattle.link_info_devices.specs.declared.batadv.InfoBatAdv.TheVariants.{AlgoName, Other}
@@ -14,5 +14,5 @@ batadv_entry (Other a) = a
 
 -- The value is the variant of its row: an attribute whose kind has a row is no `Other`.
 abbrev pub batadv_is_row_variant : InfoBatAdv → Type 0
-batadv_is_row_variant (Other a) = has_no_row batadv (proper_kind a.kind)
+batadv_is_row_variant (Other a) = HasNoRow batadv (proper_kind a.kind)
 batadv_is_row_variant _ = Unit {0}

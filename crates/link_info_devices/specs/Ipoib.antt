@@ -4,7 +4,7 @@ use Rattle.netlink_packet_core.specs.Attributes.{Attribute, proper_kind}
 use Rattle.netlink_packet_core.specs.Numbers.{le2}
 use Rattle.link_info_types.specs.IpoibTypes.{ipoib_mode_number, ipoib_mode_of}
 use Rattle.link_info_grammar.specs.Families.{ipoib}
-use Rattle.attribute_tables_grammar.specs.LookUps.{has_no_row}
+use Rattle.attribute_tables_grammar.specs.LookUps.{HasNoRow}
 use Rattle.netlink_packet_core.specs.Families.{attribute}
 use Rattle.link_info_devices.specs.declared.ipoib.InfoIpoib.{InfoIpoib}
 use Rattle.link_info_devices.specs.declared.ipoib.InfoIpoib.TheVariants.{Pkey, Mode, UmCast, Other}
@@ -19,5 +19,5 @@ ipoib_entry (Other a) = a
 -- The value is the variant of its row: a listed mode is no `Other`, and neither is an attribute whose kind has a row.
 abbrev pub ipoib_is_row_variant : InfoIpoib → Type 0
 ipoib_is_row_variant (Mode m) = m ≡ ipoib_mode_of (ipoib_mode_number m)
-ipoib_is_row_variant (Other a) = has_no_row ipoib (proper_kind a.kind)
+ipoib_is_row_variant (Other a) = HasNoRow ipoib (proper_kind a.kind)
 ipoib_is_row_variant _ = Unit {0}

@@ -4,7 +4,7 @@ use Rattle.netlink_packet_core.specs.Attributes.{Attribute, proper_kind}
 use Rattle.netlink_packet_core.specs.Numbers.{le2}
 use Rattle.link_info_types.specs.IpVlanTypes.{ip_vlan_mode_number, ip_vlan_mode_of, ip_vlan_flags_bits}
 use Rattle.link_info_grammar.specs.Families.{ipvlan}
-use Rattle.attribute_tables_grammar.specs.LookUps.{has_no_row}
+use Rattle.attribute_tables_grammar.specs.LookUps.{HasNoRow}
 use Rattle.netlink_packet_core.specs.Families.{attribute}
 use Rattle.link_info_devices.specs.declared.ipvlan.IpVlanData.{IpVlanData}
 use Rattle.link_info_devices.specs.declared.ipvlan.IpVlanData.TheVariants as IpVlan
@@ -22,5 +22,5 @@ ipvlan_entry (IpVlan.Other a) = a
 -- The value is the variant of its row: a listed mode is no `Other`, and neither is an attribute whose kind has a row.
 abbrev pub ipvlan_is_row_variant : {n : ℕ} → IpVlanData n → Type 0
 ipvlan_is_row_variant (IpVlan.Mode m) = m ≡ ip_vlan_mode_of (ip_vlan_mode_number m)
-ipvlan_is_row_variant (IpVlan.Other a) = has_no_row ipvlan (proper_kind a.kind)
+ipvlan_is_row_variant (IpVlan.Other a) = HasNoRow ipvlan (proper_kind a.kind)
 ipvlan_is_row_variant _ = Unit {0}

@@ -8,7 +8,7 @@ use Rattle.link_info_types.specs.MacVlanTypes.{mac_vlan_mode_number, mac_vlan_mo
 use Rattle.link_info_types.specs.MacVlanTypes.{mac_vlan_mac_address_mode_number, mac_vlan_mac_address_mode_of}
 use Rattle.link_info_grammar.specs.Families.{macvlan, macvlan_address}
 use Rattle.attribute_tables_grammar.specs.Lists.{row_at}
-use Rattle.attribute_tables_grammar.specs.LookUps.{has_no_row}
+use Rattle.attribute_tables_grammar.specs.LookUps.{HasNoRow}
 use Rattle.attribute_tables_grammar.specs.Tables.{Table}
 use Rattle.attribute_tables.specs.Beginnings.{begins_accepted}
 use Rattle.netlink_packet_core.specs.AttributeViews.{viewed_attribute, viewed_kind, viewed_payload}
@@ -54,7 +54,7 @@ abbrev pub mac_vlan_named_by : Table → (List InfoMacVlan → Type 0) → InfoM
 mac_vlan_named_by t inside (Mode m) = m ≡ mac_vlan_mode_of (mac_vlan_mode_number m)
 mac_vlan_named_by t inside (MacAddrMode m) = m ≡ mac_vlan_mac_address_mode_of (mac_vlan_mac_address_mode_number m)
 mac_vlan_named_by t inside (MacAddrData' shape row) = inside (items-the_row-InfoMacVlan _ row)
-mac_vlan_named_by t inside (Other a) = has_no_row t (proper_kind a.kind)
+mac_vlan_named_by t inside (Other a) = HasNoRow t (proper_kind a.kind)
 mac_vlan_named_by t inside _ = Unit {0}
 
 -- The value is the variant of its row in the list of source addresses, in which no value is a list.

@@ -5,7 +5,7 @@ use Rattle.netlink_packet_core.specs.Numbers.{be2, le4, le8}
 use Rattle.link_info_types.specs.MacSecTypes.{mac_sec_cipher_id_number, mac_sec_cipher_id_of, mac_sec_validate_number}
 use Rattle.link_info_types.specs.MacSecTypes.{mac_sec_validate_of, mac_sec_offload_number, mac_sec_offload_of}
 use Rattle.link_info_grammar.specs.Families.{macsec}
-use Rattle.attribute_tables_grammar.specs.LookUps.{has_no_row}
+use Rattle.attribute_tables_grammar.specs.LookUps.{HasNoRow}
 use Rattle.netlink_packet_core.specs.Families.{attribute}
 use Rattle.link_info_devices.specs.declared.macsec.InfoMacSec.{InfoMacSec}
 use Rattle.link_info_devices.specs.declared.macsec.InfoMacSec.TheVariants as MacSec
@@ -33,5 +33,5 @@ abbrev pub macsec_is_row_variant : InfoMacSec → Type 0
 macsec_is_row_variant (MacSec.CipherSuite m) = m ≡ mac_sec_cipher_id_of (mac_sec_cipher_id_number m)
 macsec_is_row_variant (MacSec.Validation m) = m ≡ mac_sec_validate_of (mac_sec_validate_number m)
 macsec_is_row_variant (MacSec.Offload m) = m ≡ mac_sec_offload_of (mac_sec_offload_number m)
-macsec_is_row_variant (MacSec.Other a) = has_no_row macsec (proper_kind a.kind)
+macsec_is_row_variant (MacSec.Other a) = HasNoRow macsec (proper_kind a.kind)
 macsec_is_row_variant _ = Unit {0}

@@ -4,7 +4,7 @@ use Rattle.netlink_packet_core.specs.Attributes.{Attribute, proper_kind}
 use Rattle.netlink_packet_core.specs.Families.{attribute}
 use Rattle.netlink_packet_core.specs.Numbers.{le2, le4}
 use Rattle.netlink_packet_core.specs.Booleans.{boolean_byte}
-use Rattle.attribute_tables_grammar.specs.LookUps.{has_no_row}
+use Rattle.attribute_tables_grammar.specs.LookUps.{HasNoRow}
 use Rattle.link_info_grammar.specs.Families.{netkit}
 use Rattle.link_info_types.specs.NetkitTypes.{netkit_mode_number, netkit_mode_of, netkit_policy_number}
 use Rattle.link_info_types.specs.NetkitTypes.{netkit_policy_of, netkit_scrub_number}
@@ -30,5 +30,5 @@ abbrev pub netkit_is_row_variant : InfoNetkit → Type 0
 netkit_is_row_variant (Netkit.Policy p) = p ≡ netkit_policy_of (netkit_policy_number p)
 netkit_is_row_variant (Netkit.PeerPolicy p) = p ≡ netkit_policy_of (netkit_policy_number p)
 netkit_is_row_variant (Netkit.Mode m) = m ≡ netkit_mode_of (netkit_mode_number m)
-netkit_is_row_variant (Netkit.Other a) = has_no_row netkit (proper_kind a.kind)
+netkit_is_row_variant (Netkit.Other a) = HasNoRow netkit (proper_kind a.kind)
 netkit_is_row_variant _ = Unit {0}

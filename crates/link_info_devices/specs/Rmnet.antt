@@ -4,7 +4,7 @@ use Rattle.netlink_packet_core.specs.Attributes.{Attribute, proper_kind}
 use Rattle.netlink_packet_core.specs.Numbers.{le2, le4}
 use Rattle.link_info_types.specs.RmNetTypes.{rm_net_flags_bits}
 use Rattle.link_info_grammar.specs.Families.{rmnet}
-use Rattle.attribute_tables_grammar.specs.LookUps.{has_no_row}
+use Rattle.attribute_tables_grammar.specs.LookUps.{HasNoRow}
 use Rattle.netlink_packet_core.specs.Families.{attribute}
 use Rattle.link_info_devices.specs.declared.rmnet.InfoRmNet.{InfoRmNet}
 use Rattle.link_info_devices.specs.declared.rmnet.InfoRmNet.TheVariants.{MuxId, Flags, Other}
@@ -22,5 +22,5 @@ rmnet_entry (Other a) = a
 
 -- The value is the variant of its row: an attribute whose kind has a row is no `Other`.
 abbrev pub rmnet_is_row_variant : InfoRmNet → Type 0
-rmnet_is_row_variant (Other a) = has_no_row rmnet (proper_kind a.kind)
+rmnet_is_row_variant (Other a) = HasNoRow rmnet (proper_kind a.kind)
 rmnet_is_row_variant _ = Unit {0}

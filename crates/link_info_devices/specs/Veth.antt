@@ -2,7 +2,7 @@
 use Rattle.std.specs.Prelude.{ℕ}
 use Rattle.netlink_packet_core.specs.Attributes.{Attribute, proper_kind}
 use Rattle.netlink_packet_core.specs.Families.{attribute}
-use Rattle.attribute_tables_grammar.specs.LookUps.{has_no_row}
+use Rattle.attribute_tables_grammar.specs.LookUps.{HasNoRow}
 use Rattle.link_info_grammar.specs.Families.{pair}
 use Rattle.link_info_devices.specs.declared.veth.PairData.{PairData}
 use Rattle.link_info_devices.specs.declared.veth.PairData.TheVariants as Pair
@@ -18,5 +18,5 @@ pair_entry (Pair.Other a) = a
 
 -- The value is the variant of its row: an attribute whose kind has a row is no `Other`.
 abbrev pub pair_is_row_variant : {n : ℕ} → PairData n → Type 0
-pair_is_row_variant (Pair.Other a) = has_no_row pair (proper_kind a.kind)
+pair_is_row_variant (Pair.Other a) = HasNoRow pair (proper_kind a.kind)
 pair_is_row_variant _ = Unit {0}

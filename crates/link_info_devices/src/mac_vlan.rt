@@ -4,12 +4,12 @@
 ghost use Rattle.std.specs.Prelude.{◌≡◌, ◌≢◌, ◌<◌, length, true, false, Some, IfOk, IfErr, IfNone};
 ghost use Rattle.std.specs.List.{All};
 ghost use Rattle.netlink_packet_core.specs.Attributes.{proper_kind};
-ghost use Rattle.netlink_packet_core.specs.AttributeViews.{viewed_kind, viewed_payload, IsAttribute};
+ghost use Rattle.netlink_packet_core.specs.AttributeViews.{viewed_kind, viewed_payload, BeginsWithAttribute};
 ghost use Rattle.netlink_packet_core.specs.Errors.{is_memory};
 ghost use Rattle.netlink_packet_core.specs.Families.{Gives, accepts, attribute, family_row, may_allocate};
 ghost use Rattle.netlink_packet_core.specs.NlaBuffers.{storage};
-ghost use Rattle.attribute_tables_grammar.specs.Lists.{any, rewrite, without_context};
-ghost use Rattle.attribute_tables_grammar.specs.LookUps.{has_no_row, list_of, row_holds_bytes};
+ghost use Rattle.attribute_tables_grammar.specs.Lists.{any, canonical_form, without_context};
+ghost use Rattle.attribute_tables_grammar.specs.LookUps.{HasNoRow, table_list_rule, row_allocates};
 ghost use Rattle.attribute_tables_grammar.specs.Peers.{bytes_peer};
 ghost use Rattle.attribute_tables_grammar.specs.Readings.{reading_as};
 ghost use Rattle.attribute_tables.specs.Beginnings.{begins_accepted, begins_readable};
@@ -172,10 +172,10 @@ impl InfoMacVlan {
     fn read_row(kind: u16, payload: &[u8]) -> Result<Option<Self>, DecodeError>
         ensures judged { SucceedsExactlyIf result
             ((family_row macvlan_address kind).rule.accepted payload.now) }
-        ensures none { IfOk result (λ o. IfNone o (has_no_row macvlan_address kind)) }
+        ensures none { IfOk result (λ o. IfNone o (HasNoRow macvlan_address kind)) }
         ensures typed { IfRead result (λ _. (family_row macvlan_address kind).is_typed ≡ true) }
         ensures value { IfRead result
-            (λ v. mac_vlan_entry v ≡ rewrite (family_row macvlan_address kind)
+            (λ v. mac_vlan_entry v ≡ canonical_form (family_row macvlan_address kind)
             (attribute kind payload.now)) }
         ensures inside { IfRead result (λ v. mac_vlan_fits v ≡ true) }
         ensures is_row_variant { IfRead result (λ v. mac_vlan_is_row_variant v) }
@@ -200,7 +200,7 @@ impl InfoMacVlan {
     /// Reads a payload that holds no list: by its row, or as a raw attribute.
     #[tactic(auto, using(netlink_packet_core_attributes::proofs::Families::families, crate::proofs::Rows::address_rows))]
     fn read_address(alloc: Global, buf: &NlaBuffer<&[u8]>) -> Result<Self, DecodeError>
-        requires { IsAttribute (storage buf.now).now }
+        requires { BeginsWithAttribute (storage buf.now).now }
         ensures judged { IsRefusedUnless result (accepts macvlan_address (storage buf.now).now) }
         ensures value { IfOk result
             (λ v. Gives macvlan_address (storage buf.now).now (mac_vlan_entry v)) }
@@ -209,7 +209,7 @@ impl InfoMacVlan {
         ensures is_row_variant { IfOk result
             (λ v. proper_kind (viewed_kind (storage buf.now).now) ≢ 5 → mac_vlan_is_row_variant v) }
         ensures memory { IfMemory result
-            (row_holds_bytes macvlan_address (proper_kind (viewed_kind (storage buf.now).now)) ≡
+            (row_allocates macvlan_address (proper_kind (viewed_kind (storage buf.now).now)) ≡
             true) }
         ensures not_empty { IfMemory result (0 < length (viewed_payload (storage buf.now).now)) }
     {
@@ -245,9 +245,9 @@ impl Reader for AddressReader {
 #[tactic(auto, using(attribute_tables::proofs::Families::family_lists))]
 fn parse_addresses(alloc: Global, bytes: &[u8]) -> Result<Vec<InfoMacVlan>, DecodeError>
     ensures judged { SucceedsIf result
-        ((list_of bytes_peer any macvlan_address).accepted bytes.now) }
+        ((table_list_rule bytes_peer any macvlan_address).accepted bytes.now) }
     ensures written { ListIsWrittenBy result mac_vlan_entry mac_vlan_fits
-        (list_of bytes_peer any macvlan_address) bytes.now }
+        (table_list_rule bytes_peer any macvlan_address) bytes.now }
     ensures is_row_variant { IfOk result (λ v. All mac_vlan_address_is_row_variant v.items) }
     ensures not_empty { IfErr result (λ _. 0 < length bytes.now) }
     ensures memory { IfMemory result (begins_accepted (family_row macvlan_address) bytes.now ≡ true) }
@@ -282,7 +282,7 @@ impl Reader for MacVlanReader {
 }
 
 impl<'a> Parseable<NlaBuffer<&'a [u8]>> for InfoMacVlan {
-    ghost can_parse = { λ b. IsAttribute (storage b).now };
+    ghost can_parse = { λ b. BeginsWithAttribute (storage b).now };
 
     ghost accepts = { λ b. accepts macvlan (storage b).now };
 
@@ -302,11 +302,11 @@ impl<'a> Parseable<NlaBuffer<&'a [u8]>> for InfoMacVlan {
 /// Out of memory if an allocation fails; any other [`DecodeError`] only if the list isn't accepted.
 #[tactic(auto, using(attribute_tables::proofs::Families::family_lists))]
 pub fn parse_mac_vlan(alloc: Global, bytes: &[u8]) -> Result<Vec<InfoMacVlan>, DecodeError>
-    ensures judged { SucceedsIf result ((list_of bytes_peer any macvlan).accepted bytes.now) }
+    ensures judged { SucceedsIf result ((table_list_rule bytes_peer any macvlan).accepted bytes.now) }
     ensures read { ListIsReadAs result mac_vlan_entry mac_vlan_fits
         (reading_as any (without_context (family_row macvlan)) bytes.now) }
     ensures written { ListIsWrittenBy result mac_vlan_entry mac_vlan_fits
-        (list_of bytes_peer any macvlan) bytes.now }
+        (table_list_rule bytes_peer any macvlan) bytes.now }
     ensures is_row_variant { IfOk result (λ v. All mac_vlan_is_row_variant v.items) }
     ensures not_empty { IfErr result (λ _. 0 < length bytes.now) }
     ensures memory { IfMemory result

@@ -3,12 +3,12 @@
 ghost use Rattle.std.specs.Prelude.{◌≡◌, ◌<◌, false, true, length, refl, Some, IfOk, IfErr};
 ghost use Rattle.std.specs.List.{All};
 ghost use Rattle.netlink_packet_core.specs.Attributes.{attribute_text};
-ghost use Rattle.netlink_packet_core.specs.AttributeViews.{IsAttribute, viewed_attribute};
+ghost use Rattle.netlink_packet_core.specs.AttributeViews.{BeginsWithAttribute, viewed_attribute};
 ghost use Rattle.netlink_packet_core.specs.Families.{attribute};
 ghost use Rattle.netlink_packet_core.specs.Fits.{attribute_fits};
 ghost use Rattle.netlink_packet_core.specs.NlaBuffers.{storage};
 ghost use Rattle.attribute_tables_grammar.specs.Lists.{any, first_only, without_context};
-ghost use Rattle.attribute_tables_grammar.specs.LookUps.{line_at, list_of, table_row};
+ghost use Rattle.attribute_tables_grammar.specs.LookUps.{line_at, table_list_rule, table_row};
 ghost use Rattle.attribute_tables_grammar.specs.Readings.{reading_as};
 ghost use Rattle.attribute_tables_grammar.specs.Tables.{Payload, holds_no_peers_but};
 ghost use Rattle.attribute_tables.specs.Beginnings.{begins_accepted};
@@ -73,7 +73,7 @@ fn read_with<F: PeerFamily, R: PeerRule>(
     buf: &NlaBuffer<&[u8]>,
     rule: &R,
 ) -> Result<F, DecodeError>
-    requires { IsAttribute (storage buf.now).now }
+    requires { BeginsWithAttribute (storage buf.now).now }
     ensures judged { IsRefusedUnless result
         (is_accepted_by (table_row R.peer F.rows) (storage buf.now).now) }
     ensures written { IsRewrittenBy result F.field_entry (λ _. true)
@@ -141,10 +141,10 @@ pub fn parse_netkit_with<R: PeerRule>(
     bytes: &[u8],
     rule: &R,
 ) -> Result<Vec<InfoNetkit>, DecodeError>
-    ensures judged { SucceedsIf result ((list_of R.peer any netkit).accepted bytes.now) }
+    ensures judged { SucceedsIf result ((table_list_rule R.peer any netkit).accepted bytes.now) }
     ensures read { ListIsReadAs result netkit_entry (λ _. true)
         (reading_as any (without_context (table_row R.peer netkit)) bytes.now) }
-    ensures written { ListIsWrittenBy result netkit_entry (λ _. true) (list_of R.peer any netkit)
+    ensures written { ListIsWrittenBy result netkit_entry (λ _. true) (table_list_rule R.peer any netkit)
         bytes.now }
     ensures is_row_variant { IfOk result (λ v. All netkit_is_row_variant v.items) }
     ensures not_empty { IfErr result (λ _. 0 < length bytes.now) }
@@ -167,9 +167,9 @@ pub fn parse_pair_with<R: PeerRule, const KIND: u16>(
     bytes: &[u8],
     rule: &R,
 ) -> Result<PairData<KIND>, DecodeError>
-    ensures judged { SucceedsIf result ((list_of R.peer first_only pair).accepted bytes.now) }
+    ensures judged { SucceedsIf result ((table_list_rule R.peer first_only pair).accepted bytes.now) }
     ensures written { IsWrittenBy result (λ v. attribute_text (pair_entry v))
-        (λ v. attribute_fits (pair_entry v)) (list_of R.peer first_only pair) bytes.now }
+        (λ v. attribute_fits (pair_entry v)) (table_list_rule R.peer first_only pair) bytes.now }
     ensures is_row_variant { IfOk result (λ v. pair_is_row_variant v) }
     ensures not_empty { IfMemory result (0 < length bytes.now) }
     ensures memory { IfMemory result (begins_accepted (table_row R.peer pair) bytes.now ≡ true) }

@@ -1,30 +1,30 @@
 -- The tables pass the checks, and are lawful.
 use Rattle.std.proofs.Common.{refl}
 use Rattle.attribute_tables_grammar.specs.Lists.{any}
-use Rattle.attribute_tables_grammar.specs.LookUps.{link_info_of}
+use Rattle.attribute_tables_grammar.specs.LookUps.{link_info_rule}
 use Rattle.attribute_tables_grammar.specs.Tables.{Payload.link_info}
 use Rattle.attribute_tables_grammar.proofs.Tables.{lawful, info_lawful}
 use Rattle.link_info_grammar.specs.Families.{kinds, port_kinds, kind_names, port_kind_names}
-use Rattle.link_info_grammar.specs.LinkInfo.{info_grammar_under, info_rule_under}
-use Rattle.link_info_grammar.specs.Laws.{TablesPass, InfoIsLawful, InfoGrammarIsLawful, TablesAreListed, InfoIsAPayload, UnlistedNamesHoldBytes}
+use Rattle.link_info_grammar.specs.LinkInfo.{info_grammar, info_rule}
+use Rattle.link_info_grammar.specs.Laws.{InfoTablesAreBoundedAndAscend, InfoIsLawful, InfoGrammarIsLawful, TablesAreListed, InfoOfAnyFormIsInfoRule, UnlistedNamesHoldBytes}
 use Rattle.link_info_grammar.proofs.Names.{named-lacks, lacks_name-unlisted}
 
-pub tables_pass : TablesPass
+pub tables_pass : InfoTablesAreBoundedAndAscend
 tables_pass form = (refl, refl)
 
 pub info_is_lawful : InfoIsLawful
-unfolding info_rule_under info_grammar_under
+unfolding info_rule info_grammar
 info_is_lawful p l = lawful p l (link_info any kinds port_kinds) refl
 
 pub info_grammar_is_lawful : InfoGrammarIsLawful
-unfolding info_grammar_under
+unfolding info_grammar
 info_grammar_is_lawful p l = info_lawful p l kinds port_kinds refl refl
 
 pub tables_are_listed : TablesAreListed
 tables_are_listed = (refl, refl)
 
-pub info_is_a_payload : InfoIsAPayload
-unfolding link_info_of info_rule_under info_grammar_under
+pub info_is_a_payload : InfoOfAnyFormIsInfoRule
+unfolding link_info_rule info_rule info_grammar
 info_is_a_payload p = refl
 
 pub unlisted_names_hold_bytes : UnlistedNamesHoldBytes

@@ -4,19 +4,19 @@ use Rattle.std.specs.Prelude.{not, bytes_eq}
 use Rattle.std.proofs.lemmas.Bool.{and_parts, and_from}
 use Rattle.std.proofs.lemmas.Slice.Eq.{bytes_eq-Decides}
 use Rattle.attribute_tables_grammar.specs.Rules.{Rule, raw_rule}
-use Rattle.attribute_tables_grammar.specs.Peers.{Peer}
+use Rattle.attribute_tables_grammar.specs.Peers.{RuleOfPeers}
 use Rattle.link_info_grammar.specs.KindNames.{is_unlisted, are_listed}
-use Rattle.attribute_tables_grammar.specs.Tables.{Names, Names.others, Names.name, rule, named, lacks_name}
+use Rattle.attribute_tables_grammar.specs.Tables.{Names, Names.others, Names.name, rule, rule_of_name, lacks_name}
 
 skip : (b : Bool) (r s : Rule) → not b ≡ true → elim b as (λ x. Rule) [ true ↦ r | false ↦ s ] ≡ s
 skip true r s h = absurd cc
 skip false r s h = refl
 
-pub named-lacks : (p : Peer) (ns : Names) (n : List ℕ) → lacks_name n ns ≡ true → named p ns n ≡ raw_rule
+pub named-lacks : (p : RuleOfPeers) (ns : Names) (n : List ℕ) → lacks_name n ns ≡ true → rule_of_name p ns n ≡ raw_rule
 named-lacks p others n h = refl
 named-lacks p (name m s ns) n h =
     let b = and_parts (not (bytes_eq n m)) (lacks_name n ns) h in
-    skip (bytes_eq n m) (rule p s) (named p ns n) b.0 ∙ named-lacks p ns n b.1
+    skip (bytes_eq n m) (rule p s) (rule_of_name p ns n) b.0 ∙ named-lacks p ns n b.1
 
 other : (b u : Bool) → (b ≡ true → u ≡ true) → not u ≡ true → not b ≡ true
 other true true f h = absurd cc

@@ -2,7 +2,7 @@
 -- in a line, in the order of its header: the kind, its payload, and the kernel's name of the kind, which `tools/rows.py
 -- --check` compares with the name that linkshow prints. A kind without a row is a raw attribute.
 use Rattle.std.specs.Prelude.{ℕ, List, [], ◌∷◌, codes}
-use Rattle.attribute_tables_grammar.specs.Shapes.{Shape, exact, either, at_most, nonzero_byte, one_byte}
+use Rattle.attribute_tables_grammar.specs.Shapes.{Shape, exact, either, at_most, boolean_if_nonzero, boolean_if_one}
 use Rattle.attribute_tables_grammar.specs.Shapes.{boolean_of_four}
 use Rattle.attribute_tables_grammar.specs.Shapes.{presence, text}
 use Rattle.attribute_tables_grammar.specs.Lists.{any, first_only}
@@ -84,7 +84,7 @@ ipvlan =
 abbrev pub netkit : Table
 netkit =
     1 ↠ peer ⸴  -- IFLA_NETKIT_PEER_INFO
-    2 ↪ nonzero_byte ⸴  -- IFLA_NETKIT_PRIMARY
+    2 ↪ boolean_if_nonzero ⸴  -- IFLA_NETKIT_PRIMARY
     3 ↪ exact 4 ⸴  -- IFLA_NETKIT_POLICY
     4 ↪ exact 4 ⸴  -- IFLA_NETKIT_PEER_POLICY
     5 ↪ exact 4 ⸴  -- IFLA_NETKIT_MODE
@@ -103,34 +103,34 @@ vxlan =
     4 ↪ exact 4 ⸴  -- IFLA_VXLAN_LOCAL
     5 ↪ exact 1 ⸴  -- IFLA_VXLAN_TTL
     6 ↪ exact 1 ⸴  -- IFLA_VXLAN_TOS
-    7 ↪ nonzero_byte ⸴  -- IFLA_VXLAN_LEARNING
+    7 ↪ boolean_if_nonzero ⸴  -- IFLA_VXLAN_LEARNING
     8 ↪ exact 4 ⸴  -- IFLA_VXLAN_AGEING
     9 ↪ exact 4 ⸴  -- IFLA_VXLAN_LIMIT
     10 ↪ exact 4 ⸴  -- IFLA_VXLAN_PORT_RANGE
-    11 ↪ nonzero_byte ⸴  -- IFLA_VXLAN_PROXY
-    12 ↪ nonzero_byte ⸴  -- IFLA_VXLAN_RSC
-    13 ↪ nonzero_byte ⸴  -- IFLA_VXLAN_L2MISS
-    14 ↪ nonzero_byte ⸴  -- IFLA_VXLAN_L3MISS
+    11 ↪ boolean_if_nonzero ⸴  -- IFLA_VXLAN_PROXY
+    12 ↪ boolean_if_nonzero ⸴  -- IFLA_VXLAN_RSC
+    13 ↪ boolean_if_nonzero ⸴  -- IFLA_VXLAN_L2MISS
+    14 ↪ boolean_if_nonzero ⸴  -- IFLA_VXLAN_L3MISS
     15 ↪ exact 2 ⸴  -- IFLA_VXLAN_PORT
     16 ↪ exact 16 ⸴  -- IFLA_VXLAN_GROUP6
     17 ↪ exact 16 ⸴  -- IFLA_VXLAN_LOCAL6
-    18 ↪ nonzero_byte ⸴  -- IFLA_VXLAN_UDP_CSUM
-    19 ↪ nonzero_byte ⸴  -- IFLA_VXLAN_UDP_ZERO_CSUM6_TX
-    20 ↪ nonzero_byte ⸴  -- IFLA_VXLAN_UDP_ZERO_CSUM6_RX
-    21 ↪ nonzero_byte ⸴  -- IFLA_VXLAN_REMCSUM_TX
-    22 ↪ nonzero_byte ⸴  -- IFLA_VXLAN_REMCSUM_RX
+    18 ↪ boolean_if_nonzero ⸴  -- IFLA_VXLAN_UDP_CSUM
+    19 ↪ boolean_if_nonzero ⸴  -- IFLA_VXLAN_UDP_ZERO_CSUM6_TX
+    20 ↪ boolean_if_nonzero ⸴  -- IFLA_VXLAN_UDP_ZERO_CSUM6_RX
+    21 ↪ boolean_if_nonzero ⸴  -- IFLA_VXLAN_REMCSUM_TX
+    22 ↪ boolean_if_nonzero ⸴  -- IFLA_VXLAN_REMCSUM_RX
     23 ↪ presence ⸴  -- IFLA_VXLAN_GBP
     24 ↪ presence ⸴  -- IFLA_VXLAN_REMCSUM_NOPARTIAL
-    25 ↪ nonzero_byte ⸴  -- IFLA_VXLAN_COLLECT_METADATA
+    25 ↪ boolean_if_nonzero ⸴  -- IFLA_VXLAN_COLLECT_METADATA
     26 ↪ exact 4 ⸴  -- IFLA_VXLAN_LABEL
     27 ↪ presence ⸴  -- IFLA_VXLAN_GPE
     28 ↪ at_most 1 ⸴  -- IFLA_VXLAN_TTL_INHERIT
     29 ↪ exact 1 ⸴  -- IFLA_VXLAN_DF
-    30 ↪ nonzero_byte ⸴  -- IFLA_VXLAN_VNIFILTER
-    31 ↪ nonzero_byte ⸴  -- IFLA_VXLAN_LOCALBYPASS
+    30 ↪ boolean_if_nonzero ⸴  -- IFLA_VXLAN_VNIFILTER
+    31 ↪ boolean_if_nonzero ⸴  -- IFLA_VXLAN_LOCALBYPASS
     32 ↪ exact 4 ⸴  -- IFLA_VXLAN_LABEL_POLICY
     33 ↪ exact 8 ⸴  -- IFLA_VXLAN_RESERVED_BITS
-    34 ↪ nonzero_byte ⸴  -- IFLA_VXLAN_MC_ROUTE
+    34 ↪ boolean_if_nonzero ⸴  -- IFLA_VXLAN_MC_ROUTE
     end
 
 -- geneve: IFLA_GENEVE_*
@@ -143,11 +143,11 @@ geneve =
     5 ↪ exact 2 ⸴  -- IFLA_GENEVE_PORT
     6 ↪ presence ⸴  -- IFLA_GENEVE_COLLECT_METADATA
     7 ↪ exact 16 ⸴  -- IFLA_GENEVE_REMOTE6
-    8 ↪ nonzero_byte ⸴  -- IFLA_GENEVE_UDP_CSUM
-    9 ↪ nonzero_byte ⸴  -- IFLA_GENEVE_UDP_ZERO_CSUM6_TX
-    10 ↪ nonzero_byte ⸴  -- IFLA_GENEVE_UDP_ZERO_CSUM6_RX
+    8 ↪ boolean_if_nonzero ⸴  -- IFLA_GENEVE_UDP_CSUM
+    9 ↪ boolean_if_nonzero ⸴  -- IFLA_GENEVE_UDP_ZERO_CSUM6_TX
+    10 ↪ boolean_if_nonzero ⸴  -- IFLA_GENEVE_UDP_ZERO_CSUM6_RX
     11 ↪ exact 4 ⸴  -- IFLA_GENEVE_LABEL
-    12 ↪ nonzero_byte ⸴  -- IFLA_GENEVE_TTL_INHERIT
+    12 ↪ boolean_if_nonzero ⸴  -- IFLA_GENEVE_TTL_INHERIT
     13 ↪ exact 1 ⸴  -- IFLA_GENEVE_DF
     14 ↪ presence ⸴  -- IFLA_GENEVE_INNER_PROTO_INHERIT
     17 ↪ exact 4 ⸴  -- IFLA_GENEVE_LOCAL
@@ -170,7 +170,7 @@ gtp =
     2 ↪ exact 4 ⸴  -- IFLA_GTP_FD1
     3 ↪ exact 4 ⸴  -- IFLA_GTP_PDP_HASHSIZE
     4 ↪ exact 4 ⸴  -- IFLA_GTP_ROLE
-    5 ↪ nonzero_byte ⸴  -- IFLA_GTP_CREATE_SOCKETS
+    5 ↪ boolean_if_nonzero ⸴  -- IFLA_GTP_CREATE_SOCKETS
     6 ↪ exact 1 ⸴  -- IFLA_GTP_RESTART_COUNT
     7 ↪ exact 4 ⸴  -- IFLA_GTP_LOCAL
     8 ↪ exact 16 ⸴  -- IFLA_GTP_LOCAL6
@@ -205,7 +205,7 @@ ip_tunnel flags =
     7 ↪ exact 4 ⸴  -- IFLA_IPTUN_FLOWINFO
     8 ↪ flags ⸴  -- IFLA_IPTUN_FLAGS
     9 ↪ exact 1 ⸴  -- IFLA_IPTUN_PROTO
-    10 ↪ nonzero_byte ⸴  -- IFLA_IPTUN_PMTUDISC
+    10 ↪ boolean_if_nonzero ⸴  -- IFLA_IPTUN_PMTUDISC
     11 ↪ exact 16 ⸴  -- IFLA_IPTUN_6RD_PREFIX
     12 ↪ exact 4 ⸴  -- IFLA_IPTUN_6RD_RELAY_PREFIX
     13 ↪ exact 2 ⸴  -- IFLA_IPTUN_6RD_PREFIXLEN
@@ -218,9 +218,9 @@ ip_tunnel flags =
     20 ↪ exact 4 ⸴  -- IFLA_IPTUN_FWMARK
     end
 
--- IFLA_GRE_*, up to the kinds that depend on the outer protocol, by the size of its addresses
-abbrev pub gre_ends : ℕ → Table → Table
-gre_ends size more =
+-- IFLA_GRE_*, the kinds 1 to 9, by the size of the outer protocol's addresses
+abbrev pub gre_before_encap : ℕ → Table → Table
+gre_before_encap size more =
     1 ↪ exact 4 ⸴  -- IFLA_GRE_LINK
     2 ↪ exact 2 ⸴  -- IFLA_GRE_IFLAGS
     3 ↪ exact 2 ⸴  -- IFLA_GRE_OFLAGS
@@ -233,8 +233,8 @@ gre_ends size more =
     more
 
 -- IFLA_GRE_*, after the kinds that depend on the outer protocol
-abbrev pub gre_wrapping : Table
-gre_wrapping =
+abbrev pub gre_encap : Table
+gre_encap =
     14 ↪ exact 2 ⸴  -- IFLA_GRE_ENCAP_TYPE
     15 ↪ exact 2 ⸴  -- IFLA_GRE_ENCAP_FLAGS
     16 ↪ exact 2 ⸴  -- IFLA_GRE_ENCAP_SPORT
@@ -250,17 +250,17 @@ gre_wrapping =
 -- gre, gretap, erspan: IFLA_GRE_* over IPv4; path MTU discovery is on only for the byte 1
 abbrev pub gre : Table
 gre =
-    gre_ends 4 (
-    10 ↪ one_byte ⸴  -- IFLA_GRE_PMTUDISC
-    gre_wrapping)
+    gre_before_encap 4 (
+    10 ↪ boolean_if_one ⸴  -- IFLA_GRE_PMTUDISC
+    gre_encap)
 
 -- ip6gre, ip6gretap, ip6erspan: IFLA_GRE_* over IPv6
 abbrev pub gre6 : Table
 gre6 =
-    gre_ends 16 (
+    gre_before_encap 16 (
     11 ↪ exact 1 ⸴  -- IFLA_GRE_ENCAP_LIMIT
     12 ↪ exact 4 ⸴  -- IFLA_GRE_FLOWINFO
-    gre_wrapping)
+    gre_encap)
 
 -- vti, vti6: IFLA_VTI_*
 abbrev pub vti : Table
@@ -354,7 +354,7 @@ port_kinds =
     each_of (list any untyped) (codes "bond" ∷ codes "bridge" ∷ codes "team" ∷ [])
     (name (codes "vrf") (list any vrf) others)
 
--- The names of the listed kinds of links.
+-- The names of link kinds that have a variant of their own in `InfoKind`.
 abbrev pub kind_names : List (List ℕ)
 kind_names =
     codes "dummy" ∷ codes "ifb" ∷ codes "bridge" ∷ codes "tun" ∷ codes "nlmon" ∷ codes "vlan" ∷ codes "veth" ∷
@@ -369,6 +369,6 @@ kind_names =
     codes "erspan" ∷
     codes "ip6erspan" ∷ codes "pfcp" ∷ codes "rmnet" ∷ []
 
--- The names of the listed kinds of ports.
+-- The names of port kinds that have a variant of their own in `InfoPortKind`.
 abbrev pub port_kind_names : List (List ℕ)
 port_kind_names = codes "bond" ∷ codes "bridge" ∷ codes "vrf" ∷ codes "team" ∷ []

@@ -1,13 +1,13 @@
 //! Laws of the tables of link info. No function here makes a call.
 #![tactic(auto, using(crate::proofs::Families::laws))]
 
-ghost use Rattle.link_info_grammar.specs.Laws.{TablesPass, InfoIsLawful, InfoGrammarIsLawful, TablesAreListed};
-ghost use Rattle.link_info_grammar.specs.Laws.{InfoIsAPayload, UnlistedNamesHoldBytes};
+ghost use Rattle.link_info_grammar.specs.Laws.{InfoTablesAreBoundedAndAscend, InfoIsLawful, InfoGrammarIsLawful, TablesAreListed};
+ghost use Rattle.link_info_grammar.specs.Laws.{InfoOfAnyFormIsInfoRule, UnlistedNamesHoldBytes};
 
 /// No canonical attribute is more than 77 times as long as the attribute, kinds ascend, and no name
 /// occurs twice.
 pub fn tables_pass()
-    ensures { TablesPass }
+    ensures { InfoTablesAreBoundedAndAscend }
 {}
 
 /// Link info is lawful, under every lawful rule of peers.
@@ -27,7 +27,7 @@ pub fn tables_are_listed()
 
 /// Link info as the payload of an attribute has the rule of a list of link info.
 pub fn info_is_a_payload()
-    ensures { InfoIsAPayload }
+    ensures { InfoOfAnyFormIsInfoRule }
 {}
 
 /// Data under a name that isn't listed are raw bytes.

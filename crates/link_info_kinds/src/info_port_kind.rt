@@ -1,7 +1,7 @@
 //! The kind of a port (if_link.h, IFLA_INFO_SLAVE_KIND): the name of its master's driver.
 
 ghost use Rattle.std.specs.Prelude.{◌≡◌, ◌++◌, ◌∷◌, [], true, Some, IfOk, IfErr};
-ghost use Rattle.netlink_packet_core.specs.AttributeViews.{IsAttribute, viewed_payload};
+ghost use Rattle.netlink_packet_core.specs.AttributeViews.{BeginsWithAttribute, viewed_payload};
 ghost use Rattle.netlink_packet_core.specs.Errors.{is_memory};
 ghost use Rattle.netlink_packet_core.specs.Named.{named_by};
 ghost use Rattle.netlink_packet_core.specs.NlaBuffers.{storage};
@@ -106,7 +106,7 @@ impl FieldNla for InfoPortKind {
 }
 
 impl<'a> Parseable<NlaBuffer<&'a [u8]>> for InfoPortKind {
-    ghost can_parse = { λ b. IsAttribute (storage b).now };
+    ghost can_parse = { λ b. BeginsWithAttribute (storage b).now };
 
     ghost accepts = { λ b. info_port_kind_accepted (storage b).now };
 

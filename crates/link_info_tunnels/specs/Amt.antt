@@ -5,7 +5,7 @@ use Rattle.netlink_packet_core.specs.Attributes.{Attribute, proper_kind}
 use Rattle.netlink_packet_core.specs.Numbers.{be2, le4}
 use Rattle.link_info_types.specs.AmtTypes.{amt_mode_number, amt_mode_of}
 use Rattle.link_info_grammar.specs.Families.{amt}
-use Rattle.attribute_tables_grammar.specs.LookUps.{has_no_row}
+use Rattle.attribute_tables_grammar.specs.LookUps.{HasNoRow}
 use Rattle.netlink_packet_core.specs.Families.{attribute}
 use Rattle.link_info_tunnels.specs.declared.amt.InfoAmt.{InfoAmt}
 use Rattle.link_info_tunnels.specs.declared.amt.InfoAmt.TheVariants.{Mode, RelayPort, GatewayPort, Link, LocalIp}
@@ -29,5 +29,5 @@ amt_is_row_variant (Mode m) = m ≡ amt_mode_of (amt_mode_number m)
 amt_is_row_variant (LocalIp a) = HasAddressLength a
 amt_is_row_variant (RemoteIp a) = HasAddressLength a
 amt_is_row_variant (DiscoveryIp a) = HasAddressLength a
-amt_is_row_variant (Other a) = has_no_row amt (proper_kind a.kind)
+amt_is_row_variant (Other a) = HasNoRow amt (proper_kind a.kind)
 amt_is_row_variant _ = Unit {0}

@@ -4,7 +4,7 @@ use Rattle.netlink_packet_core.specs.Attributes.{Attribute, proper_kind}
 use Rattle.netlink_packet_core.specs.Ethernet.{ethernet_protocol_number, ethernet_protocol_of}
 use Rattle.netlink_packet_core.specs.Numbers.{be2, le2}
 use Rattle.link_info_grammar.specs.Families.{bareudp}
-use Rattle.attribute_tables_grammar.specs.LookUps.{has_no_row}
+use Rattle.attribute_tables_grammar.specs.LookUps.{HasNoRow}
 use Rattle.netlink_packet_core.specs.Families.{attribute}
 use Rattle.link_info_tunnels.specs.declared.bareudp.InfoBareUdp.{InfoBareUdp}
 use Rattle.link_info_tunnels.specs.declared.bareudp.InfoBareUdp.TheVariants.{Port, Ethertype, SrcPortMin}
@@ -22,5 +22,5 @@ bareudp_entry (Other a) = a
 -- row.
 abbrev pub bareudp_is_row_variant : InfoBareUdp → Type 0
 bareudp_is_row_variant (Ethertype p) = p ≡ ethernet_protocol_of (ethernet_protocol_number p)
-bareudp_is_row_variant (Other a) = has_no_row bareudp (proper_kind a.kind)
+bareudp_is_row_variant (Other a) = HasNoRow bareudp (proper_kind a.kind)
 bareudp_is_row_variant _ = Unit {0}

@@ -6,7 +6,7 @@ use Rattle.netlink_packet_core.specs.Numbers.{be2, be4, le4}
 use Rattle.netlink_packet_core.specs.Booleans.{boolean_byte}
 use Rattle.link_info_types.specs.GeneveTypes.{geneve_df_number, geneve_df_of}
 use Rattle.link_info_grammar.specs.Families.{geneve}
-use Rattle.attribute_tables_grammar.specs.LookUps.{has_no_row}
+use Rattle.attribute_tables_grammar.specs.LookUps.{HasNoRow}
 use Rattle.netlink_packet_core.specs.Families.{attribute}
 use Rattle.link_info_tunnels.specs.declared.geneve.InfoGeneve.{InfoGeneve}
 use Rattle.link_info_tunnels.specs.declared.geneve.InfoGeneve.TheVariants.{Id, Remote, Ttl, Tos, Port, CollectMetadata}
@@ -38,5 +38,5 @@ geneve_entry (Other a) = a
 -- row.
 abbrev pub geneve_is_row_variant : InfoGeneve → Type 0
 geneve_is_row_variant (Df d) = d ≡ geneve_df_of (geneve_df_number d)
-geneve_is_row_variant (Other a) = has_no_row geneve (proper_kind a.kind)
+geneve_is_row_variant (Other a) = HasNoRow geneve (proper_kind a.kind)
 geneve_is_row_variant _ = Unit {0}

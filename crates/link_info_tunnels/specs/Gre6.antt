@@ -6,7 +6,7 @@ use Rattle.netlink_packet_core.specs.Numbers.{be2, be4, le2, le4}
 use Rattle.link_info_types.specs.GreTypes.{gre_io_flags_bits, gre_encap_flags_bits, gre_encap_type_number}
 use Rattle.link_info_types.specs.GreTypes.{gre_encap_type_of, er_span_dir_number, er_span_dir_of}
 use Rattle.link_info_grammar.specs.Families.{gre6}
-use Rattle.attribute_tables_grammar.specs.LookUps.{has_no_row}
+use Rattle.attribute_tables_grammar.specs.LookUps.{HasNoRow}
 use Rattle.netlink_packet_core.specs.Families.{attribute}
 use Rattle.link_info_tunnels.specs.declared.gre6.InfoGre6.{InfoGre6}
 use Rattle.link_info_tunnels.specs.declared.gre6.InfoGre6.TheVariants.{Link, IFlags, OFlags, IKey, OKey, Local, Remote}
@@ -45,5 +45,5 @@ gre6_entry (Other a) = a
 abbrev pub gre6_is_row_variant : InfoGre6 → Type 0
 gre6_is_row_variant (EncapType t) = t ≡ gre_encap_type_of (gre_encap_type_number t)
 gre6_is_row_variant (ErSpanDir d) = d ≡ er_span_dir_of (er_span_dir_number d)
-gre6_is_row_variant (Other a) = has_no_row gre6 (proper_kind a.kind)
+gre6_is_row_variant (Other a) = HasNoRow gre6 (proper_kind a.kind)
 gre6_is_row_variant _ = Unit {0}

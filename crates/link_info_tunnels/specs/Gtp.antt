@@ -6,7 +6,7 @@ use Rattle.netlink_packet_core.specs.Numbers.{le4}
 use Rattle.netlink_packet_core.specs.Booleans.{boolean_byte}
 use Rattle.link_info_types.specs.GtpTypes.{gtp_role_number, gtp_role_of}
 use Rattle.link_info_grammar.specs.Families.{gtp}
-use Rattle.attribute_tables_grammar.specs.LookUps.{has_no_row}
+use Rattle.attribute_tables_grammar.specs.LookUps.{HasNoRow}
 use Rattle.netlink_packet_core.specs.Families.{attribute}
 use Rattle.link_info_tunnels.specs.declared.gtp.InfoGtp.{InfoGtp}
 use Rattle.link_info_tunnels.specs.declared.gtp.InfoGtp.TheVariants.{Fd0, Fd1, PdpHashsize, Role, CreateSockets}
@@ -27,5 +27,5 @@ gtp_entry (Other a) = a
 -- The value is the variant of its row: a listed role is no `Other`, and neither is an attribute whose kind has a row.
 abbrev pub gtp_is_row_variant : InfoGtp → Type 0
 gtp_is_row_variant (Role r) = r ≡ gtp_role_of (gtp_role_number r)
-gtp_is_row_variant (Other a) = has_no_row gtp (proper_kind a.kind)
+gtp_is_row_variant (Other a) = HasNoRow gtp (proper_kind a.kind)
 gtp_is_row_variant _ = Unit {0}

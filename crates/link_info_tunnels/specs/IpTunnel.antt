@@ -7,7 +7,7 @@ use Rattle.netlink_packet_core.specs.Families.{attribute, family_row}
 use Rattle.netlink_packet_core.specs.Numbers.{be2, be4, le2, le4}
 use Rattle.netlink_packet_core.specs.Booleans.{boolean_byte}
 use Rattle.attribute_tables_grammar.specs.Lists.{any}
-use Rattle.attribute_tables_grammar.specs.LookUps.{has_no_row, list_of}
+use Rattle.attribute_tables_grammar.specs.LookUps.{HasNoRow, table_list_rule}
 use Rattle.attribute_tables_grammar.specs.Peers.{bytes_peer}
 use Rattle.attribute_tables_grammar.specs.Rules.{Rule}
 use Rattle.attribute_tables_grammar.specs.Shapes.{Shape, exact, never}
@@ -42,7 +42,7 @@ ip_tunnel_of k = ip_tunnel (tunnel_flags k)
 
 -- The rule of a list of these data.
 abbrev pub ip_tunnel_rule : InfoKind → Rule
-ip_tunnel_rule k = list_of bytes_peer any (ip_tunnel (tunnel_flags k))
+ip_tunnel_rule k = table_list_rule bytes_peer any (ip_tunnel (tunnel_flags k))
 
 -- The first attribute of a list of these data is accepted.
 abbrev pub ip_tunnel_begins_accepted : InfoKind → List ℕ → Bool
@@ -84,5 +84,5 @@ ip_tunnel_is_row_variant k (Ipv6SitFlags n) = k ≡ Kind.SitTun
 ip_tunnel_is_row_variant k (Ipv6Flags f) = k ≡ Kind.Ip6Tnl
 ip_tunnel_is_row_variant k (Protocol p) = p ≡ ip_protocol_of (ip_protocol_number p)
 ip_tunnel_is_row_variant k (EncapType t) = t ≡ tunnel_encap_type_of (tunnel_encap_type_number t)
-ip_tunnel_is_row_variant k (Other a) = has_no_row (ip_tunnel_of k) (proper_kind a.kind)
+ip_tunnel_is_row_variant k (Other a) = HasNoRow (ip_tunnel_of k) (proper_kind a.kind)
 ip_tunnel_is_row_variant k _ = Unit {0}

@@ -3,7 +3,7 @@ use Rattle.netlink_packet_core.specs.Attributes.{Attribute, proper_kind}
 use Rattle.netlink_packet_core.specs.Numbers.{be4, le4}
 use Rattle.netlink_packet_core.specs.Addresses.{ip_octets, HasAddressLength}
 use Rattle.link_info_grammar.specs.Families.{vti}
-use Rattle.attribute_tables_grammar.specs.LookUps.{has_no_row}
+use Rattle.attribute_tables_grammar.specs.LookUps.{HasNoRow}
 use Rattle.netlink_packet_core.specs.Families.{attribute}
 use Rattle.link_info_tunnels.specs.declared.vti.InfoVti.{InfoVti}
 use Rattle.link_info_tunnels.specs.declared.vti.InfoVti.TheVariants.{Link, IKey, OKey, Local, Remote, FwMark, Other}
@@ -22,5 +22,5 @@ vti_entry (Other a) = a
 abbrev pub vti_is_row_variant : InfoVti → Type 0
 vti_is_row_variant (Local a) = HasAddressLength a
 vti_is_row_variant (Remote a) = HasAddressLength a
-vti_is_row_variant (Other a) = has_no_row vti (proper_kind a.kind)
+vti_is_row_variant (Other a) = HasNoRow vti (proper_kind a.kind)
 vti_is_row_variant _ = Unit {0}

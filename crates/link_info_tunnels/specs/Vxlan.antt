@@ -6,7 +6,7 @@ use Rattle.netlink_packet_core.specs.Numbers.{be2, be4, be8, le4}
 use Rattle.netlink_packet_core.specs.Booleans.{boolean_byte}
 use Rattle.link_info_types.specs.VxlanTypes.{vxlan_df_number, vxlan_df_of}
 use Rattle.link_info_grammar.specs.Families.{vxlan}
-use Rattle.attribute_tables_grammar.specs.LookUps.{has_no_row}
+use Rattle.attribute_tables_grammar.specs.LookUps.{HasNoRow}
 use Rattle.netlink_packet_core.specs.Families.{attribute}
 use Rattle.link_info_tunnels.specs.declared.vxlan.InfoVxlan.{InfoVxlan}
 use Rattle.link_info_tunnels.specs.declared.vxlan.InfoVxlan.TheVariants.{Id, Group, Link, Local, Ttl, Tos, Learning}
@@ -61,5 +61,5 @@ vxlan_entry (Other a) = a
 -- row.
 abbrev pub vxlan_is_row_variant : InfoVxlan → Type 0
 vxlan_is_row_variant (Df d) = d ≡ vxlan_df_of (vxlan_df_number d)
-vxlan_is_row_variant (Other a) = has_no_row vxlan (proper_kind a.kind)
+vxlan_is_row_variant (Other a) = HasNoRow vxlan (proper_kind a.kind)
 vxlan_is_row_variant _ = Unit {0}

@@ -6,12 +6,12 @@ ghost use Rattle.netlink_packet_core.specs.Addresses.{ip_octets, HasAddressLengt
 ghost use Rattle.netlink_packet_core.specs.Numbers.{be2, le2, le4};
 ghost use Rattle.std.specs.List.{All};
 ghost use Rattle.netlink_packet_core.specs.Attributes.{proper_kind};
-ghost use Rattle.netlink_packet_core.specs.AttributeViews.{IsAttribute, viewed_kind};
+ghost use Rattle.netlink_packet_core.specs.AttributeViews.{BeginsWithAttribute, viewed_kind};
 ghost use Rattle.netlink_packet_core.specs.Errors.{is_memory};
 ghost use Rattle.netlink_packet_core.specs.Families.{Gives, accepts, family_row, may_allocate, attribute};
 ghost use Rattle.netlink_packet_core.specs.NlaBuffers.{storage};
 ghost use Rattle.attribute_tables_grammar.specs.Lists.{any, without_context};
-ghost use Rattle.attribute_tables_grammar.specs.LookUps.{has_no_row};
+ghost use Rattle.attribute_tables_grammar.specs.LookUps.{HasNoRow};
 ghost use Rattle.attribute_tables_grammar.specs.Readings.{reading_as};
 ghost use Rattle.attribute_tables_grammar.specs.Rules.{shape_rule};
 ghost use Rattle.link_info_kinds.specs.declared.info_kind.InfoKind.{InfoKind};
@@ -272,12 +272,12 @@ impl InfoIpTunnel {
     // Reads one attribute under a kind of link; `None` if the attribute's kind has no row.
     #[tactic(auto, unfolding(crate::specs::IpTunnel::ip_tunnel_of))]
     fn read_row(buf: &NlaBuffer<&[u8]>, link: &InfoKind) -> Result<Option<Self>, DecodeError>
-        requires { IsAttribute (storage buf.now).now }
+        requires { BeginsWithAttribute (storage buf.now).now }
         ensures judged { SucceedsExactlyIf result
             (accepts (ip_tunnel_of link.now) (storage buf.now).now) }
         ensures none { IfOk result
             (λ o. IfNone o
-            (has_no_row (ip_tunnel_of link.now)
+            (HasNoRow (ip_tunnel_of link.now)
             (proper_kind (viewed_kind (storage buf.now).now)))) }
         ensures value { IfRead result
             (λ v. Gives (ip_tunnel_of link.now) (storage buf.now).now (ip_tunnel_entry v)) }
@@ -313,7 +313,7 @@ impl InfoIpTunnel {
 }
 
 impl<'a, 'b> ParseableParametrized<NlaBuffer<&'a [u8]>, &'b InfoKind> for InfoIpTunnel {
-    ghost can_parse = { λ b _. IsAttribute (storage b).now };
+    ghost can_parse = { λ b _. BeginsWithAttribute (storage b).now };
 
     ghost accepts = { λ b k. accepts (ip_tunnel_of k.now) (storage b).now };
 

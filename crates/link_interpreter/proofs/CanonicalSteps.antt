@@ -6,7 +6,7 @@ use Rattle.std.proofs.lemmas.List.{length-append}
 use Rattle.netlink_packet_core_grammar.specs.Attributes.{attribute_length, attribute_text, nla_align}
 use Rattle.netlink_packet_core_grammar.proofs.Sizes.{length-attribute_text}
 use Rattle.attribute_tables_grammar.specs.Laws.{CanonicalListsUnfold, MeasuresUnfold}
-use Rattle.attribute_tables_grammar.specs.Lists.{ListForm, Row, nothing, without_context}
+use Rattle.attribute_tables_grammar.specs.Lists.{ListForm, Row, no_kind_in_force, without_context}
 use Rattle.attribute_tables_grammar.specs.Walks.{MeasuredSoFar, plus, with_header}
 use Rattle.link_interpreter.specs.Prefixes.{IsCanonicalValue, PassesCanonical, canonical_measure}
 use Rattle.link_interpreter.proofs.PrefixSteps.{IsCanonicalStep, offset_following, prefix_step}
@@ -31,8 +31,8 @@ module _ (form : ListForm) (f : ℕ → Row) (rest after : List ℕ) (v : IsCano
         within = omega (arith, size, p.within);
         offset = offset_following f bytes rest n e after step;
         few = omega (arith, size, p.few);
-        so_far = subst (λ m. MeasuredSoFar form (without_context f) bytes m nothing after) is
-            (measures.more form (without_context f) bytes rest nothing e after (canonical_measure n count) (canonical_measure (length e.payload) 0) v.first v.kept v.measured p.so_far);
-        already_canonical = lists.more form (without_context f) bytes rest nothing e after v.first v.kept v.kind v.payload v.text p.already_canonical;
+        so_far = subst (λ m. MeasuredSoFar form (without_context f) bytes m no_kind_in_force after) is
+            (measures.more form (without_context f) bytes rest no_kind_in_force e after (canonical_measure n count) (canonical_measure (length e.payload) 0) v.first v.kept v.measured p.so_far);
+        already_canonical = lists.more form (without_context f) bytes rest no_kind_in_force e after v.first v.kept v.kind v.payload v.text p.already_canonical;
         prefix = prefix_step f bytes rest (length rest) e after true v.first (λ _. step) p.prefix;
       }

@@ -7,7 +7,7 @@ use Rattle.std.proofs.lemmas.List.Prefix.{front_rest}
 use Rattle.netlink_packet_core_grammar.specs.Attributes.{Attribute, attribute_text, list_text, first_attribute, attributes_of}
 use Rattle.netlink_packet_core_grammar.proofs.FirstAttribute.{attributes_step}
 use Rattle.attribute_tables_grammar.specs.Rules.{Rule}
-use Rattle.attribute_tables_grammar.specs.Lists.{Row, nothing, without_context, row_at, rewrite, written_kind, all_accepted, rewritten, all_fit, if_read, any, list_rule}
+use Rattle.attribute_tables_grammar.specs.Lists.{Row, no_kind_in_force, without_context, row_at, canonical_form, canonical_kind, all_accepted, canonical_forms, all_fit, if_read, any, list_rule}
 use Rattle.link_interpreter.specs.Prefixes.{IsCanonicalPrefix, RestIsIndependent}
 
 module _ (f : ℕ → Row) where
@@ -17,31 +17,31 @@ module _ (f : ℕ → Row) where
   -- if a list is accepted and fits, so does the rest after its first attribute, and the encoding of the whole is that
   -- attribute followed by that of the rest
   following_by : (e : Attribute) (bytes after : List ℕ) (o : Option (List Attribute)) → attributes_of after ≡ o → attributes_of bytes ≡ option_map (λ es. e ∷ es) o
-      → rule.accepted bytes ≡ true → rule.fits bytes ≡ true → RestIsIndependent rule bytes (attribute_text (rewrite (row_at f e) e)) after
-  unfolding all_accepted all_fit rewritten list_text
-  following_by e bytes after None a s x h = absurd (false≢true (sym (ap (if_read false (all_accepted (without_context f) nothing)) s) ∙ x))
+      → rule.accepted bytes ≡ true → rule.fits bytes ≡ true → RestIsIndependent rule bytes (attribute_text (canonical_form (row_at f e) e)) after
+  unfolding all_accepted all_fit canonical_forms list_text
+  following_by e bytes after None a s x h = absurd (false≢true (sym (ap (if_read false (all_accepted (without_context f) no_kind_in_force)) s) ∙ x))
   following_by e bytes after (Some es) a s x h =
       let g = without_context f in
       let r = row_at f e in
-      let y : all_accepted g nothing (e ∷ es) ≡ true = sym (ap (if_read false (all_accepted g nothing)) s) ∙ x in
-      let z : all_fit g nothing (e ∷ es) ≡ true = sym (ap (if_read true (all_fit g nothing)) s) ∙ h in
-      let y' = and_parts (r.rule.accepted e.payload) (all_accepted g (g.next nothing e) es) y in
-      let z' = and_parts (nat_le (4 + length (r.rule.canonical e.payload)) 65535 && r.rule.fits e.payload) (all_fit g (g.next nothing e) es) z in
+      let y : all_accepted g no_kind_in_force (e ∷ es) ≡ true = sym (ap (if_read false (all_accepted g no_kind_in_force)) s) ∙ x in
+      let z : all_fit g no_kind_in_force (e ∷ es) ≡ true = sym (ap (if_read true (all_fit g no_kind_in_force)) s) ∙ h in
+      let y' = and_parts (r.rule.accepted e.payload) (all_accepted g (g.next no_kind_in_force e) es) y in
+      let z' = and_parts (nat_le (4 + length (r.rule.canonical e.payload)) 65535 && r.rule.fits e.payload) (all_fit g (g.next no_kind_in_force e) es) z in
       record {
-        accepted = ap (if_read false (all_accepted g nothing)) a ∙ y'.1;
-        fits = ap (if_read true (all_fit g nothing)) a ∙ z'.1;
+        accepted = ap (if_read false (all_accepted g no_kind_in_force)) a ∙ y'.1;
+        fits = ap (if_read true (all_fit g no_kind_in_force)) a ∙ z'.1;
         text =
-            ap (if_read [] (λ fs. list_text (rewritten g nothing fs))) s
-            ∙ ap (λ z. attribute_text (rewrite r e) ++ z) (sym (ap (if_read [] (λ fs. list_text (rewritten g nothing fs))) a));
+            ap (if_read [] (λ fs. list_text (canonical_forms g no_kind_in_force fs))) s
+            ∙ ap (λ z. attribute_text (canonical_form r e) ++ z) (sym (ap (if_read [] (λ fs. list_text (canonical_forms g no_kind_in_force fs))) a));
       }
 
-  following : (e : Attribute) (bytes after : List ℕ) → first_attribute bytes ≡ Some (e, after) → rule.accepted bytes ≡ true → rule.fits bytes ≡ true → RestIsIndependent rule bytes (attribute_text (rewrite (row_at f e) e)) after
+  following : (e : Attribute) (bytes after : List ℕ) → first_attribute bytes ≡ Some (e, after) → rule.accepted bytes ≡ true → rule.fits bytes ≡ true → RestIsIndependent rule bytes (attribute_text (canonical_form (row_at f e) e)) after
   following e bytes after h a fit = following_by e bytes after (attributes_of after) refl (attributes_step bytes e after h) a fit
 
   -- the prefix ends at the start of the rest, and the attribute there is already canonical
   pub record IsCanonicalStep (bytes rest : List ℕ) (n : ℕ) (e : Attribute) (after : List ℕ) : Type 0 where
     pub offset : drop n bytes ≡ rest
-    pub kind : written_kind (row_at f e) e.kind ≡ e.kind
+    pub kind : canonical_kind (row_at f e) e.kind ≡ e.kind
     pub payload : (row_at f e).rule.canonical e.payload ≡ e.payload
     pub text : rest ≡ attribute_text e ++ after
 
@@ -65,7 +65,7 @@ module _ (f : ℕ → Row) where
       let w = whole bytes rest n e after s in
       let at : take (length bytes - length after) bytes ≡ prefix = ap (take (length bytes - length after)) w ∙ take_at prefix after (length bytes - length after) (seam prefix after bytes w) in
       let left = offset_following bytes rest n e after s in
-      let is : rewrite (row_at f e) e ≡ e = λ i. record { kind = s.kind i; payload = s.payload i } in
+      let is : canonical_form (row_at f e) e ≡ e = λ i. record { kind = s.kind i; payload = s.payload i } in
       record {
         within = omega arith;
         continues = λ a fit.

@@ -4,7 +4,7 @@ use Rattle.std.proofs.lemmas.List.{length-append, take_at}
 use Rattle.std.proofs.Math.Seq.{drop-append_seam}
 use Rattle.netlink_packet_core_grammar.specs.Attributes.{nla_align, zeros, Attribute, attribute_header, attribute_text}
 use Rattle.attribute_tables_grammar.specs.Rules.{Rule}
-use Rattle.attribute_tables_grammar.specs.Lists.{Row, Grammar, rewrite, written_kind, list_rule}
+use Rattle.attribute_tables_grammar.specs.Lists.{Row, Grammar, canonical_form, canonical_kind, list_rule}
 use Rattle.attribute_tables_grammar.specs.Walks.{IsWalked}
 use Rattle.attribute_tables_grammar.specs.Writing.{IsWritable}
 use Rattle.attribute_tables_grammar.specs.Laws.{MeasuresDetermineRules}
@@ -43,7 +43,7 @@ three_parts kind text out a b c new start size at n x y z w =
     ∙ ap (λ v. out ++ v) (append_assoc h text p)
 
 -- an attribute that was written by a look-up is the row's
-pub rewritten_as : (row : Row) (f : Rule) (e : Attribute) (kind : ℕ) (out new : List ℕ) → f ≡ row.rule → kind ≡ written_kind row e.kind → new ≡ out ++ attribute_text (record { kind = kind; payload = f.canonical e.payload }) → new ≡ out ++ attribute_text (rewrite row e)
+pub rewritten_as : (row : Row) (f : Rule) (e : Attribute) (kind : ℕ) (out new : List ℕ) → f ≡ row.rule → kind ≡ canonical_kind row e.kind → new ≡ out ++ attribute_text (record { kind = kind; payload = f.canonical e.payload }) → new ≡ out ++ attribute_text (canonical_form row e)
 rewritten_as row f e kind out new r k h = h ∙ (λ i. out ++ attribute_text (record { kind = k i; payload = (r i).canonical e.payload }))
 
 -- an accepted list of another kind is walked

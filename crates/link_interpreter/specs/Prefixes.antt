@@ -2,8 +2,8 @@
 use Rattle.std.specs.Prelude.{◌≡◌, ℕ, ◌+◌, ◌-◌, ◌*◌, ◌≤◌, true, false, List, ◌++◌, length, take, drop, Some}
 use Rattle.netlink_packet_core_grammar.specs.Attributes.{Attribute, attribute_length, attribute_text, first_attribute}
 use Rattle.attribute_tables_grammar.specs.AlreadyCanonical.{CanonicalSoFar}
-use Rattle.attribute_tables_grammar.specs.Lists.{Row, ListForm, any, is_kept, list_rule, nothing, row_at, without_context}
-use Rattle.attribute_tables_grammar.specs.Lists.{written_kind}
+use Rattle.attribute_tables_grammar.specs.Lists.{Row, ListForm, any, is_kept, list_rule, no_kind_in_force, row_at, without_context}
+use Rattle.attribute_tables_grammar.specs.Lists.{canonical_kind}
 use Rattle.attribute_tables_grammar.specs.Rules.{Rule}
 use Rattle.attribute_tables_grammar.specs.Walks.{Measure, MeasuredSoFar, measure}
 
@@ -29,7 +29,7 @@ pub record IsCanonicalValue (form : ListForm) (row : ℕ → Row) (bytes after :
   pub attribute : Attribute
   pub first : first_attribute bytes ≡ Some (attribute, after)
   pub kept : is_kept form attribute ≡ true
-  pub kind : written_kind (row_at row attribute) attribute.kind ≡ attribute.kind
+  pub kind : canonical_kind (row_at row attribute) attribute.kind ≡ attribute.kind
   pub payload : (row_at row attribute).rule.canonical attribute.payload ≡ attribute.payload
   pub measured : Some (canonical_measure (length attribute.payload) 0) ≡
       measure (row_at row attribute).rule attribute.payload
@@ -42,6 +42,6 @@ pub record PassesCanonical (form : ListForm) (row : ℕ → Row) (bytes : List �
   pub offset : drop (length bytes - length rest) bytes ≡ rest
   pub few : 4 * count + length rest ≤ length bytes
   pub so_far : MeasuredSoFar form (without_context row) bytes (canonical_measure (length bytes - length rest) count)
-      nothing rest
-  pub already_canonical : CanonicalSoFar form (without_context row) bytes nothing rest
+      no_kind_in_force rest
+  pub already_canonical : CanonicalSoFar form (without_context row) bytes no_kind_in_force rest
   pub prefix : IsCanonicalPrefix (list_rule any (without_context row)) bytes (length bytes - length rest)

@@ -32,7 +32,7 @@ pub fn first_attribute(bytes: &[u8]) -> Option<(Attribute<'_>, &[u8])>
     if bytes.len() < 4 {
         return None;
     }
-    let size = bytes[0] as usize + 256 * bytes[1] as usize;
+    let size = (bytes[0] as u16 + 256 * bytes[1] as u16) as usize;
     let kind = bytes[2] as u16 + 256 * bytes[3] as u16;
     if size < 4 || size > bytes.len() {
         return None;
@@ -49,11 +49,10 @@ fn is_padded(bytes: &[u8], size: usize) -> bool
     ensures { result ≡ true
         → take (nla_align size - size) (drop size bytes.now) ≡ zeros (nla_align size - size) }
 {
-    let padding = (4 - size % 4) % 4;
-    if bytes.len() - size < padding {
-        return false;
+    match (size % 4, &bytes[size..]) {
+        (0, _) | (1, [0, 0, 0, ..]) | (2, [0, 0, ..]) | (3, [0, ..]) => true,
+        _ => false,
     }
-    &bytes[size..size + padding] == &[0, 0, 0][..padding]
 }
 
 /// Returns whether the attribute at the start of the bytes is padded with zeros. If its kind and

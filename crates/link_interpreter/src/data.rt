@@ -3,7 +3,7 @@
 
 ghost use Rattle.std.specs.Prelude.{◌≡◌, false};
 ghost use Rattle.netlink_packet_core_numbers.specs.Errors.{is_memory};
-ghost use Rattle.link_info_grammar.specs.LinkInfo.{data_rule_under, port_data_rule_under};
+ghost use Rattle.link_info_grammar.specs.LinkInfo.{data_rule, port_data_rule};
 
 use crate::measure::measure_held;
 use crate::peers::PeerSet;
@@ -14,7 +14,7 @@ use netlink_packet_core_numbers::DecodeError;
 /// Returns whether the bytes of IFLA_INFO_DATA are accepted as the data under a kind's name, with
 /// these peers.
 pub fn accepts_data<P: PeerSet>(peers: &P, name: &[u8], payload: &[u8]) -> bool
-    ensures { result ≡ (data_rule_under P.peer name.now).accepted payload.now }
+    ensures { result ≡ (data_rule P.peer name.now).accepted payload.now }
 {
     names_are_looked_up();
     measures_determine_rules();
@@ -24,7 +24,7 @@ pub fn accepts_data<P: PeerSet>(peers: &P, name: &[u8], payload: &[u8]) -> bool
 /// Returns whether the bytes of IFLA_INFO_SLAVE_DATA are accepted as the data under a port kind's
 /// name, with these peers.
 pub fn accepts_port_data<P: PeerSet>(peers: &P, name: &[u8], payload: &[u8]) -> bool
-    ensures { result ≡ (port_data_rule_under P.peer name.now).accepted payload.now }
+    ensures { result ≡ (port_data_rule P.peer name.now).accepted payload.now }
 {
     names_are_looked_up();
     measures_determine_rules();
@@ -41,8 +41,8 @@ pub fn data_error<P: PeerSet>(
     error: DecodeError,
 ) -> DecodeError
     requires refused { is_memory error ≡ false
-        → (data_rule_under P.peer name.now).accepted payload.now ≡ false }
-    ensures { (data_rule_under P.peer name.now).accepted payload.now ≡ is_memory result }
+        → (data_rule P.peer name.now).accepted payload.now ≡ false }
+    ensures { (data_rule P.peer name.now).accepted payload.now ≡ is_memory result }
 {
     if error.is_memory() && !accepts_data(peers, name, payload) {
         return DecodeError::from("no data of their kind");

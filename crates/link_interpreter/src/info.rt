@@ -2,10 +2,10 @@
 
 ghost use Rattle.std.specs.Prelude.{◌≡◌, ◌%◌, ◌==◌, ◌&&◌, ◌||◌, nat_lt, ℕ};
 ghost use Rattle.netlink_packet_core_grammar.specs.Attributes.{proper_kind};
-ghost use Rattle.attribute_tables_grammar.specs.Lists.{Context, LawfulGrammar, written_kind};
-ghost use Rattle.attribute_tables_grammar.specs.Peers.{Peer};
-ghost use Rattle.link_info_grammar.specs.LinkInfo.{link_info_row_under};
-ghost use Rattle.link_message_grammar.specs.Laws.{InfoIsAListInside};
+ghost use Rattle.attribute_tables_grammar.specs.Lists.{Context, LawfulGrammar, canonical_kind};
+ghost use Rattle.attribute_tables_grammar.specs.Peers.{RuleOfPeers};
+ghost use Rattle.link_info_grammar.specs.LinkInfo.{link_info_row};
+ghost use Rattle.link_message_grammar.specs.Laws.{InfoPayloadsAreLists};
 ghost use Rattle.link_interpreter.specs.Measures.{info_names};
 
 use crate::attribute::KIND_BOUND;
@@ -24,7 +24,7 @@ pub(crate) fn link_info_is_lawful<P: PeerSet>(peers: &P)
 
 /// Link info in an attribute is a list of link info that isn't empty. A lemma, which does nothing.
 pub(crate) fn info_is_a_list_inside<P: PeerSet>(peers: &P)
-    ensures { InfoIsAListInside P.peer }
+    ensures { InfoPayloadsAreLists P.peer }
 {
     peers.peers_are_lawful();
     body_laws_hold_for_any_peers();
@@ -32,7 +32,7 @@ pub(crate) fn info_is_a_list_inside<P: PeerSet>(peers: &P)
 
 /// Returns the canonical kind of an attribute of link info.
 pub(crate) fn written_info_kind(kind: u16) -> u16
-    ensures { (p : Peer) (c : Context) → result ≡ written_kind (link_info_row_under p c (proper_kind kind)) kind }
+    ensures { (p : RuleOfPeers) (c : Context) → result ≡ canonical_kind (link_info_row p c (proper_kind kind)) kind }
 {
     match kind % KIND_BOUND {
         IFLA_INFO_KIND..=IFLA_INFO_SLAVE_DATA => kind % KIND_BOUND,

@@ -3,8 +3,9 @@
 ghost use Rattle.std.specs.Prelude.{◌≡◌, true, false, is_ok, option_map, IfSome, IfOk, IfErr};
 ghost use Rattle.attribute_tables_grammar.specs.Walks.{measure};
 ghost use Rattle.netlink_packet_core_numbers.specs.Errors.{is_memory};
-ghost use Rattle.link_info_grammar.specs.LinkInfo.{info_rule, info_rule_under};
+ghost use Rattle.link_info_grammar.specs.LinkInfo.{info_rule};
 ghost use Rattle.link_interpreter.specs.Measures.{view, IsListMeasure};
+ghost use Rattle.attribute_tables_grammar.specs.Peers.{bytes_peer};
 
 use crate::measure::measure_info;
 use crate::peers::{BytesPeer, PeerRule, PeerSet, Ruled};
@@ -26,17 +27,17 @@ pub struct ListMeasure {
 
 // Returns the measure of a list of link info, with these peers; `None` if the bytes are none.
 fn measure_list<P: PeerSet>(peers: &P, bytes: &[u8]) -> Option<Measured>
-    ensures measure { option_map view result ≡ measure (info_rule_under P.peer) bytes.now }
+    ensures measure { option_map view result ≡ measure (info_rule P.peer) bytes.now }
     ensures already_canonical { IfSome result
-        (λ m. m.is_canonical ≡ true → (info_rule_under P.peer).canonical bytes.now ≡ bytes.now) }
+        (λ m. m.is_canonical ≡ true → (info_rule P.peer).canonical bytes.now ≡ bytes.now) }
 {
     measure_info(peers, bytes)
 }
 
 // Checks a list of link info, with these peers.
 fn check_over<P: PeerSet>(peers: &P, bytes: &[u8]) -> Result<ListMeasure, DecodeError>
-    ensures ok { is_ok result ≡ (info_rule_under P.peer).accepted bytes.now }
-    ensures measure { IfOk result (λ m. IsListMeasure (info_rule_under P.peer) bytes.now m) }
+    ensures ok { is_ok result ≡ (info_rule P.peer).accepted bytes.now }
+    ensures measure { IfOk result (λ m. IsListMeasure (info_rule P.peer) bytes.now m) }
     ensures err { IfErr result (λ e. is_memory e ≡ false) }
 {
     measures_determine_rules();
@@ -51,9 +52,9 @@ fn check_over<P: PeerSet>(peers: &P, bytes: &[u8]) -> Result<ListMeasure, Decode
 }
 
 // Whether two lists of link info are equivalent, with these peers.
-#[tactic(auto, unfolding(link_info_grammar::specs::LinkInfo::info_rule_under, link_info_grammar::specs::LinkInfo::info_grammar_under, link_info_grammar::specs::LinkInfo::data_rule_under, link_info_grammar::specs::LinkInfo::port_data_rule_under))]
+#[tactic(auto, unfolding(link_info_grammar::specs::LinkInfo::info_rule, link_info_grammar::specs::LinkInfo::info_grammar, link_info_grammar::specs::LinkInfo::data_rule, link_info_grammar::specs::LinkInfo::port_data_rule))]
 fn same_list_over<P: PeerSet>(peers: &P, left: &[u8], right: &[u8]) -> bool
-    ensures { result ≡ (info_rule_under P.peer).same left.now right.now }
+    ensures { result ≡ (info_rule P.peer).same left.now right.now }
 {
     same_info(peers, left, right)
 }
@@ -65,8 +66,8 @@ fn same_list_over<P: PeerSet>(peers: &P, left: &[u8], right: &[u8]) -> bool
 ///
 /// A [`DecodeError`], never out of memory, if the list isn't accepted. Allocates nothing.
 pub fn check_list(bytes: &[u8]) -> Result<ListMeasure, DecodeError>
-    ensures ok { is_ok result ≡ info_rule.accepted bytes.now }
-    ensures measure { IfOk result (λ m. IsListMeasure info_rule bytes.now m) }
+    ensures ok { is_ok result ≡ (info_rule bytes_peer).accepted bytes.now }
+    ensures measure { IfOk result (λ m. IsListMeasure (info_rule bytes_peer) bytes.now m) }
     ensures err { IfErr result (λ e. is_memory e ≡ false) }
 {
     check_over(&BytesPeer, bytes)
@@ -80,8 +81,8 @@ pub fn check_list(bytes: &[u8]) -> Result<ListMeasure, DecodeError>
 /// A [`DecodeError`], never out of memory, if the list isn't accepted under the rule. Allocates
 /// nothing.
 pub fn check_list_with<R: PeerRule>(bytes: &[u8], rule: &R) -> Result<ListMeasure, DecodeError>
-    ensures ok { is_ok result ≡ (info_rule_under R.peer).accepted bytes.now }
-    ensures measure { IfOk result (λ m. IsListMeasure (info_rule_under R.peer) bytes.now m) }
+    ensures ok { is_ok result ≡ (info_rule R.peer).accepted bytes.now }
+    ensures measure { IfOk result (λ m. IsListMeasure (info_rule R.peer) bytes.now m) }
     ensures err { IfErr result (λ e. is_memory e ≡ false) }
 {
     check_over(&Ruled(rule), bytes)
@@ -91,7 +92,7 @@ pub fn check_list_with<R: PeerRule>(bytes: &[u8], rule: &R) -> Result<ListMeasur
 /// names, data and port data by the tables of the kinds in force, however the bytes encode them. It
 /// allocates nothing, and builds no value. The result is meaningful if `check_list` accepts both.
 pub fn same_list(left: &[u8], right: &[u8]) -> bool
-    ensures { result ≡ info_rule.same left.now right.now }
+    ensures { result ≡ (info_rule bytes_peer).same left.now right.now }
 {
     same_list_over(&BytesPeer, left, right)
 }
@@ -100,7 +101,7 @@ pub fn same_list(left: &[u8], right: &[u8]) -> bool
 /// nothing, and builds no value. The result is meaningful if `check_list_with` accepts both under
 /// that rule. `same_list` is this under `BytesPeer`.
 pub fn same_list_with<R: PeerRule>(left: &[u8], right: &[u8], rule: &R) -> bool
-    ensures { result ≡ (info_rule_under R.peer).same left.now right.now }
+    ensures { result ≡ (info_rule R.peer).same left.now right.now }
 {
     same_list_over(&Ruled(rule), left, right)
 }
@@ -110,8 +111,8 @@ pub fn same_list_with<R: PeerRule>(left: &[u8], right: &[u8], rule: &R) -> bool
 /// attribute: then `error` is replaced.
 pub fn list_error_with<R: PeerRule>(bytes: &[u8], rule: &R, error: DecodeError) -> DecodeError
     requires refused { is_memory error ≡ false
-        → (info_rule_under R.peer).accepted bytes.now ≡ false }
-    ensures { (info_rule_under R.peer).accepted bytes.now ≡ is_memory result }
+        → (info_rule R.peer).accepted bytes.now ≡ false }
+    ensures { (info_rule R.peer).accepted bytes.now ≡ is_memory result }
 {
     if !error.is_memory() {
         return error;

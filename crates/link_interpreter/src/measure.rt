@@ -3,7 +3,7 @@
 ghost use Rattle.std.specs.Prelude.{◌≡◌, ◌<◌, ◌+◌, ◌*◌, ◌^◌, ◌&&◌, ℕ, List, true, false, cond, nat_lt, option_map, IfSome};
 ghost use Rattle.attribute_tables_grammar.specs.Lists.{is_kept, first_only, list_rule};
 ghost use Rattle.attribute_tables_grammar.specs.LookUps.{payload_rule};
-ghost use Rattle.attribute_tables_grammar.specs.Walks.{measure, plus, with_header, dropped, closed};
+ghost use Rattle.attribute_tables_grammar.specs.Walks.{measure, plus, with_header, dropped, whole_measure};
 ghost use Rattle.link_interpreter.specs.Prefixes.{IsCanonicalPrefix};
 ghost use Rattle.link_interpreter.specs.Measures.{view, rows_of, table_list, info_list};
 ghost use Rattle.link_tables.specs.Rows.{form_of};
@@ -69,7 +69,7 @@ fn with_dropped(total: Measured) -> Measured
 
 // Completes the measure of a list: notes a list of ports that keeps no entry.
 fn close(form: Form, total: Measured) -> Measured
-    ensures measure { view result ≡ closed (form_of form) (view total) }
+    ensures measure { view result ≡ whole_measure (form_of form) (view total) }
     ensures already_canonical { result.is_canonical ≡ total.is_canonical }
 {
     match form {

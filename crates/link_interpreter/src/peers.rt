@@ -2,7 +2,7 @@
 
 ghost use Rattle.std.specs.Prelude.{◌≡◌, ◌≤◌, ◌+◌, ◌++◌, true, false, length, is_ok, option_map, vec_capacity};
 ghost use Rattle.std.specs.Prelude.{IfSome, IfOk, IfErr, OnOk};
-ghost use Rattle.attribute_tables_grammar.specs.Peers.{Peer, LawfulPeer, bytes_peer, peer_rule};
+ghost use Rattle.attribute_tables_grammar.specs.Peers.{RuleOfPeers, LawfulPeer, bytes_peer, peer_rule};
 ghost use Rattle.attribute_tables_grammar.specs.Walks.{measure};
 ghost use Rattle.netlink_packet_core_numbers.specs.Errors.{is_memory};
 ghost use Rattle.link_interpreter.specs.Measures.{view};
@@ -32,7 +32,7 @@ pub struct PeerMeasure {
 /// least four bytes for each attribute inside.
 pub trait PeerRule {
     /// The four functions of the rule.
-    ghost peer: { Peer };
+    ghost peer: { RuleOfPeers };
 
     /// The rule is lawful. A lemma, which does nothing.
     fn rule_is_lawful(&self)
@@ -67,7 +67,7 @@ pub trait PeerRule {
 
 /// The peers inside a list, as a walk of it measures and compares them.
 pub trait PeerSet {
-    ghost peer: { Peer };
+    ghost peer: { RuleOfPeers };
 
     /// The rule is lawful. A lemma, which does nothing.
     fn peers_are_lawful(&self)

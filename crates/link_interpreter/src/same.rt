@@ -4,7 +4,7 @@ ghost use Rattle.std.specs.Prelude.{◌≡◌, true, is_some, IfSome};
 ghost use Rattle.netlink_packet_core_grammar.specs.Attributes.{proper_kind};
 ghost use Rattle.attribute_tables_grammar.specs.Lists.{first_only, list_rule, row_of, same_attribute};
 ghost use Rattle.attribute_tables_grammar.specs.LookUps.{payload_rule, table_row};
-ghost use Rattle.attribute_tables_grammar.specs.Sameness.{kept_of, same_kinds};
+ghost use Rattle.attribute_tables_grammar.specs.Sameness.{kept_of, same_kind_by_first_row};
 ghost use Rattle.link_interpreter.specs.Measures.{info_list, info_names, rows_of, table_list};
 ghost use Rattle.link_interpreter.specs.Sameness.{IsShorter, attribute_of, next_of};
 ghost use Rattle.link_tables.specs.InForce.{in_force};
@@ -55,7 +55,7 @@ fn next_kept(form: Form, bytes: &[u8]) -> Next<'_>
 // equal.
 fn held_by_both<P: PeerSet>(peers: &P, table: Table, left: u16, right: u16) -> Option<Held>
     ensures kinds { is_some result
-        ≡ same_kinds (table_row P.peer (table_of table.0) (proper_kind left)) left right }
+        ≡ same_kind_by_first_row (table_row P.peer (table_of table.0) (proper_kind left)) left right }
     ensures rule { IfSome result
         (λ held. held_rule P.peer held
         ≡ (table_row P.peer (table_of table.0) (proper_kind left)).rule) }

@@ -71,8 +71,8 @@ pub fn same_shape(shape: Shape, left: &[u8], right: &[u8]) -> bool
     match shape {
         Shape::Exact(_) | Shape::Either(_, _) | Shape::AtMost(_) => left == right,
         Shape::Raw | Shape::Never => left == right,
-        Shape::NonzeroByte => same_marks(0, left, right),
-        Shape::OneByte => same_marks(1, left, right),
+        Shape::BooleanIfNonzero => same_marks(0, left, right),
+        Shape::BooleanIfOne => same_marks(1, left, right),
         Shape::BooleanOfFour => is_zero(left) == is_zero(right),
         Shape::Presence => true,
         Shape::Text => without_nul(left) == without_nul(right),

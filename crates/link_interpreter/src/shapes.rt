@@ -47,7 +47,7 @@ fn is_canonical_payload(shape: Shape, payload: &[u8]) -> bool
 {
     match shape {
         Shape::Exact(_) | Shape::Either(_, _) | Shape::AtMost(_) | Shape::Raw => true,
-        Shape::NonzeroByte | Shape::OneByte => payload[0] <= 1,
+        Shape::BooleanIfNonzero | Shape::BooleanIfOne => payload[0] <= 1,
         Shape::Presence => payload.is_empty(),
         Shape::Resized(n) => payload.len() == n as usize,
         Shape::FixedRecord(m, n) => payload.len() == n as usize && is_zero(&payload[m as usize..]),
@@ -71,7 +71,7 @@ pub fn measure_shape(shape: Shape, payload: &[u8]) -> Option<Measured>
         Shape::Exact(n) => (len == n as usize, len),
         Shape::Either(m, n) => (len == m as usize || len == n as usize, len),
         Shape::AtMost(n) => (len <= n as usize, len),
-        Shape::NonzeroByte | Shape::OneByte => (len == 1, 1),
+        Shape::BooleanIfNonzero | Shape::BooleanIfOne => (len == 1, 1),
         Shape::BooleanOfFour => (len == 4, 4),
         Shape::Presence => (true, 0),
         Shape::Text => (is_text(payload), without_nul(payload).len() + 1),

@@ -46,8 +46,8 @@ pub fn write_shape(shape: Shape, payload: &[u8], out: &mut Vec<u8>)
         Shape::Exact(_) | Shape::Either(_, _) | Shape::AtMost(_) | Shape::Raw => append(
             payload, out,
         ),
-        Shape::NonzeroByte => append(&[u8::from(payload[0] != 0)], out),
-        Shape::OneByte => append(&[u8::from(payload[0] == 1)], out),
+        Shape::BooleanIfNonzero => append(&[u8::from(payload[0] != 0)], out),
+        Shape::BooleanIfOne => append(&[u8::from(payload[0] == 1)], out),
         Shape::Presence | Shape::Never => {}
         Shape::Text => {
             append(without_nul(payload), out);

@@ -60,7 +60,7 @@ pub same_lines : (limit : ℕ) (m n : Message) → IsShown limit m → IsShown l
 same_lines limit (Accepted x p) (Accepted y q) h i e = let same : p ≡ q = cc in ap (λ z. text_lines everything z) same
 same_lines limit (Faulty x k f) (Faulty y j g) h i e =
     let same : f ≡ g = cc in
-    let fault : ◌≡◌ {A = Judged} (Err k) (Err j) = sym h.judged ∙ ap (first_frame limit) same ∙ i.judged in
+    let fault : ◌≡◌ {A = Judged} (Err k) (Err j) = sym h.judged ∙ ap (first_frame link_body limit) same ∙ i.judged in
     let kind : k ≡ j = cc in
     ap (λ z. faulty_lines true k z) same ∙ ap (λ z. faulty_lines true z g) kind
 same_lines limit (Accepted x p) (Faulty y j g) h i e = absurd cc

@@ -4,12 +4,12 @@ use Rattle.std.specs.Prelude.{◌==◌, ◌||◌, codes, nat_eq, nat_le, nat_lt}
 use Rattle.std.proofs.lemmas.Bool.{eqb-true, le-ltb, true≢false}
 use Rattle.std.proofs.lemmas.List.{drop-append-le, drop_all, length-drop, length-take, take-append-drop}
 use Rattle.netlink_packet_core_grammar.specs.Bytes.{AreBytes}
-use Rattle.netlink_packet_core_grammar.specs.Frames.{IsFrame, frame_body, frame_length, frame_type}
+use Rattle.netlink_packet_core_grammar.specs.Frames.{BeginsWithFrame, frame_body, frame_length, frame_type}
 use Rattle.netlink_packet_core_grammar.specs.Numbers.{u16_at}
 use Rattle.netlink_packet_core_grammar.proofs.Bytes.{AreBytes-drop, AreBytes-take}
 use Rattle.link_message_grammar.specs.Body.{link_body}
-use Rattle.link_capture_grammar.specs.Bodies.{body_text, body_text_under, done_text, error_text, is_link_type, ruled_text}
-use Rattle.link_capture_grammar.specs.Captures.{Judged, first_frame, first_frame_under, judged_text}
+use Rattle.link_capture_grammar.specs.Bodies.{body_text, done_text, error_text, is_link_type, ruled_text}
+use Rattle.link_capture_grammar.specs.Captures.{Judged, first_frame, judged_text}
 use Rattle.link_capture_grammar.specs.declared.fault.FaultKind.{FaultKind}
 use Rattle.link_capture_grammar.specs.declared.fault.FaultKind.TheVariants.{Cut, ShortLength, OverLimit}
 use Rattle.link_capture_grammar.proofs.Frames.{checked_header_by, frame_type-more}
@@ -38,14 +38,14 @@ not_of_body other kind h b e = let k : kind ≡ other = cc in true≢false (sym 
 
 -- What a fault of a body implies of the first message: its bytes are there, and the fault is that of its body.
 pub record HasFaultOfBody (limit : ℕ) (c : List ℕ) (kind : FaultKind) : Type 0 where
-  pub frame : IsFrame c
+  pub frame : BeginsWithFrame c
   pub high : frame_length c ≤ limit
-  pub judged : judged_text limit c (body_text (frame_type c) (frame_body c)) ≡ Err kind
+  pub judged : judged_text limit c (body_text link_body (frame_type c) (frame_body c)) ≡ Err kind
 
-pub fault_of_body : (limit : ℕ) (c : List ℕ) (kind : FaultKind) → first_frame limit c ≡ Err kind → is_of_body kind ≡ true → HasFaultOfBody limit c kind
-unfolding first_frame_under
+pub fault_of_body : (limit : ℕ) (c : List ℕ) (kind : FaultKind) → first_frame link_body limit c ≡ Err kind → is_of_body kind ≡ true → HasFaultOfBody limit c kind
+unfolding first_frame
 fault_of_body limit c kind e b =
-    checked_header_by limit (length c) (frame_length c) (judged_text limit c (body_text (frame_type c) (frame_body c))) (λ j. j ≡ Err kind → HasFaultOfBody limit c kind)
+    checked_header_by limit (length c) (frame_length c) (judged_text limit c (body_text link_body (frame_type c) (frame_body c))) (λ j. j ≡ Err kind → HasFaultOfBody limit c kind)
     (λ l f. absurd (not_of_body Cut kind refl b f)) (λ l f. absurd (not_of_body ShortLength kind refl b f)) (λ l f. absurd (not_of_body OverLimit kind refl b f)) (λ l m h s f. absurd (not_of_body Cut kind refl b f))
     (λ header low high within f. record { frame = record { has_header = header; covers_header = low; within = within }; high = high; judged = f }) e
 
@@ -63,7 +63,7 @@ read_by limit c b kind t false false false false h k l m e = absurd (text_fits l
 
 -- Only bodies that are read have faults.
 is_read : (limit : ℕ) (c : List ℕ) (kind : FaultKind) → HasFaultOfBody limit c kind → IsRead (frame_type c)
-unfolding body_text_under
+unfolding body_text
 is_read limit c kind h =
     let t = frame_type c in
     let b = frame_body c in
@@ -119,7 +119,7 @@ body_differs n t flags p s (inr (inr link)) h e =
 pub record IsFaulty (limit : ℕ) (kind : FaultKind) (f : List ℕ) : Type 0 where
   pub bytes : AreBytes f
   pub size : frame_length f ≡ length f
-  pub judged : first_frame limit f ≡ Err kind
+  pub judged : first_frame link_body limit f ≡ Err kind
   pub body : is_of_body kind ≡ true
 
 abbrev header : List ℕ → List ℕ

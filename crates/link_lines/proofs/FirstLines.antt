@@ -7,7 +7,7 @@ use Rattle.std.proofs.lemmas.List.{append_cancel_right}
 use Rattle.link_lines_values.proofs.NumbersDetermined.{Digits, high}
 use Rattle.link_lines_texts.specs.Determination.{StartsFrame}
 use Rattle.link_lines_parts.specs.Lines.{is_in_line}
-use Rattle.link_lines.specs.MessageLines.{located}
+use Rattle.link_lines.specs.MessageLines.{lines_with_offset}
 use Rattle.link_lines.specs.Offsets.{with_offset}
 
 -- ---- texts without a newline
@@ -82,7 +82,7 @@ offset_first x first rest h =
     ∙ ap (λ z. first ++ (codes " offset " ++ (decimal x ++ z))) (drop_at first (10 ∷ rest) n size)
 
 -- Lines have their offset in the first line.
-pub located_first : (x : ℕ) (first rest : List ℕ) → HasNoNewline first → located true x (first ++ 10 ∷ rest) ≡ offset_line x first rest
+pub located_first : (x : ℕ) (first rest : List ℕ) → HasNoNewline first → lines_with_offset true x (first ++ 10 ∷ rest) ≡ offset_line x first rest
 located_first x [] rest h = offset_first x [] rest h
 located_first x (c ∷ first) rest h = offset_first x (c ∷ first) rest h
 

@@ -3,7 +3,7 @@ use Rattle.std.proofs.Common.{◌≡◌, ℕ, Bool, true, false, cond, List, len
 use Rattle.std.specs.Prelude.{nat_lt}
 use Rattle.std.proofs.lemmas.List.{length-take, take-append-drop}
 use Rattle.netlink_packet_core_grammar.proofs.Numbers.{u32_at-append}
-use Rattle.netlink_packet_core_grammar.specs.Frames.{IsFrame, frame_length}
+use Rattle.netlink_packet_core_grammar.specs.Frames.{BeginsWithFrame, frame_length}
 use Rattle.netlink_packet_core_grammar.specs.Numbers.{u32_at}
 use Rattle.link_capture_grammar.specs.Captures.{Judged, checked_header}
 use Rattle.link_capture_grammar.specs.declared.fault.FaultKind.{FaultKind}
@@ -11,7 +11,7 @@ use Rattle.link_capture_grammar.specs.declared.fault.FaultKind.TheVariants.{Cut,
 use Rattle.link_lines.specs.Messages.{frame_of, is_of_body}
 
 -- The first message without what follows it is a message too.
-pub frame_is_frame : (c : List ℕ) → IsFrame c → IsFrame (frame_of c)
+pub frame_is_frame : (c : List ℕ) → BeginsWithFrame c → BeginsWithFrame (frame_of c)
 frame_is_frame c f =
     let n = frame_length c in
     let size : length (take n c) ≡ n = omega (arith, length-take n c, f.within) in

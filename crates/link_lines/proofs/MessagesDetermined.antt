@@ -4,7 +4,7 @@ use Rattle.std.specs.Prelude.{◌↔◌}
 use Rattle.std.proofs.lemmas.List.{length-drop, length-take, take-append-drop}
 use Rattle.netlink_packet_core_grammar.specs.Attributes.{nla_align}
 use Rattle.netlink_packet_core_grammar.specs.Bytes.{AreBytes}
-use Rattle.netlink_packet_core_grammar.specs.Frames.{IsFrame, frame_length}
+use Rattle.netlink_packet_core_grammar.specs.Frames.{BeginsWithFrame, frame_length}
 use Rattle.netlink_packet_core_grammar.specs.Numbers.{u32_at}
 use Rattle.netlink_packet_core_grammar.proofs.Bytes.{AreBytes-drop, AreBytes-take}
 use Rattle.netlink_packet_core_grammar.proofs.Numbers.{u32_at-append}
@@ -17,7 +17,7 @@ use Rattle.link_lines_texts.specs.Captures.{everything, text_lines}
 use Rattle.link_lines_texts.specs.Determination.{AcceptedFramesAreCanonical, IsCanonicalFrame, StartsFrame, unpadded}
 use Rattle.link_lines_texts.specs.Frames.{frame_lines}
 use Rattle.link_lines.specs.MessageLaws.{MessagesUnfold}
-use Rattle.link_lines.specs.MessageLines.{Selection, message_lines, messages_lines}
+use Rattle.link_lines.specs.MessageLines.{Selection, message_lines, lines_of_messages}
 use Rattle.link_lines.specs.Messages.{Message, Message.Accepted, Message.Faulty, Message.Last, frame_of, is_of_body, messages_at}
 use Rattle.link_lines.proofs.FaultyDetermined.{IsFaulty, fault_of_body}
 
@@ -27,7 +27,7 @@ use Rattle.link_lines.proofs.FaultyDetermined.{IsFaulty, fault_of_body}
 pub record IsText (limit : ℕ) (text : List ℕ) : Type 0 where
   pub capture : List ℕ
   pub bytes : AreBytes capture
-  pub is : texts limit capture ≡ text
+  pub is : texts link_body limit capture ≡ text
   pub own : List ℕ
   pub canonical : IsCanonicalFrame own
   pub lines : text_lines everything text ≡ frame_lines true own
@@ -57,7 +57,7 @@ pub record DetermineKeys (limit size : ℕ) (o : Selection) {K : Type 0} (key : 
 -- ---- the first message
 
 -- The bytes of a message with a fault of its body, taken alone.
-frame_alone : (limit : ℕ) (c : List ℕ) (kind : FaultKind) → AreBytes c → first_frame limit c ≡ Err kind → is_of_body kind ≡ true → IsFrame c → IsFaulty limit kind (frame_of c)
+frame_alone : (limit : ℕ) (c : List ℕ) (kind : FaultKind) → AreBytes c → first_frame link_body limit c ≡ Err kind → is_of_body kind ≡ true → BeginsWithFrame c → IsFaulty limit kind (frame_of c)
 frame_alone limit c kind p e b f =
     let n = frame_length c in
     let own = frame_of c in
@@ -68,7 +68,7 @@ frame_alone limit c kind p e b f =
     record {
       bytes = AreBytes-take n c p;
       size = sym same ∙ sym size;
-      judged = sym (first_frame_whole link_body limit own more (omega (arith, size, f.covers_header)) (omega (arith, size, same))) ∙ ap (first_frame limit) whole ∙ e;
+      judged = sym (first_frame_whole link_body limit own more (omega (arith, size, f.covers_header)) (omega (arith, size, same))) ∙ ap (first_frame link_body limit) whole ∙ e;
       body = b;
     }
 
@@ -104,7 +104,7 @@ module _ (limit size : ℕ) where
     rest_fits : (x n : ℕ) (c : List ℕ) → x + length c ≤ size → Fits (x + n) (drop n c)
     rest_fits x n c h some = omega (arith, h, some, length-drop n c)
 
-    accepted_first : (x : ℕ) (c : List ℕ) (frame : ℕ × List ℕ) → AreBytes c → Fits x c → first_frame limit c ≡ Ok frame → HasFirst x c
+    accepted_first : (x : ℕ) (c : List ℕ) (frame : ℕ × List ℕ) → AreBytes c → Fits x c → first_frame link_body limit c ≡ Ok frame → HasFirst x c
     accepted_first x c frame p fit e =
         let n = nla_align frame.0 in
         let a = frames.accepted limit c frame e in
@@ -128,7 +128,7 @@ module _ (limit size : ℕ) where
           fits = rest_fits x n c high;
         }
 
-    faulty_first : (x : ℕ) (c : List ℕ) (kind : FaultKind) → AreBytes c → Fits x c → first_frame limit c ≡ Err kind → is_of_body kind ≡ true → HasFirst x c
+    faulty_first : (x : ℕ) (c : List ℕ) (kind : FaultKind) → AreBytes c → Fits x c → first_frame link_body limit c ≡ Err kind → is_of_body kind ≡ true → HasFirst x c
     faulty_first x c kind p fit e b =
         let n = nla_align (frame_length c) in
         let f = (fault_of_body limit c kind e b).frame in
@@ -145,24 +145,24 @@ module _ (limit size : ℕ) where
           fits = rest_fits x n c high;
         }
 
-    fault_first : (x b : ℕ) (c : List ℕ) (kind : FaultKind) (t : Bool) → AreBytes (b ∷ c) → Fits x (b ∷ c) → first_frame limit (b ∷ c) ≡ Err kind → is_of_body kind ≡ t → Begins x (b ∷ c)
+    fault_first : (x b : ℕ) (c : List ℕ) (kind : FaultKind) (t : Bool) → AreBytes (b ∷ c) → Fits x (b ∷ c) → first_frame link_body limit (b ∷ c) ≡ Err kind → is_of_body kind ≡ t → Begins x (b ∷ c)
     fault_first x b c kind true p fit e h = Shows (faulty_first x (b ∷ c) kind p fit e h)
     fault_first x b c kind false p fit e h = Stops kind [] (steps.invalid true limit x b c kind e h)
 
-    judged_first : (x b : ℕ) (c : List ℕ) (j : Judged) → AreBytes (b ∷ c) → Fits x (b ∷ c) → first_frame limit (b ∷ c) ≡ j → Begins x (b ∷ c)
+    judged_first : (x b : ℕ) (c : List ℕ) (j : Judged) → AreBytes (b ∷ c) → Fits x (b ∷ c) → first_frame link_body limit (b ∷ c) ≡ j → Begins x (b ∷ c)
     judged_first x b c (Ok frame) p fit e = Shows (accepted_first x (b ∷ c) frame p fit e)
     judged_first x b c (Err kind) p fit e = fault_first x b c kind (is_of_body kind) p fit e refl
 
     begins : (x : ℕ) (c : List ℕ) → AreBytes c → Fits x c → Begins x c
     begins x [] p fit = Empty (steps.none true limit x)
-    begins x (b ∷ c) p fit = judged_first x b c (first_frame limit (b ∷ c)) p fit refl
+    begins x (b ∷ c) p fit = judged_first x b c (first_frame link_body limit (b ∷ c)) p fit refl
 
     -- ---- one message after the other
 
     module _ (o : Selection) {K : Type 0} (key : Message → K) (keys : List Message → List K) (law : DetermineKeys limit size o key keys) where
       -- The lines and the keys of the messages of bytes at an offset.
       abbrev lines_at : ℕ → List ℕ → List ℕ
-      lines_at x c = messages_lines o (all_at x c)
+      lines_at x c = lines_of_messages o (all_at x c)
 
       abbrev keys_at : ℕ → List ℕ → List K
       keys_at x c = keys (all_at x c)
@@ -173,16 +173,16 @@ module _ (limit size : ℕ) where
         no_keys : keys_at x c ≡ []
 
       no_message : (x : ℕ) (c : List ℕ) → all_at x c ≡ [] → HasNone x c
-      unfolding messages_lines
-      no_message x c e = record { no_lines = ap (λ ms. messages_lines o ms) e; no_keys = ap (λ ms. keys ms) e ∙ law.none }
+      unfolding lines_of_messages
+      no_message x c e = record { no_lines = ap (λ ms. lines_of_messages o ms) e; no_keys = ap (λ ms. keys ms) e ∙ law.none }
 
       last_message : (x : ℕ) (c : List ℕ) (kind : FaultKind) (f : List ℕ) → all_at x c ≡ Last x kind f ∷ [] → HasNone x c
-      unfolding messages_lines
-      last_message x c kind f e = record { no_lines = ap (λ ms. messages_lines o ms) e; no_keys = ap (λ ms. keys ms) e ∙ law.last x kind f }
+      unfolding lines_of_messages
+      last_message x c kind f e = record { no_lines = ap (λ ms. lines_of_messages o ms) e; no_keys = ap (λ ms. keys ms) e ∙ law.last x kind f }
 
       lines_are : (x : ℕ) (c : List ℕ) (a : HasFirst x c) → lines_at x c ≡ message_lines o a.message ++ lines_at a.next a.after
-      unfolding messages_lines
-      lines_are x c a = ap (λ ms. messages_lines o ms) a.messages
+      unfolding lines_of_messages
+      lines_are x c a = ap (λ ms. lines_of_messages o ms) a.messages
 
       keys_are : (x : ℕ) (c : List ℕ) (a : HasFirst x c) → keys_at x c ≡ key a.message ∷ keys_at a.next a.after
       keys_are x c a = ap (λ ms. keys ms) a.messages ∙ law.first a.message (all_at a.next a.after) a.is_shown

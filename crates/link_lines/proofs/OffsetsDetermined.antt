@@ -11,8 +11,8 @@ use Rattle.link_lines_texts.specs.Determination.{AcceptedFramesAreCanonical, Fra
 use Rattle.link_lines_texts.specs.Frames.{flag_names, frame_lines, header_line, numbers_text, type_text}
 use Rattle.link_lines_texts.specs.Laws.{LinesDetermineTexts}
 use Rattle.link_lines_texts.specs.Links.{labelled}
-use Rattle.link_lines.specs.MessageLaws.{Content, LinesDetermineOffsets, MessagesUnfold, NothingOmittedKeepsAll, all_messages_with_offsets, placed_contents}
-use Rattle.link_lines.specs.MessageLines.{faulty_lines, located, message_lines}
+use Rattle.link_lines.specs.MessageLaws.{Content, LinesDetermineOffsets, MessagesUnfold, NothingOmittedKeepsAll, all_messages_with_offsets, contents_with_offsets}
+use Rattle.link_lines.specs.MessageLines.{faulty_lines, lines_with_offset, message_lines}
 use Rattle.link_lines.specs.Messages.{Message, Message.Accepted, Message.Faulty, Message.Last}
 use Rattle.link_lines.proofs.AllLines.{all_are_whole, all_selected}
 use Rattle.link_lines.proofs.ContentsDetermined.{both_determined, content, own_lines, same_lines, starts}
@@ -45,7 +45,7 @@ placed m = (offset_of m, content m)
 both_placed : (m n : Message) → offset_of m ≡ offset_of n → content m ≡ content n → placed m ≡ placed n
 both_placed m n e f = ap (λ z. (z, content m)) e ∙ ap (λ z. (offset_of n, z)) f
 
-first_placed : (limit : ℕ) (m : Message) (more : List Message) → IsShown limit m → placed_contents (m ∷ more) ≡ placed m ∷ placed_contents more
+first_placed : (limit : ℕ) (m : Message) (more : List Message) → IsShown limit m → contents_with_offsets (m ∷ more) ≡ placed m ∷ contents_with_offsets more
 first_placed limit (Accepted offset text) more h = refl
 first_placed limit (Faulty offset kind frame) more h = refl
 first_placed limit (Last offset kind frame) more h = absurd h
@@ -57,16 +57,16 @@ has_first limit (Faulty offset kind frame) h = frame_first (take 16 frame) _
 has_first limit (Last offset kind frame) h = absurd h
 
 module _ (all : NothingOmittedKeepsAll) (limit : ℕ) where
-  lines_of : (m : Message) → IsShown limit m → message_lines all_messages_with_offsets m ≡ located true (offset_of m) (own_lines m)
-  lines_of (Accepted offset text) h = ap (λ z. located true offset z) (all_selected all all_messages_with_offsets all_are_whole.1 (text_lines everything text))
-  lines_of (Faulty offset kind frame) h = ap (λ z. located true offset z) (all_selected all all_messages_with_offsets all_are_whole.1 (faulty_lines true kind frame))
+  lines_of : (m : Message) → IsShown limit m → message_lines all_messages_with_offsets m ≡ lines_with_offset true (offset_of m) (own_lines m)
+  lines_of (Accepted offset text) h = ap (λ z. lines_with_offset true offset z) (all_selected all all_messages_with_offsets all_are_whole.1 (text_lines everything text))
+  lines_of (Faulty offset kind frame) h = ap (λ z. lines_with_offset true offset z) (all_selected all all_messages_with_offsets all_are_whole.1 (faulty_lines true kind frame))
   lines_of (Last offset kind frame) h = absurd h
 
   -- The first line has the offset.
   first_of : (m : Message) (h : IsShown limit m) → let a = has_first limit m h in message_lines all_messages_with_offsets m ≡ offset_line (offset_of m) a.first a.rest
   first_of m h =
       let a = has_first limit m h in
-      lines_of m h ∙ ap (λ z. located true (offset_of m) z) a.is ∙ located_first (offset_of m) a.first a.rest a.on_a_line
+      lines_of m h ∙ ap (λ z. lines_with_offset true (offset_of m) z) a.is ∙ located_first (offset_of m) a.first a.rest a.on_a_line
 
   some_lines : (m : Message) (s : List ℕ) → IsShown limit m → message_lines all_messages_with_offsets m ++ s ≡ [] → ⊥
   some_lines m s h e =
@@ -77,7 +77,7 @@ module _ (all : NothingOmittedKeepsAll) (limit : ℕ) where
   same_placed m n h i e =
       let offset : offset_of m ≡ offset_of n = ap (λ z. z.0) e in
       let same : content m ≡ content n = ap (λ z. z.1) e in
-      lines_of m h ∙ ap (λ z. located true (offset_of m) z) (same_lines limit m n h i same) ∙ ap (λ z. located true z (own_lines n)) offset ∙ sym (lines_of n i)
+      lines_of m h ∙ ap (λ z. lines_with_offset true (offset_of m) z) (same_lines limit m n h i same) ∙ ap (λ z. lines_with_offset true z (own_lines n)) offset ∙ sym (lines_of n i)
 
   module _ (determined : FramesAreDetermined) where
     offset_starts : (m : Message) (s : List ℕ) → IsShown limit m → StartsFrame (message_lines all_messages_with_offsets m ++ s)
@@ -102,7 +102,7 @@ module _ (all : NothingOmittedKeepsAll) (limit : ℕ) where
 
 -- ---- messages
 
-determine_placed : NothingOmittedKeepsAll → FramesAreDetermined → LinesDetermineTexts → (limit : ℕ) → limit < 2 ^ 32 → DetermineKeys limit (2 ^ 64) all_messages_with_offsets placed (λ ms. placed_contents ms)
+determine_placed : NothingOmittedKeepsAll → FramesAreDetermined → LinesDetermineTexts → (limit : ℕ) → limit < 2 ^ 32 → DetermineKeys limit (2 ^ 64) all_messages_with_offsets placed (λ ms. contents_with_offsets ms)
 determine_placed all determined text_law limit l = record {
   none = refl;
   last = λ x kind f. refl;
@@ -115,5 +115,5 @@ determine_placed all determined text_law limit l = record {
 
 pub offsets_determined : NothingOmittedKeepsAll → MessagesUnfold → FramesAreIndependent link_body → CapturesUnfoldByFrames link_body → AcceptedFramesAreCanonical → FramesAreDetermined → LinesDetermineTexts → LinesDetermineOffsets
 offsets_determined all steps frames go canonical determined text_law limit c d l p q i j =
-    keys_determined limit (2 ^ 64) steps frames go canonical l all_messages_with_offsets placed (λ ms. placed_contents ms)
+    keys_determined limit (2 ^ 64) steps frames go canonical l all_messages_with_offsets placed (λ ms. contents_with_offsets ms)
     (determine_placed all determined text_law limit l) c d p q (omega (arith, i)) (omega (arith, j))

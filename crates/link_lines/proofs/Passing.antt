@@ -6,22 +6,22 @@ use Rattle.netlink_packet_core_grammar.specs.Attributes.{nla_align}
 use Rattle.link_capture_grammar.specs.declared.fault.FaultKind.{FaultKind}
 use Rattle.link_capture_grammar.specs.declared.fault.FaultKind.TheVariants.{Refused}
 use Rattle.link_lines.specs.MessageLaws.{MessagesUnfold}
-use Rattle.link_lines.specs.MessageLines.{Selection, message_lines, messages_lines}
+use Rattle.link_lines.specs.MessageLines.{Selection, message_lines, lines_of_messages}
 use Rattle.link_lines.specs.Messages.{Message, Message.Accepted, Message.Faulty, Message.Last, Report, first_report, frame_of, frame_reason, is_of_body, last_fault, messages_at, report_of}
 use Rattle.link_lines.specs.Walks.{IsFirst, Passes, StopsThere, or_else}
 
 -- ---- messages, one after the other
 
-pub lines_more : (o : Selection) (ms ns : List Message) → messages_lines o (ms ++ ns) ≡ messages_lines o ms ++ messages_lines o ns
-unfolding messages_lines
+pub lines_more : (o : Selection) (ms ns : List Message) → lines_of_messages o (ms ++ ns) ≡ lines_of_messages o ms ++ lines_of_messages o ns
+unfolding lines_of_messages
 lines_more o ms ns = flat_map-append (message_lines o) ms ns
 
-pub lines_of_one : (o : Selection) (m : Message) → messages_lines o (m ∷ []) ≡ message_lines o m
-unfolding messages_lines
+pub lines_of_one : (o : Selection) (m : Message) → lines_of_messages o (m ∷ []) ≡ message_lines o m
+unfolding lines_of_messages
 lines_of_one o m = append-nil (message_lines o m)
 
-pub lines_of_none : (o : Selection) → messages_lines o [] ≡ []
-unfolding messages_lines
+pub lines_of_none : (o : Selection) → lines_of_messages o [] ≡ []
+unfolding lines_of_messages
 lines_of_none o = refl
 
 pub reports_more : (ms ns : List Message) → first_report (ms ++ ns) ≡ or_else (first_report ms) (first_report ns)
@@ -70,8 +70,8 @@ module _ (o : Selection) (limit start : ℕ) (c : List ℕ) (from len : ℕ) (ol
         ∙ ap (λ x. w.messages ++ m ∷ messages_at k limit (start + (len + nla_align n)) x) rest
         ∙ sym (append_assoc w.messages (m ∷ []) (messages_at k limit (start + (len + nla_align n)) (drop (len + nla_align n) (c ++ t))));
     lines =
-        lines ∙ ap (λ x. x ++ message_lines o m) w.lines ∙ append_assoc old (messages_lines o w.messages) (message_lines o m)
-        ∙ ap (λ x. old ++ (messages_lines o w.messages ++ x)) (sym (lines_of_one o m)) ∙ ap (λ x. old ++ x) (sym (lines_more o w.messages (m ∷ [])));
+        lines ∙ ap (λ x. x ++ message_lines o m) w.lines ∙ append_assoc old (lines_of_messages o w.messages) (message_lines o m)
+        ∙ ap (λ x. old ++ (lines_of_messages o w.messages ++ x)) (sym (lines_of_one o m)) ∙ ap (λ x. old ++ x) (sym (lines_more o w.messages (m ∷ [])));
     reports =
         reports ∙ ap (λ x. or_else x (first_report (m ∷ []))) w.reports ∙ or_or before (first_report w.messages) (first_report (m ∷ []))
         ∙ ap (or_else before) (sym (reports_more w.messages (m ∷ [])));
@@ -87,7 +87,7 @@ no_reason kind offset c d e = refl
 
 -- The messages from there on have no lines, and the fault is reported.
 pub record IsLast (o : Selection) (at : ℕ) (kind : FaultKind) (c : List ℕ) (tail : List Message) : Type 0 where
-  pub no_lines : messages_lines o tail ≡ []
+  pub no_lines : lines_of_messages o tail ≡ []
   pub fault : last_fault tail ≡ Some (record { kind = kind; offset = at })
   pub report : first_report tail ≡ Some (report_of at kind (frame_of c))
 

@@ -11,15 +11,16 @@ use Rattle.link_message_grammar.specs.Body.{link_body}
 use Rattle.link_capture_grammar.specs.declared.fault.CaptureFault.{CaptureFault}
 use Rattle.link_capture_grammar.specs.declared.fault.FaultKind.{FaultKind}
 use Rattle.link_capture_grammar.specs.declared.fault.FaultKind.TheVariants.{Cut, Memory, Read, Write, TooLong, Failed}
-use Rattle.link_capture_reader.specs.Outcomes.{IsOpen, IsPrefix}
+use Rattle.link_capture_reader.specs.Outcomes.{HasNoFaultButCut}
+use Rattle.link_capture_reader.specs.Devices.{IsPrefix}
 use Rattle.link_capture_reader.proofs.Progress.{part_prefix}
 use Rattle.link_capture_refusals.specs.RefusalViews.{all_found}
 use Rattle.link_lines.specs.MessageLaws.{FirstFaultsAreReported, MessagesUnfold}
-use Rattle.link_lines.specs.MessageLines.{Selection, messages_lines, shown}
+use Rattle.link_lines.specs.MessageLines.{Selection, lines_of_messages, shown}
 use Rattle.link_lines.specs.Messages.{Message, Report, first_report, frame_of, last_fault, messages, messages_at, report_of}
-use Rattle.link_lines.specs.Outcomes.{ComesTo, IsReadThrough, IsToBeShown, RunsOutReading, Shown, ShownAt, ShowsPrefix, has_bytes}
+use Rattle.link_lines.specs.Outcomes.{ComesTo, IsReadThrough, IsToBeShown, RunsOutReading, IsShowResult, IsShowFault, ShowsPrefix, has_bytes}
 use Rattle.link_lines.specs.Refused.{reported_refusal, without_refusal}
-use Rattle.link_lines.specs.Walks.{Ends, FinishedWith, Passes, StopsThere, continued, left_to_show, or_else, report_in}
+use Rattle.link_lines.specs.Walks.{Ends, FinishedWith, Passes, StopsThere, cut_with_piece, left_to_show, or_else, report_in}
 use Rattle.link_lines.specs.declared.refused.ShowFault.{ShowFault}
 use Rattle.link_lines.proofs.Passing.{last_there, lines_more, lines_of_none, open_more, reports_more}
 use Rattle.link_lines.proofs.Reaching.{AreCut, Concluded, Reaches, concluded, first_reported, nothing_reported, no_tail, open_tail, reached, reaches_piece, reaches_rest}
@@ -37,8 +38,8 @@ pub record Came (o : Selection) (limit start padding : ℕ) (rest : List ℕ) (f
   pub near : padding ≤ 3
   pub fits : start + length rest < 2 ^ 64
   pub consumed : Consumes come_old come_new s
-  pub wrote : Appends holds_old holds_new (messages_lines o messages)
-  pub count : written ≡ min (length (messages_lines o messages)) (2 ^ 64 - 1)
+  pub wrote : Appends holds_old holds_new (lines_of_messages o messages)
+  pub count : written ≡ min (length (lines_of_messages o messages)) (2 ^ 64 - 1)
 
 pub nothing_came : (o : Selection) (limit : ℕ) (come holds : Option (List ℕ)) → Came o limit 0 0 [] None 0 come come holds holds []
 nothing_came o limit come holds = record {
@@ -68,29 +69,29 @@ module _ (go : MessagesUnfold) (law : FirstFaultsAreReported) (o : Selection) (l
   conclusion = concluded o limit s came.messages tail (reached o.keep_going limit s came.messages start padding rest came.reaches) came.goes_on
 
   -- The lines that are written are those of all that was read.
-  pub lines_shown : messages_lines o came.messages ≡ shown o limit s
+  pub lines_shown : lines_of_messages o came.messages ≡ shown o limit s
   lines_shown =
-      sym (conclusion.lines ∙ ap (λ x. messages_lines o came.messages ++ x) (open_tail go o limit (start + padding) padding rest came.cut).no_lines ∙ append-nil (messages_lines o came.messages))
+      sym (conclusion.lines ∙ ap (λ x. lines_of_messages o came.messages ++ x) (open_tail go o limit (start + padding) padding rest came.cut).no_lines ∙ append-nil (lines_of_messages o came.messages))
 
-  still_open : IsOpen (last_fault (messages o.keep_going limit s))
-  still_open = subst IsOpen (sym conclusion.fault) (open_tail go o limit (start + padding) padding rest came.cut).is_open
+  still_open : HasNoFaultButCut (last_fault (messages o.keep_going limit s))
+  still_open = subst HasNoFaultButCut (sym conclusion.fault) (open_tail go o limit (start + padding) padding rest came.cut).is_open
 
   -- A further piece isn't shown.
-  pub before_piece : (p : List ℕ) (at : ℕ) → at ≡ start + length rest → ShowsPrefix o limit (s ++ p) (messages_lines o came.messages) at
+  pub before_piece : (p : List ℕ) (at : ℕ) → at ≡ start + length rest → ShowsPrefix o limit (s ++ p) (lines_of_messages o came.messages) at
   before_piece p at e =
       let size : length s ≡ at = sym came.accepted ∙ sym e in
       let read : take at (s ++ p) ≡ s = take_at s p at size in
       record {
         inside = omega (arith, size, length-append s p);
-        is_open = subst (λ x. IsOpen (last_fault (messages o.keep_going limit x))) (sym read) still_open;
+        is_open = subst (λ x. HasNoFaultButCut (last_fault (messages o.keep_going limit x))) (sym read) still_open;
         written = lines_shown ∙ ap (shown o limit) (sym read);
       }
 
-  pub before_end : (at : ℕ) → at ≡ start + length rest → ShowsPrefix o limit s (messages_lines o came.messages) at
-  before_end at e = subst (λ x. ShowsPrefix o limit x (messages_lines o came.messages) at) (append-nil s) (before_piece [] at e)
+  pub before_end : (at : ℕ) → at ≡ start + length rest → ShowsPrefix o limit s (lines_of_messages o came.messages) at
+  before_end at e = subst (λ x. ShowsPrefix o limit x (lines_of_messages o came.messages) at) (append-nil s) (before_piece [] at e)
 
   -- No memory for the rest of a cut message.
-  pub cut_runs_out : 0 < length rest → RunsOutReading o limit s (messages_lines o came.messages) start
+  pub cut_runs_out : 0 < length rest → RunsOutReading o limit s (lines_of_messages o came.messages) start
   cut_runs_out l = elim came.cut [
     | inl none ↦ absurd (omega (arith, l, ap length none))
     | inr cut ↦
@@ -105,14 +106,14 @@ module _ (go : MessagesUnfold) (law : FirstFaultsAreReported) (o : Selection) (l
             goes_on = came.goes_on;
             written = refl;
           },
-          inr (ap (first_frame limit) (sym came.place) ∙ cut.1),
+          inr (ap (first_frame link_body limit) (sym came.place) ∙ cut.1),
         )
   ]
 
 -- ---- results
 
 -- A fault that a frame can have.
-shown_frame : (o : Selection) (E R W : Type 0) (limit : ℕ) (s w : List ℕ) (kind : FaultKind) (at : ℕ) → IsOfFrames kind → first_fault limit s ≡ Some (record { kind = kind; offset = at }) → IsReadThrough (last_fault (messages o.keep_going limit s)) E → w ≡ shown o limit s → ShownAt o E R W limit s w kind at
+shown_frame : (o : Selection) (E R W : Type 0) (limit : ℕ) (s w : List ℕ) (kind : FaultKind) (at : ℕ) → IsOfFrames kind → first_fault link_body limit s ≡ Some (record { kind = kind; offset = at }) → IsReadThrough (last_fault (messages o.keep_going limit s)) E → w ≡ shown o limit s → IsShowFault o E R W limit s w kind at
 shown_frame o E R W limit s w Memory at k f e l = absurd k
 shown_frame o E R W limit s w Read at k f e l = absurd k
 shown_frame o E R W limit s w Write at k f e l = absurd k
@@ -126,14 +127,14 @@ reported_by e = (e.fault, all_found e.refusal)
 
 -- The first fault is reported.
 pub fault_shown : FirstFaultsAreReported → FaultsAreAtFrames link_body → (o : Selection) (E R W : Type 0) (limit : ℕ) (s w : List ℕ) (e : ShowFault) → first_report (messages o.keep_going limit s) ≡ Some (reported_by e) → IsReadThrough (last_fault (messages o.keep_going limit s)) E → w ≡ shown o limit s →
-    Shown o E R W limit s w (Err e)
+    IsShowResult o E R W limit s w (Err e)
 fault_shown law frames o E R W limit s w e report ended lines =
     let first = first_reported law o.keep_going limit s (reported_by e) report in
     (shown_frame o E R W limit s w e.fault.kind e.fault.offset (frames limit s e.fault first.0).2 first.0 ended lines, first.1)
 
 -- A fault of a device, or out of memory, has no reason.
-pub device_shown : (o : Selection) (E R W : Type 0) (limit : ℕ) (s w : List ℕ) (e : ShowFault) (fault : CaptureFault) → e ≡ without_refusal fault → reported_refusal s fault.kind fault.offset ≡ None → ShownAt o E R W limit s w fault.kind fault.offset → Shown o E R W limit s w (Err e)
-device_shown o E R W limit s w e fault f n h = subst (λ x. Shown o E R W limit s w (Err x)) (sym f) (h, sym n)
+pub device_shown : (o : Selection) (E R W : Type 0) (limit : ℕ) (s w : List ℕ) (e : ShowFault) (fault : CaptureFault) → e ≡ without_refusal fault → reported_refusal s fault.kind fault.offset ≡ None → IsShowFault o E R W limit s w fault.kind fault.offset → IsShowResult o E R W limit s w (Err e)
+device_shown o E R W limit s w e fault f n h = subst (λ x. IsShowResult o E R W limit s w (Err x)) (sym f) (h, sym n)
 
 ends_through : (f : Option CaptureFault) (E : Type 0) → E → IsReadThrough f E
 ends_through None E e = e
@@ -147,7 +148,7 @@ has_length (b ∷ w) n e = lt-ltb 0 n (omega (arith, e))
 
 module _ (go : MessagesUnfold) (law : FirstFaultsAreReported) (frames : FaultsAreAtFrames link_body) (o : Selection) (limit start padding : ℕ) (rest : List ℕ) (found : Option ShowFault) (written : ℕ) (come_old come_new holds_old holds_new : Option (List ℕ)) (s : List ℕ) (came : Came o limit start padding rest found written come_old come_new holds_old holds_new s) (E R W : Type 0) (ended : E) where
   abbrev w : List ℕ
-  w = messages_lines o came.messages
+  w = lines_of_messages o came.messages
 
   abbrev all : List Message
   all = messages o.keep_going limit s
@@ -163,32 +164,32 @@ module _ (go : MessagesUnfold) (law : FirstFaultsAreReported) (frames : FaultsAr
   lines_are : w ≡ shown o limit s
   lines_are = lines_shown go law o limit start padding rest found written come_old come_new holds_old holds_new s came
 
-  by_report : (e : ShowFault) → first_report all ≡ Some (reported_by e) → Shown o E R W limit s w (Err e)
+  by_report : (e : ShowFault) → first_report all ≡ Some (reported_by e) → IsShowResult o E R W limit s w (Err e)
   by_report e report = fault_shown law frames o E R W limit s w e report (ends_through (last_fault all) E ended) lines_are
 
   cut_left : (x : ℕ) (c : List ℕ) → rest ≡ x ∷ c → first_report left ≡ Some (reported_by (without_refusal (record { kind = Cut; offset = start })))
   cut_left x c e = elim came.cut [
     | inl none ↦ absurd (let z : length (x ∷ c) ≡ 0 = ap length (sym e ∙ none) in omega (arith, z))
     | inr cut ↦
-        let stop : first_frame limit (drop padding rest) ≡ Err Cut = subst (λ n. first_frame limit (drop n rest) ≡ Err Cut) (sym cut.0) cut.1 in
+        let stop : first_frame link_body limit (drop padding rest) ≡ Err Cut = subst (λ n. first_frame link_body limit (drop n rest) ≡ Err Cut) (sym cut.0) cut.1 in
         let some : 0 < length (drop padding rest) = subst (λ n. 0 < length (drop n rest)) (sym cut.0) (omega (arith, ap length e)) in
         let at : start + padding ≡ start = omega (arith, cut.0) in
         (last_there go o limit (start + padding) (drop padding rest) Cut some (stop, λ b. absurd (cc))).report
         ∙ ap (λ n. Some (reported_by (without_refusal (record { kind = Cut; offset = n })))) at
   ]
 
-  finished_in : (r : Option Report) → report_in found ≡ r → (c : List ℕ) → rest ≡ c → (result : Result Bool ShowFault) → FinishedWith r c start written result → Shown o E R W limit s w result
+  finished_in : (r : Option Report) → report_in found ≡ r → (c : List ℕ) → rest ≡ c → (result : Result Bool ShowFault) → FinishedWith r c start written result → IsShowResult o E R W limit s w result
   finished_in None e [] f (Ok b) h =
       let none : left ≡ [] = ap (λ c. messages_at o.keep_going limit (start + padding) (drop padding c)) f ∙ no_tail go o limit (start + padding) padding in
       (ended, nothing_reported law o.keep_going limit s (first ∙ ap (λ x. or_else x (first_report left)) e ∙ ap first_report none), lines_are, h ∙ has_length w written came.count)
   finished_in None e [] f (Err x) h = absurd h
   finished_in None e (x ∷ c) f (Ok b) h = absurd h
   finished_in None e (x ∷ c) f (Err z) h =
-      subst (λ y. Shown o E R W limit s w (Err y)) (sym h) (by_report (without_refusal (record { kind = Cut; offset = start })) (first ∙ ap (λ y. or_else y (first_report left)) e ∙ cut_left x c f))
+      subst (λ y. IsShowResult o E R W limit s w (Err y)) (sym h) (by_report (without_refusal (record { kind = Cut; offset = start })) (first ∙ ap (λ y. or_else y (first_report left)) e ∙ cut_left x c f))
   finished_in (Some r) e c f (Ok b) h = absurd h
   finished_in (Some r) e c f (Err z) h = by_report z (first ∙ ap (λ y. or_else y (first_report left)) e ∙ ap (λ y. Some y) (sym h))
 
-  pub finished : (result : Result Bool ShowFault) → FinishedWith (report_in found) rest start written result → Shown o E R W limit s w result
+  pub finished : (result : Result Bool ShowFault) → FinishedWith (report_in found) rest start written result → IsShowResult o E R W limit s w result
   finished result h = finished_in (report_in found) refl rest refl result h
 
 -- ---- a piece
@@ -209,18 +210,18 @@ module _ (go : MessagesUnfold) (law : FirstFaultsAreReported) (o : Selection) (l
   conclusion_then : Concluded o limit (s ++ p) ms after
   conclusion_then = concluded o limit (s ++ p) ms after (reached o.keep_going limit (s ++ p) ms start to whole reaches) going
 
-  gained : new ≡ messages_lines o passes.messages
-  gained = passes.lines ∙ ap (λ x. x ++ messages_lines o passes.messages) none
+  gained : new ≡ lines_of_messages o passes.messages
+  gained = passes.lines ∙ ap (λ x. x ++ lines_of_messages o passes.messages) none
 
-  pub lines_then : messages_lines o ms ≡ messages_lines o came.messages ++ new
-  lines_then = lines_more o came.messages passes.messages ∙ ap (λ x. messages_lines o came.messages ++ x) (sym gained)
+  pub lines_then : lines_of_messages o ms ≡ lines_of_messages o came.messages ++ new
+  lines_then = lines_more o came.messages passes.messages ∙ ap (λ x. lines_of_messages o came.messages ++ x) (sym gained)
 
   reports_then : report_in then ≡ first_report ms
   reports_then = passes.reports ∙ ap (λ x. or_else x (first_report passes.messages)) came.reports ∙ sym (reports_more came.messages passes.messages)
 
   -- What is written and will be is a prefix of the lines.
-  pub prefix_shown : IsPrefix (messages_lines o came.messages ++ new) (shown o limit (s ++ p))
-  prefix_shown = (messages_lines o after, conclusion_then.lines ∙ ap (λ x. x ++ messages_lines o after) lines_then)
+  pub prefix_shown : IsPrefix (lines_of_messages o came.messages ++ new) (shown o limit (s ++ p))
+  prefix_shown = (lines_of_messages o after, conclusion_then.lines ∙ ap (λ x. x ++ lines_of_messages o after) lines_then)
 
   -- The bytes to be shown are those of the capture at their offset.
   there : (n : ℕ) → drop n whole ≡ drop (start + n) (s ++ p)
@@ -228,7 +229,7 @@ module _ (go : MessagesUnfold) (law : FirstFaultsAreReported) (o : Selection) (l
       ap (drop n) (joined ∙ ap (λ x. x ++ p) came.place ∙ sym (drop-append-le start s p (omega (arith, came.accepted))))
       ∙ drop-drop n start (s ++ p)
 
-  comes_to : to < length whole → ComesTo o limit (s ++ p) (messages_lines o came.messages ++ new) (start + to)
+  comes_to : to < length whole → ComesTo o limit (s ++ p) (lines_of_messages o came.messages ++ new) (start + to)
   comes_to l = record {
     inside = omega (arith, l, came.accepted, ap length joined, length-append rest p, length-append s p);
     before = ms;
@@ -238,30 +239,30 @@ module _ (go : MessagesUnfold) (law : FirstFaultsAreReported) (o : Selection) (l
   }
 
   -- No memory for a message that is to be shown.
-  pub ran_out : to < length whole → IsToBeShown o.keep_going limit (drop to whole) → RunsOutReading o limit (s ++ p) (messages_lines o came.messages ++ new) (start + to)
+  pub ran_out : to < length whole → IsToBeShown o.keep_going limit (drop to whole) → RunsOutReading o limit (s ++ p) (lines_of_messages o came.messages ++ new) (start + to)
   ran_out l shown = (comes_to l, inl (subst (IsToBeShown o.keep_going limit) (there to) shown))
 
   -- No memory for the bytes of a message that is cut.
-  pub tail_runs_out : (passed : ℕ) → passed ≡ min to (length whole) → passed < length whole → AreCut limit (to - passed) (drop passed whole) → RunsOutReading o limit (s ++ p) (messages_lines o came.messages ++ new) (start + passed)
+  pub tail_runs_out : (passed : ℕ) → passed ≡ min to (length whole) → passed < length whole → AreCut limit (to - passed) (drop passed whole) → RunsOutReading o limit (s ++ p) (lines_of_messages o came.messages ++ new) (start + passed)
   tail_runs_out passed is l cut = elim cut [
     | inl none ↦ absurd (omega (arith, l, ap length none, length-drop passed whole))
     | inr e ↦
         let same : to ≡ passed = omega (arith, is, l) in (
-          subst (λ n. ComesTo o limit (s ++ p) (messages_lines o came.messages ++ new) (start + n)) same (comes_to (omega (arith, same, l))),
-          inr (ap (first_frame limit) (sym (there passed)) ∙ e.1),
+          subst (λ n. ComesTo o limit (s ++ p) (lines_of_messages o came.messages ++ new) (start + n)) same (comes_to (omega (arith, same, l))),
+          inr (ap (first_frame link_body limit) (sym (there passed)) ∙ e.1),
         )
   ]
 
   -- Showing stops at a message of the piece.
   pub stopped_shown : FaultsAreAtFrames link_body → (E R W : Type 0) (kind : FaultKind) (e : ShowFault) → to < length whole → StopsThere o.keep_going limit (drop to whole) kind → (kind ≡ Cut → ⊥) → report_in (Some e) ≡ or_else (report_in then) (Some (report_of (start + to) kind (frame_of (drop to whole)))) →
-      Shown o E R W limit (s ++ p) (messages_lines o came.messages ++ new) (Err e)
+      IsShowResult o E R W limit (s ++ p) (lines_of_messages o came.messages ++ new) (Err e)
   stopped_shown frames E R W kind e l stop differs report =
       let last = last_there go o limit (start + to) (drop to whole) kind (omega (arith, l, length-drop to whole)) stop in
       let first : first_report (messages o.keep_going limit (s ++ p)) ≡ Some (reported_by e) =
       conclusion_then.report ∙ ap (λ x. or_else x (first_report after)) (sym reports_then) ∙ ap (or_else (report_in then)) last.report ∙ sym report in
-      let lines : messages_lines o came.messages ++ new ≡ shown o limit (s ++ p) =
-      sym (conclusion_then.lines ∙ ap (λ x. messages_lines o ms ++ x) last.no_lines ∙ append-nil (messages_lines o ms) ∙ lines_then) in
-      fault_shown law frames o E R W limit (s ++ p) (messages_lines o came.messages ++ new) e first
+      let lines : lines_of_messages o came.messages ++ new ≡ shown o limit (s ++ p) =
+      sym (conclusion_then.lines ∙ ap (λ x. lines_of_messages o ms ++ x) last.no_lines ∙ append-nil (lines_of_messages o ms) ∙ lines_then) in
+      fault_shown law frames o E R W limit (s ++ p) (lines_of_messages o came.messages ++ new) e first
       (subst (λ f. IsReadThrough f E) (sym (conclusion_then.fault ∙ last.fault)) (λ k. absurd (differs k))) lines
 
   -- All messages of the piece are shown, but perhaps a cut one.
@@ -281,8 +282,8 @@ module _ (go : MessagesUnfold) (law : FirstFaultsAreReported) (o : Selection) (l
         near = omega (arith, is, near);
         fits = omega (arith, fits, length-drop passed whole, within);
         consumed = Consumes-trans come_old come_between come_new s p came.consumed consumed;
-        wrote = subst (Appends holds_old holds_new) (sym lines_then) (Appends-trans holds_old holds_between holds_new (messages_lines o came.messages) new came.wrote wrote);
-        count = omega (arith, count, came.count, ap length lines_then, length-append (messages_lines o came.messages) new);
+        wrote = subst (Appends holds_old holds_new) (sym lines_then) (Appends-trans holds_old holds_between holds_new (lines_of_messages o came.messages) new came.wrote wrote);
+        count = omega (arith, count, came.count, ap length lines_then, length-append (lines_of_messages o came.messages) new);
       }
 
   -- The same statement for the bytes that are left.
@@ -303,22 +304,22 @@ are_cut k limit whole to passed last ends (inl none) is =
 are_cut k limit whole to passed last ends (inr cut) is =
     let stop = subst (Ends k limit whole to) cut ends in
     let same : to ≡ passed = omega (arith, is, stop.0) in
-    inr (omega (arith, same), subst (λ n. first_frame limit (drop n whole) ≡ Err Cut) same stop.1.0)
+    inr (omega (arith, same), subst (λ n. first_frame link_body limit (drop n whole) ≡ Err Cut) same stop.1.0)
 
 -- A write failed after n bytes of the lines.
-pub failed_write : (o : Selection) (E R W : Type 0) (limit : ℕ) (s a out : List ℕ) (written n : ℕ) (fault : CaptureFault) → W → IsPrefix (a ++ out) (shown o limit s) → n ≤ length out → written ≡ min (length a) (2 ^ 64 - 1) → fault.kind ≡ Write → fault.offset ≡ min (written + n) (2 ^ 64 - 1) → ShownAt o E R W limit s (a ++ take n out) fault.kind fault.offset
+pub failed_write : (o : Selection) (E R W : Type 0) (limit : ℕ) (s a out : List ℕ) (written n : ℕ) (fault : CaptureFault) → W → IsPrefix (a ++ out) (shown o limit s) → n ≤ length out → written ≡ min (length a) (2 ^ 64 - 1) → fault.kind ≡ Write → fault.offset ≡ min (written + n) (2 ^ 64 - 1) → IsShowFault o E R W limit s (a ++ take n out) fault.kind fault.offset
 failed_write o E R W limit s a out written n fault w p l c k at =
     let size : length (a ++ take n out) ≡ length a + n = length-append a (take n out) ∙ omega (arith, length-take n out) in
-    subst (λ x. ShownAt o E R W limit s (a ++ take n out) x fault.offset) (sym k) (w, omega (arith, size, c, at), part_prefix a out (shown o limit s) n p)
+    subst (λ x. IsShowFault o E R W limit s (a ++ take n out) x fault.offset) (sym k) (w, omega (arith, size, c, at), part_prefix a out (shown o limit s) n p)
 
 -- ---- the bytes of a piece
 
 -- A piece after a cut message is shown with the message's bytes, and else by itself.
-pub left_joined : (rest piece : List ℕ) → left_to_show (continued rest piece) piece ≡ rest ++ piece
+pub left_joined : (rest piece : List ℕ) → left_to_show (cut_with_piece rest piece) piece ≡ rest ++ piece
 left_joined [] piece = refl
 left_joined (b ∷ rest) piece = refl
 
 -- What is shown follows what wasn't.
-pub bytes_joined : (bytes slice after held rest piece : List ℕ) → bytes ≡ left_to_show slice piece → slice ≡ after → after ≡ continued held piece → held ≡ rest → bytes ≡ rest ++ piece
+pub bytes_joined : (bytes slice after held rest piece : List ℕ) → bytes ≡ left_to_show slice piece → slice ≡ after → after ≡ cut_with_piece held piece → held ≡ rest → bytes ≡ rest ++ piece
 bytes_joined bytes slice after held rest piece b s a h =
-    b ∙ ap (λ x. left_to_show x piece) (s ∙ a ∙ ap (λ x. continued x piece) h) ∙ left_joined rest piece
+    b ∙ ap (λ x. left_to_show x piece) (s ∙ a ∙ ap (λ x. cut_with_piece x piece) h) ∙ left_joined rest piece

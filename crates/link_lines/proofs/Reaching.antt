@@ -5,12 +5,13 @@ use Rattle.std.proofs.lemmas.List.{drop-append-le, drop-drop, drop_all}
 use Rattle.link_capture_grammar.specs.Captures.{first_fault, first_frame}
 use Rattle.link_capture_grammar.specs.declared.fault.CaptureFault.{CaptureFault}
 use Rattle.link_capture_grammar.specs.declared.fault.FaultKind.TheVariants.{Cut}
-use Rattle.link_capture_reader.specs.Outcomes.{IsOpen}
-use Rattle.link_lines.specs.MessageLaws.{FirstFaultsAreReported, MessagesUnfold, reported}
-use Rattle.link_lines.specs.MessageLines.{Selection, messages_lines, shown}
+use Rattle.link_capture_reader.specs.Outcomes.{HasNoFaultButCut}
+use Rattle.link_lines.specs.MessageLaws.{FirstFaultsAreReported, MessagesUnfold, report_of_fault}
+use Rattle.link_lines.specs.MessageLines.{Selection, lines_of_messages, shown}
 use Rattle.link_lines.specs.Messages.{Message, Report, first_report, last_fault, messages, messages_at}
 use Rattle.link_lines.specs.Refused.{reported_refusal}
 use Rattle.link_lines.specs.Walks.{AreBetween, or_else}
+use Rattle.link_message_grammar.specs.Body.{link_body}
 use Rattle.link_lines.proofs.Passing.{last_there, lines_more, lines_of_none, open_more, reports_more}
 
 -- Of the capture that begins with s, these are the messages up to the offset n of c, which begins at the offset `start`,
@@ -41,25 +42,25 @@ module _ (k : Bool) (limit : ℕ) (s : List ℕ) (ms : List Message) (start n : 
 -- ---- what follows of a capture's messages
 
 pub record Concluded (o : Selection) (limit : ℕ) (s : List ℕ) (ms tail : List Message) : Type 0 where
-  pub lines : shown o limit s ≡ messages_lines o ms ++ messages_lines o tail
+  pub lines : shown o limit s ≡ lines_of_messages o ms ++ lines_of_messages o tail
   pub fault : last_fault (messages o.keep_going limit s) ≡ last_fault tail
   pub report : first_report (messages o.keep_going limit s) ≡ or_else (first_report ms) (first_report tail)
 
 pub concluded : (o : Selection) (limit : ℕ) (s : List ℕ) (ms tail : List Message) → messages o.keep_going limit s ≡ ms ++ tail → last_fault ms ≡ None → Concluded o limit s ms tail
 concluded o limit s ms tail e goes_on = record {
-  lines = ap (messages_lines o) e ∙ lines_more o ms tail;
+  lines = ap (lines_of_messages o) e ∙ lines_more o ms tail;
   fault = ap last_fault e ∙ open_more ms tail goes_on;
   report = ap first_report e ∙ reports_more ms tail;
 }
 
 -- The bytes that aren't shown are a message that is cut, if there are any.
 abbrev pub AreCut : ℕ → ℕ → List ℕ → Type 0
-AreCut limit n c = (c ≡ []) ⊎ ((n ≡ 0) × (first_frame limit c ≡ Err Cut))
+AreCut limit n c = (c ≡ []) ⊎ ((n ≡ 0) × (first_frame link_body limit c ≡ Err Cut))
 
 -- The messages of such bytes: none, or the cut one.
 pub record IsOpenTail (o : Selection) (tail : List Message) : Type 0 where
-  pub no_lines : messages_lines o tail ≡ []
-  pub is_open : IsOpen (last_fault tail)
+  pub no_lines : lines_of_messages o tail ≡ []
+  pub is_open : HasNoFaultButCut (last_fault tail)
 
 pub no_tail : MessagesUnfold → (o : Selection) (limit at n : ℕ) → messages_at o.keep_going limit at (drop n []) ≡ []
 no_tail go o limit at n = ap (messages_at o.keep_going limit at) (drop_all n [] (omega arith)) ∙ go.none o.keep_going limit at
@@ -67,11 +68,11 @@ no_tail go o limit at n = ap (messages_at o.keep_going limit at) (drop_all n [] 
 open_none : (o : Selection) (tail : List Message) → tail ≡ [] → IsOpenTail o tail
 open_none o tail e = subst (IsOpenTail o) (sym e) (record { no_lines = lines_of_none o; is_open = tt })
 
-open_cut : MessagesUnfold → (o : Selection) (limit at : ℕ) (c : List ℕ) → first_frame limit c ≡ Err Cut → IsOpenTail o (messages_at o.keep_going limit at c)
+open_cut : MessagesUnfold → (o : Selection) (limit at : ℕ) (c : List ℕ) → first_frame link_body limit c ≡ Err Cut → IsOpenTail o (messages_at o.keep_going limit at c)
 open_cut go o limit at [] e = open_none o (messages_at o.keep_going limit at []) (go.none o.keep_going limit at)
 open_cut go o limit at (x ∷ c) e =
     let last = last_there go o limit at (x ∷ c) Cut (omega arith) (e, λ b. absurd (cc)) in
-    record { no_lines = last.no_lines; is_open = subst IsOpen (sym last.fault) refl }
+    record { no_lines = last.no_lines; is_open = subst HasNoFaultButCut (sym last.fault) refl }
 
 pub open_tail : MessagesUnfold → (o : Selection) (limit at n : ℕ) (c : List ℕ) → AreCut limit n c → IsOpenTail o (messages_at o.keep_going limit at (drop n c))
 open_tail go o limit at n c (inl none) = open_none o (messages_at o.keep_going limit at (drop n c)) (ap (λ x. messages_at o.keep_going limit at (drop n x)) none ∙ no_tail go o limit at n)
@@ -79,18 +80,18 @@ open_tail go o limit at n c (inr cut) = subst (λ x. IsOpenTail o (messages_at o
 
 -- ---- the first fault, and the reason of a refused body
 
-known_fault : (s : List ℕ) (f : Option CaptureFault) (r : Report) → option_map (reported s) f ≡ Some r → (f ≡ Some r.0) × (r.1 ≡ reported_refusal s r.0.kind r.0.offset)
+known_fault : (s : List ℕ) (f : Option CaptureFault) (r : Report) → option_map (report_of_fault s) f ≡ Some r → (f ≡ Some r.0) × (r.1 ≡ reported_refusal s r.0.kind r.0.offset)
 known_fault s None r e = absurd (cc)
 known_fault s (Some f) r e =
-    let same : reported s f ≡ r = cc in
+    let same : report_of_fault s f ≡ r = cc in
     (ap (λ x. Some x.0) same, subst (λ x. x.1 ≡ reported_refusal s x.0.kind x.0.offset) same refl)
 
-pub first_reported : FirstFaultsAreReported → (k : Bool) (limit : ℕ) (s : List ℕ) (r : Report) → first_report (messages k limit s) ≡ Some r → (first_fault limit s ≡ Some r.0) × (r.1 ≡ reported_refusal s r.0.kind r.0.offset)
-first_reported law k limit s r e = known_fault s (first_fault limit s) r (sym (law k limit s) ∙ e)
+pub first_reported : FirstFaultsAreReported → (k : Bool) (limit : ℕ) (s : List ℕ) (r : Report) → first_report (messages k limit s) ≡ Some r → (first_fault link_body limit s ≡ Some r.0) × (r.1 ≡ reported_refusal s r.0.kind r.0.offset)
+first_reported law k limit s r e = known_fault s (first_fault link_body limit s) r (sym (law k limit s) ∙ e)
 
-no_fault : (s : List ℕ) (f : Option CaptureFault) → option_map (reported s) f ≡ None → f ≡ None
+no_fault : (s : List ℕ) (f : Option CaptureFault) → option_map (report_of_fault s) f ≡ None → f ≡ None
 no_fault s None e = refl
 no_fault s (Some f) e = absurd (cc)
 
-pub nothing_reported : FirstFaultsAreReported → (k : Bool) (limit : ℕ) (s : List ℕ) → first_report (messages k limit s) ≡ None → first_fault limit s ≡ None
-nothing_reported law k limit s e = no_fault s (first_fault limit s) (sym (law k limit s) ∙ e)
+pub nothing_reported : FirstFaultsAreReported → (k : Bool) (limit : ℕ) (s : List ℕ) → first_report (messages k limit s) ≡ None → first_fault link_body limit s ≡ None
+nothing_reported law k limit s e = no_fault s (first_fault link_body limit s) (sym (law k limit s) ∙ e)

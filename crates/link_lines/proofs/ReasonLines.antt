@@ -1,8 +1,8 @@
 -- The reason why a message's body isn't accepted is on one line.
-use Rattle.std.proofs.Common.{◌≡◌, ℕ, zero, suc, ◌+◌, Bool, true, false, List, [], ◌∷◌, ◌++◌, length, drop, get_or, Option, Some, None, refl}
+use Rattle.std.proofs.Common.{◌≡◌, ℕ, zero, suc, ◌+◌, ◌<◌, Bool, true, false, List, [], ◌∷◌, ◌++◌, length, drop, get_or, Option, Some, None, refl, sym, subst, arith}
 use Rattle.std.specs.Prelude.{codes, decimal, nat_lt, option_map, slice_index, ⊤}
 use Rattle.std.specs.List.{list_all}
-use Rattle.std.proofs.lemmas.Bool.{cond_both}
+use Rattle.std.proofs.lemmas.Bool.{cond_both, ne_eqb}
 use Rattle.netlink_packet_core_grammar.specs.Attributes.{Attribute, attribute_length, first_attribute, nla_align, proper_kind}
 use Rattle.netlink_packet_core_grammar.specs.Frames.{frame_body, frame_type}
 use Rattle.attribute_tables_grammar.specs.Lists.{Context}
@@ -73,6 +73,10 @@ table_name k rs (Some r) h e = is_line_checked r.1 (found is_name_on_a_line k rs
 info_name_line : (c : Context) (k : ℕ) (n : List ℕ) → is_line n ≡ true → HasNameOnALine (Some (n, info_inside k (held_in_force c k)))
 info_name_line c k n h = is_line_checked n h
 
+-- a kind above 5 has no name
+no_name_above : (k : ℕ) → 5 < k → info_name k ≡ None
+no_name_above k h = simp (ne_eqb k 1 (λ e. omega arith), ne_eqb k 2 (λ e. omega arith), ne_eqb k 3 (λ e. omega arith), ne_eqb k 4 (λ e. omega arith), ne_eqb k 5 (λ e. omega arith))
+
 info_names : (c : Context) (k : ℕ) → HasNameOnALine (option_map (λ n. (n, info_inside k (held_in_force c k))) (info_name k))
 info_names c zero = tt
 info_names c (suc zero) = info_name_line c 1 (codes "IFLA_INFO_KIND") refl
@@ -80,7 +84,7 @@ info_names c (suc (suc zero)) = info_name_line c 2 (codes "IFLA_INFO_DATA") refl
 info_names c (suc (suc (suc zero))) = info_name_line c 3 (codes "IFLA_INFO_XSTATS") refl
 info_names c (suc (suc (suc (suc zero)))) = info_name_line c 4 (codes "IFLA_INFO_SLAVE_KIND") refl
 info_names c (suc (suc (suc (suc (suc zero))))) = info_name_line c 5 (codes "IFLA_INFO_SLAVE_DATA") refl
-info_names c (suc (suc (suc (suc (suc (suc k)))))) = tt
+info_names c (suc (suc (suc (suc (suc (suc k)))))) = subst (λ n. HasNameOnALine (option_map (λ n. (n, info_inside (suc (suc (suc (suc (suc (suc k)))))) (held_in_force c (suc (suc (suc (suc (suc (suc k))))))))) n)) (sym (no_name_above (suc (suc (suc (suc (suc (suc k)))))) (omega arith))) tt
 
 row_name : (t : Table) (c : Context) (k : ℕ) → HasNameOnALine (row_in t c k)
 unfolding row_in

@@ -10,7 +10,7 @@ use Rattle.link_message_grammar.specs.Body.{link_body}
 use Rattle.link_capture_reader.specs.Readers.{IsFrameOffsetOf}
 use Rattle.link_capture_refusals.specs.RefusalViews.{all_found}
 use Rattle.link_lines.specs.MessageLaws.{FirstFaultsAreReported, MessagesUnfold}
-use Rattle.link_lines.specs.MessageLines.{Selection, messages_lines, shown}
+use Rattle.link_lines.specs.MessageLines.{Selection, lines_of_messages, shown}
 use Rattle.link_lines.specs.Messages.{Message, Report, first_report, messages, messages_at}
 use Rattle.link_lines.specs.Outcomes.{IsToBeShown, RunsOutAt}
 use Rattle.link_lines.specs.Refused.{reported_refusal}
@@ -35,7 +35,7 @@ pub runs_out : (o : Selection) (limit : ℕ) (c old new : List ℕ) (at : ℕ) (
 runs_out o limit c old new at before now passes inside shown =
     let k = o.keep_going in
     let ms = passes.messages in (
-      messages_lines o ms,
+      lines_of_messages o ms,
       (
         record {
           inside = inside;
@@ -53,13 +53,13 @@ runs_out o limit c old new at before now passes inside shown =
 
 -- The messages after the end of a walk: none, or the last one.
 record IsEnd (o : Selection) (at : ℕ) (last : Option FaultKind) (c : List ℕ) (tail : List Message) : Type 0 where
-  no_lines : messages_lines o tail ≡ []
+  no_lines : lines_of_messages o tail ≡ []
   report : first_report tail ≡ last_report at last c
 
 ended : MessagesUnfold → (o : Selection) (limit start to : ℕ) (c : List ℕ) (last : Option FaultKind) → Ends o.keep_going limit c to last → IsEnd o (start + to) last (drop to c) (messages_at o.keep_going limit (start + to) (drop to c))
 ended go o limit start to c None end =
     let none : messages_at o.keep_going limit (start + to) (drop to c) ≡ [] = ap (messages_at o.keep_going limit (start + to)) (drop_all to c end) ∙ go.none o.keep_going limit (start + to) in
-    record { no_lines = ap (messages_lines o) none ∙ lines_of_none o; report = ap first_report none }
+    record { no_lines = ap (lines_of_messages o) none ∙ lines_of_none o; report = ap first_report none }
 ended go o limit start to c (Some kind) end =
     let last = last_there go o limit (start + to) (drop to c) kind (omega (arith, end.0, length-drop to c)) end.1 in
     record { no_lines = last.no_lines; report = last.report }
@@ -76,7 +76,7 @@ shown_whole go o limit to c old new found last passes ends =
     let conclusion = concluded o limit c ms tail (reached o.keep_going limit c ms 0 to c passes.between) passes.goes_on in
     let end = ended go o limit 0 to c last ends in
     record {
-      lines = passes.lines ∙ ap (λ x. old ++ x) (sym (conclusion.lines ∙ ap (λ x. messages_lines o ms ++ x) end.no_lines ∙ append-nil (messages_lines o ms)));
+      lines = passes.lines ∙ ap (λ x. old ++ x) (sym (conclusion.lines ∙ ap (λ x. lines_of_messages o ms ++ x) end.no_lines ∙ append-nil (lines_of_messages o ms)));
       report =
           conclusion.report ∙ ap (λ x. or_else x (first_report tail)) (sym passes.reports) ∙ ap (or_else found) end.report
           ∙ ap (λ n. or_else found (last_report n last (drop to c))) (omega arith);
@@ -85,14 +85,14 @@ shown_whole go o limit to c old new found last passes ends =
 -- ---- the result
 
 module _ (law : FirstFaultsAreReported) (frames : FaultsAreAtFrames link_body) (o : Selection) (limit : ℕ) (c old new : List ℕ) (lines : new ≡ old ++ shown o limit c) where
-  pub legal_shown : (r : Result (Unit {0}) ShowFault) → first_report (messages o.keep_going limit c) ≡ reported_by r → OnOk r (IsLegal limit c × (new ≡ old ++ shown o limit c))
+  pub legal_shown : (r : Result (Unit {0}) ShowFault) → first_report (messages o.keep_going limit c) ≡ reported_by r → OnOk r (IsLegal link_body limit c × (new ≡ old ++ shown o limit c))
   legal_shown (Ok u) e = (nothing_reported law o.keep_going limit c e, lines)
   legal_shown (Err x) e = tt
 
-  first_of : (x : ShowFault) → first_report (messages o.keep_going limit c) ≡ reported_by (Err x) → (first_fault limit c ≡ Some x.fault) × (all_found x.refusal ≡ reported_refusal c x.fault.kind x.fault.offset)
+  first_of : (x : ShowFault) → first_report (messages o.keep_going limit c) ≡ reported_by (Err x) → (first_fault link_body limit c ≡ Some x.fault) × (all_found x.refusal ≡ reported_refusal c x.fault.kind x.fault.offset)
   first_of x e = first_reported law o.keep_going limit c (x.fault, all_found x.refusal) e
 
-  pub fault_shown : (r : Result (Unit {0}) ShowFault) → first_report (messages o.keep_going limit c) ≡ reported_by r → IfErr r (λ x. x.fault.kind ≢ Memory → (first_fault limit c ≡ Some x.fault) × (new ≡ old ++ shown o limit c))
+  pub fault_shown : (r : Result (Unit {0}) ShowFault) → first_report (messages o.keep_going limit c) ≡ reported_by r → IfErr r (λ x. x.fault.kind ≢ Memory → (first_fault link_body limit c ≡ Some x.fault) × (new ≡ old ++ shown o limit c))
   fault_shown (Ok u) e = tt
   fault_shown (Err x) e = λ m. ((first_of x e).0, lines)
 

@@ -3,7 +3,7 @@ use Rattle.std.proofs.Common.{◌≡◌, ℕ, ◌+◌, ◌≤◌, ◌<◌, true,
 use Rattle.std.proofs.lemmas.List.{take-append-le}
 use Rattle.netlink_packet_core_grammar.proofs.Numbers.{u32_at-append}
 use Rattle.netlink_packet_core_grammar.specs.Attributes.{nla_align}
-use Rattle.netlink_packet_core_grammar.specs.Frames.{IsFrame, frame_length}
+use Rattle.netlink_packet_core_grammar.specs.Frames.{BeginsWithFrame, frame_length}
 use Rattle.link_message_grammar.specs.Body.{link_body}
 use Rattle.link_capture_grammar.specs.Captures.{first_frame}
 use Rattle.link_capture_grammar.specs.Laws.{FramesAreIndependent}
@@ -41,7 +41,7 @@ is_accepted frames go o limit offset c text old new before now n e lines report 
 of_body_differs : (kind : FaultKind) → is_of_body kind ≡ true → kind ≡ Cut → ⊥
 of_body_differs kind b e = let bad : false ≡ true = sym (ap is_of_body e) ∙ b in cc
 
-err_kind : (a b : FaultKind) (c : List ℕ) (limit : ℕ) → first_frame limit c ≡ Err a → first_frame limit c ≡ Err b → a ≡ b
+err_kind : (a b : FaultKind) (c : List ℕ) (limit : ℕ) → first_frame link_body limit c ≡ Err a → first_frame link_body limit c ≡ Err b → a ≡ b
 err_kind a b c limit e f = cc
 
 pub is_faulty : FramesAreIndependent link_body → MessagesUnfold → (o : Selection) (limit offset : ℕ) (c text old new : List ℕ) (before now : Option Report) (kind : FaultKind) (n : ℕ) → IsJudged limit c text (J.Faulty kind n) → o.keep_going ≡ true → new ≡ old ++ message_lines o (Faulty offset kind (frame_of c)) → now ≡ or_else before (Some (report_of offset kind (frame_of c))) →
@@ -53,12 +53,12 @@ is_faulty frames go o limit offset c text old new before now kind n e goes lines
       (λ t.
           let same : frame_length (c ++ t) ≡ frame_length c = u32_at-append c t (omega (arith, frame.has_header)) in
           let own : frame_of (c ++ t) ≡ frame_of c = ap (λ m. take m (c ++ t)) same ∙ take-append-le (frame_length c) c t frame.within in
-          let whole : IsFrame (c ++ t) = record {
+          let whole : BeginsWithFrame (c ++ t) = record {
             has_header = omega (arith, frame.has_header, length-append c t);
             covers_header = omega (arith, frame.covers_header, same);
             within = omega (arith, frame.within, same, length-append c t);
           } in
-          let judged : first_frame limit (c ++ t) ≡ Err kind = frames.unchanged_by_more limit c t (λ x. of_body_differs kind e.1 (err_kind kind Cut c limit e.0 x)) ∙ e.0 in
+          let judged : first_frame link_body limit (c ++ t) ≡ Err kind = frames.unchanged_by_more limit c t (λ x. of_body_differs kind e.1 (err_kind kind Cut c limit e.0 x)) ∙ e.0 in
           let k = o.keep_going in
           ap (λ b. messages_at b limit offset (c ++ t)) goes ∙ go.faulty limit offset (c ++ t) kind judged e.1 whole
           ∙ ap (λ f. Faulty offset kind f ∷ messages_at true limit (offset + nla_align (frame_length (c ++ t))) (drop (nla_align (frame_length (c ++ t))) (c ++ t))) own

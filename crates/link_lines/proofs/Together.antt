@@ -34,9 +34,9 @@ lines_of_messages = plain.lines_of_messages_are_of_texts (captures_unfold_by_fra
 
 pub lines_depend_on_meaning : LinesDependOnMeaning
 lines_depend_on_meaning choice limit c small = record {
-  normal = ap (text_lines choice) (in_force.texts_are_normal limit c small);
+  normal = ap (text_lines choice) (in_force.texts_are_canonical limit c small);
   same = λ other h. ap (text_lines choice) (sym (in_force.texts_determine_meanings.same_implies_equal_text limit c other h));
-  joined = λ h m rest. ap (text_lines choice) (in_force.joined_captures_have_joined_texts limit c rest h m) ∙ joined choice limit c (texts limit rest) small;
+  joined = λ h m rest. ap (text_lines choice) (in_force.joined_captures_have_joined_texts limit c rest h m) ∙ joined choice limit c (texts link_body limit rest) small;
 }
 
 pub lines_determine_contents : LinesDetermineContents

@@ -5,7 +5,7 @@ use Rattle.link_lines_values.specs.Bytes.{escaped}
 use Rattle.link_lines_parts.specs.Lines.{after_first_word, first_word, level, lines_of, words_of}
 use Rattle.link_lines_parts.specs.Remaining.{is_header, is_index_field}
 
--- A word as it is shown in quotes, and the end of its line.
+-- What follows the opening quote of a word: the escaped word, the closing quote, and the end of the line.
 abbrev pub quoted_end : List ℕ → List ℕ
 quoted_end word = flat_map escaped word ++ codes "\"\n"
 
@@ -34,13 +34,13 @@ abbrev pub is_index_line : List ℕ → List ℕ → Bool
 is_index_line link line =
     (((level line == 1) && is_header line) || is_next_hop line) && has_index link false (words_of line)
 
--- Whether an attribute's name is that of the index of the link that a message of another type than links' is about.
+-- Whether an attribute with this name, of routes, next hops or netconf, has a link's index.
 abbrev pub is_index_name : List ℕ → Bool
 is_index_name name =
     bytes_eq name (codes "RTA_OIF") || (bytes_eq name (codes "RTA_IIF") ||
     (bytes_eq name (codes "NHA_OIF") || bytes_eq name (codes "NETCONFA_IFINDEX")))
 
--- Whether a line is that of such an attribute, with this index.
+-- Whether a line is that of an attribute with such a name, with this index.
 abbrev pub is_index_attribute : List ℕ → List ℕ → Bool
 is_index_attribute link line =
     (level line == 1) && (is_index_name (first_word line) && has_index link true (words_of (after_first_word line)))

@@ -30,21 +30,21 @@ pub record Selection : Type 0 where
   pub keep_going : Bool
   pub json : Bool
 
--- The lines of normal texts of which a selection is made: whether numbers are shown, and which types.
+-- How lines are written, before some are left out: whether numbers are shown, and which types.
 abbrev pub choice_of : Selection → Choice
 choice_of o = record { numbers = not o.omitted.numbers && o.numbers; only = o.only }
 
 -- Whether a message's lines are about a link, if one is given.
-abbrev pub is_about_any : Option (List ℕ) → List ℕ → Bool
-is_about_any None lines = true
-is_about_any (Some link) lines = is_about lines link
+abbrev pub is_about_given : Option (List ℕ) → List ℕ → Bool
+is_about_given None lines = true
+is_about_given (Some link) lines = is_about lines link
 
--- What is shown of a message's lines: if they are about the link, those that remain.
+-- The lines that remain of a message; none if they aren't about the link.
 abbrev pub selected : Selection → List ℕ → List ℕ
-selected o lines = cond (is_about_any o.link lines) (remaining_lines o.omitted lines) []
+selected o lines = cond (is_about_given o.link lines) (remaining_lines o.omitted lines) []
 
--- All lines of messages about any link are shown.
-pub record IsWhole (o : Selection) : Type 0 where
+-- No link is given, and nothing but numbers is left out.
+pub record SelectsAllLines (o : Selection) : Type 0 where
   pub link : o.link ≡ None
   pub omitted : o.omitted ≡ numbers_omitted o.omitted.numbers
 
@@ -67,33 +67,33 @@ unfoldable pub faulty_lines : Bool → FaultKind → List ℕ → List ℕ
 faulty_lines numbers kind frame =
     frame_lines numbers (take 16 frame) ++ (refusal_line kind frame ++ bytes_line (codes "body") (drop 16 frame))
 
--- Lines with the message's offset, if it is shown; none if there are none.
-abbrev pub located : Bool → ℕ → List ℕ → List ℕ
-located false offset lines = lines
-located true offset [] = []
-located true offset (b ∷ lines) = with_offset offset (b ∷ lines)
+-- Lines with the message's offset, if offsets are shown; none if there are none.
+abbrev pub lines_with_offset : Bool → ℕ → List ℕ → List ℕ
+lines_with_offset false offset lines = lines
+lines_with_offset true offset [] = []
+lines_with_offset true offset (b ∷ lines) = with_offset offset (b ∷ lines)
 
 -- Lines, or the object of JSON that they become.
-abbrev pub formed : Bool → List ℕ → List ℕ
-formed false lines = lines
-formed true lines = json lines
+abbrev pub lines_or_json : Bool → List ℕ → List ℕ
+lines_or_json false lines = lines
+lines_or_json true lines = json lines
 
 -- What is shown of the lines of a message at an offset.
-abbrev pub placed_lines : Selection → ℕ → List ℕ → List ℕ
-placed_lines o offset lines = formed o.json (located o.offsets offset (selected o lines))
+abbrev pub output_lines : Selection → ℕ → List ℕ → List ℕ
+output_lines o offset lines = lines_or_json o.json (lines_with_offset o.offsets offset (selected o lines))
 
 -- The lines of a message. One at which showing stops has none.
 abbrev pub message_lines : Selection → Message → List ℕ
-message_lines o (Accepted offset text) = placed_lines o offset (text_lines (choice_of o) text)
+message_lines o (Accepted offset text) = output_lines o offset (text_lines (choice_of o) text)
 message_lines o (Faulty offset kind frame) =
-    placed_lines o offset
+    output_lines o offset
     (cond (is_chosen o.only (frame_type frame)) (faulty_lines (choice_of o).numbers kind frame) [])
 message_lines o (Last offset kind frame) = []
 
 -- The lines of messages.
-unfoldable pub messages_lines : Selection → List Message → List ℕ
-messages_lines o ms = flat_map (message_lines o) ms
+unfoldable pub lines_of_messages : Selection → List Message → List ℕ
+lines_of_messages o ms = flat_map (message_lines o) ms
 
 -- The lines of a capture that are shown.
 abbrev pub shown : Selection → ℕ → List ℕ → List ℕ
-shown o limit c = messages_lines o (messages o.keep_going limit c)
+shown o limit c = lines_of_messages o (messages o.keep_going limit c)

@@ -9,6 +9,7 @@ use Rattle.link_capture_grammar.specs.declared.fault.CaptureFault.{CaptureFault}
 use Rattle.link_capture_grammar.specs.declared.fault.FaultKind.{FaultKind}
 use Rattle.link_capture_grammar.specs.declared.fault.FaultKind.TheVariants.{EmptyPorts, Refused, TextOverLimit, Unfit}
 use Rattle.link_capture_refusals.specs.Refusals.{Found, frame_refusal}
+use Rattle.link_message_grammar.specs.Body.{link_body}
 
 -- A message at an offset: accepted, with its normal text; or with a fault of its body, and its bytes, and followed by
 -- others; or with the fault at which showing stops, and its bytes if the fault is one of its body.
@@ -40,9 +41,9 @@ next_messages keep_going offset frame (Err kind) more =
 abbrev pub frames_messages : Bool → ℕ → ℕ → List (List ℕ) → List ℕ → List Message
 frames_messages keep_going limit offset [] [] = []
 frames_messages keep_going limit offset [] (b ∷ c) =
-    next_messages keep_going offset (frame_of (b ∷ c)) (first_frame limit (b ∷ c)) []
+    next_messages keep_going offset (frame_of (b ∷ c)) (first_frame link_body limit (b ∷ c)) []
 frames_messages keep_going limit offset (f ∷ fs) rest =
-    next_messages keep_going offset (frame_of f) (first_frame limit f)
+    next_messages keep_going offset (frame_of f) (first_frame link_body limit f)
     (frames_messages keep_going limit (offset + nla_align (frame_length f)) fs rest)
 
 -- The messages of bytes at an offset of a capture.

@@ -7,7 +7,7 @@ use Rattle.std.specs.Str.Parse.{IsNumeral, digits_value}
 use Rattle.link_lines_values.specs.Names.{Text}
 use Rattle.link_lines_values.specs.NumberTexts.{number_texts}
 use Rattle.link_lines_values.specs.declared.number_texts.TheConstants.{MESSAGE_TYPE}
-use Rattle.link_lines.specs.Words.{Step, WordFault}
+use Rattle.link_lines.specs.Words.{WordStep, WordFault}
 
 -- Whether a byte is `_`.
 abbrev pub is_underscore : ℕ → Bool
@@ -38,7 +38,7 @@ abbrev pub IsTypeWord : List ℕ → ℕ → Type 0
 IsTypeWord w t = (named_type w ≡ Some t) ⊎ ((named_type w ≡ None) × IsTypeNumber w × (t ≡ digits_value 10 w))
 
 -- What one more word adds to a list of at most 32 types.
-abbrev pub TakesType : Step (List ℕ)
+abbrev pub TakesType : WordStep (List ℕ)
 TakesType ts w (Ok us) = (length ts < 32) × ((t : ℕ) × IsTypeWord w t × (us ≡ ts ++ t ∷ []))
 TakesType ts w (Err (WordFault.Unknown v)) = (v ≡ w) × ((t : ℕ) → IsTypeWord w t → ⊥)
 TakesType ts w (Err WordFault.TooMany) = (length ts ≡ 32) × ((t : ℕ) × IsTypeWord w t)

@@ -5,14 +5,14 @@ use Rattle.std.specs.Str.{str_eq_ignore_ascii_case}
 use Rattle.link_lines_parts.specs.Remaining.{Omitted}
 use Rattle.link_lines_raw.specs.NameSearch.{first_name, raw_name}
 use Rattle.link_lines_texts.specs.NameSearch.{text_name}
-use Rattle.link_lines.specs.Words.{Step, WordFault}
+use Rattle.link_lines.specs.Words.{WordStep, WordFault}
 
 -- The attributes with tables of rates and sizes.
 abbrev pub table_names : List (List ℕ)
 table_names =
     codes "TCA_HTB_CTAB" ∷ codes "TCA_HTB_RTAB" ∷ codes "TCA_STAB_DATA" ∷ codes "TCA_TBF_PTAB" ∷ codes "TCA_TBF_RTAB" ∷ []
 
--- Attributes are left out too, if there are at most 32.
+-- x with these names too, if that makes at most 32.
 abbrev pub with_names : Omitted → List (List ℕ) → Option Omitted
 with_names x names =
     cond (nat_le (length x.names + length names) 32) (Some (record x { names = x.names ++ names })) None
@@ -21,16 +21,16 @@ with_names x names =
 abbrev pub attribute_name : List ℕ → Option (List ℕ)
 attribute_name w = first_name (raw_name w) (text_name w)
 
--- The first word of lines that the word is: of those of padding, or of an attribute.
+-- `padding`, or the name of an attribute, that the word is.
 abbrev pub line_name : List ℕ → Option (List ℕ)
 line_name w = cond (str_eq_ignore_ascii_case w (codes "padding")) (Some (codes "padding")) (attribute_name w)
 
--- What is left out with one more attribute, or too many.
+-- The result, or `TooMany`.
 abbrev pub or_too_many : Option Omitted → Result Omitted WordFault
 or_too_many None = Err WordFault.TooMany
 or_too_many (Some x) = Ok x
 
--- What is left out by the first word of lines that a word is, if it is one.
+-- x with the name that was found for the word w, or `Unknown`.
 abbrev pub with_found : Omitted → List ℕ → Option (List ℕ) → Result Omitted WordFault
 with_found x w None = Err (WordFault.Unknown w)
 with_found x w (Some name) = or_too_many (with_names x (name ∷ []))
@@ -44,6 +44,6 @@ with_word x w =
     (cond (str_eq_ignore_ascii_case w (codes "tables")) (or_too_many (with_names x table_names))
     (with_found x w (line_name w)))))
 
--- The same as a step of a list of words.
-abbrev pub TakesWord : Step Omitted
+-- `with_word`, as a step of `Reads`.
+abbrev pub TakesWord : WordStep Omitted
 TakesWord x w r = r ≡ with_word x w

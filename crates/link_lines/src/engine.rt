@@ -1,15 +1,15 @@
 //! The lines of a capture, from a source to a sink.
 
 ghost use Rattle.std.specs.Prelude.{◌≡◌, ◌⊎◌, ◌<◌, ◌≤◌, ◌+◌, length, drop, vec_capacity, IfSome, IfNone, OnErr, OnOk, Some, None};
-ghost use Rattle.netlink_packet_core_grammar.specs.Frames.{IsFrame};
+ghost use Rattle.netlink_packet_core_grammar.specs.Frames.{BeginsWithFrame};
 ghost use Rattle.link_capture_grammar.specs.declared.fault.FaultKind.{FaultKind};
-ghost use Rattle.link_capture_reader.specs.Devices.{Rises, ReportsItsEnd};
+ghost use Rattle.link_capture_reader.specs.States.{source_state, sink_state};
 ghost use Rattle.link_capture_reader.specs.Readers.{CanKeep};
 ghost use Rattle.link_lines.specs.Messages.{frame_of, report_of};
 ghost use Rattle.link_lines.specs.Options.{selection_of};
 ghost use Rattle.link_lines.specs.Outcomes.{Shows, ShowsKeeping};
 ghost use Rattle.link_lines.specs.Refused.{without_refusal};
-ghost use Rattle.link_lines.specs.Walks.{FinishedWith, continued, left_to_show, or_else, report_in};
+ghost use Rattle.link_lines.specs.Walks.{FinishedWith, cut_with_piece, left_to_show, or_else, report_in};
 
 use crate::faulty::fault_of;
 use crate::message_laws::{first_faults_are_reported, messages_unfold};
@@ -43,7 +43,7 @@ fn reserve_piece(rest: &mut Vec<u8>, size: usize) -> Result<(), AllocError>
 /// Continues a cut message by a piece for which memory was reserved.
 fn continue_message(rest: &mut Vec<u8>, piece: &[u8])
     requires { CanKeep rest.old.items (vec_capacity rest.old) (length piece.now) }
-    ensures { rest.new.items ≡ continued rest.old.items piece.now }
+    ensures { rest.new.items ≡ cut_with_piece rest.old.items piece.now }
 {
     if !rest.is_empty() {
         let appended = rest.extend_from_slice(piece);
@@ -94,7 +94,7 @@ pub(crate) fn stopped_by(
     offset: u64,
     bytes: &[u8],
 ) -> ShowFault
-    requires { kind ≡ FaultKind.Refused → IsFrame bytes.now }
+    requires { kind ≡ FaultKind.Refused → BeginsWithFrame bytes.now }
     ensures { report_in (Some result)
         ≡ or_else (report_in found) (Some (report_of offset kind (frame_of bytes.now))) }
 {
@@ -145,11 +145,9 @@ pub fn show<S: Source, K: Sink>(
     options: &ShowOptions<'_>,
 ) -> Result<bool, ShowFault>
     requires { 16 ≤ limit }
-    ensures { Shows (selection_of options.now) (S.to_come source.old) (S.to_come source.new)
-        (K.holds sink.old) (K.holds sink.new)
-        (ReportsItsEnd (S.ends_reported source.old) (S.ends_reported source.new) (S.to_come source.new))
-        (Rises (S.failures source.old) (S.failures source.new))
-        (Rises (K.failures sink.old) (K.failures sink.new)) limit result }
+    ensures { Shows (selection_of options.now) (source_state S.to_come S.failures S.ends_reported source.old)
+        (source_state S.to_come S.failures S.ends_reported source.new)
+        (sink_state K.holds K.failures sink.old) (sink_state K.holds K.failures sink.new) limit result }
 {
     show_keeping_first(alloc, source, sink, limit, options, &mut FirstBytes::new())
 }
@@ -169,10 +167,9 @@ pub fn show_keeping_first<S: Source, K: Sink>(
 ) -> Result<bool, ShowFault>
     requires { 16 ≤ limit }
     ensures { ShowsKeeping first.new.items (selection_of options.now)
-        (S.to_come source.old) (S.to_come source.new) (K.holds sink.old) (K.holds sink.new)
-        (ReportsItsEnd (S.ends_reported source.old) (S.ends_reported source.new) (S.to_come source.new))
-        (Rises (S.failures source.old) (S.failures source.new))
-        (Rises (K.failures sink.old) (K.failures sink.new)) limit result }
+        (source_state S.to_come S.failures S.ends_reported source.old)
+        (source_state S.to_come S.failures S.ends_reported source.new)
+        (sink_state K.holds K.failures sink.old) (sink_state K.holds K.failures sink.new) limit result }
 {
     first.clear();
     messages_unfold();

@@ -1,7 +1,7 @@
 //! Messages with a fault of their body: their lines, and the fault as it is reported.
 
 ghost use Rattle.std.specs.Prelude.{◌≡◌, map};
-ghost use Rattle.netlink_packet_core_grammar.specs.Frames.{IsFrame};
+ghost use Rattle.netlink_packet_core_grammar.specs.Frames.{BeginsWithFrame};
 ghost use Rattle.link_capture_grammar.specs.declared.fault.FaultKind.{FaultKind};
 ghost use Rattle.link_capture_refusals.specs.RefusalTexts.{path_text};
 ghost use Rattle.link_capture_refusals.specs.RefusalViews.{all_found};
@@ -44,7 +44,7 @@ fn push_path(path: &[&'static str], out: &mut Vec<u8>) -> Result<(), AllocError>
 
 /// Appends the reason why a message's body isn't accepted, given the message's bytes.
 fn push_reason(kind: FaultKind, frame: &[u8], out: &mut Vec<u8>) -> Result<(), AllocError>
-    requires { IsFrame frame.now }
+    requires { BeginsWithFrame frame.now }
     ensures { Appends out.old out.new result (body_reason kind frame.now) }
 {
     match kind {
@@ -62,7 +62,7 @@ fn push_reason(kind: FaultKind, frame: &[u8], out: &mut Vec<u8>) -> Result<(), A
 /// Appends the line with the reason why a message's body isn't accepted.
 #[tactic(auto, unfolding(crate::specs::MessageLines::refusal_line))]
 fn push_refusal_line(kind: FaultKind, frame: &[u8], out: &mut Vec<u8>) -> Result<(), AllocError>
-    requires { IsFrame frame.now }
+    requires { BeginsWithFrame frame.now }
     ensures { Appends out.old out.new result (refusal_line kind frame.now) }
 {
     out.extend_from_slice(b"  refused: ")?;
@@ -79,7 +79,7 @@ pub(crate) fn push_faulty(
     frame: &[u8],
     out: &mut Vec<u8>,
 ) -> Result<(), AllocError>
-    requires { IsFrame frame.now }
+    requires { BeginsWithFrame frame.now }
     ensures { AppendsWith 16 out.old out.new result (faulty_lines numbers kind frame.now) }
 {
     push_frame(&frame[..NETLINK_HEADER_LEN], numbers, out)?;
@@ -89,7 +89,7 @@ pub(crate) fn push_faulty(
 
 /// Returns the first message, by the length in its header, without its padding.
 pub(crate) fn frame_of(bytes: &[u8]) -> &[u8]
-    requires { IsFrame bytes.now }
+    requires { BeginsWithFrame bytes.now }
     ensures { result.now ≡ frame_of bytes.now }
 {
     &bytes[..NetlinkBuffer::new(bytes).length() as usize]
@@ -98,7 +98,7 @@ pub(crate) fn frame_of(bytes: &[u8]) -> &[u8]
 /// Returns the reason why the first message's body is refused; None if the message ends 2^63 bytes
 /// or more after the capture's start.
 fn refusal_of(offset: u64, bytes: &[u8]) -> Option<Refusal>
-    requires { IsFrame bytes.now }
+    requires { BeginsWithFrame bytes.now }
     ensures { all_found result ≡ frame_reason FaultKind.Refused offset (frame_of bytes.now) }
 {
     let frame = frame_of(bytes);
@@ -111,7 +111,7 @@ fn refusal_of(offset: u64, bytes: &[u8]) -> Option<Refusal>
 /// Returns the fault of the first message, which is at an offset of the capture, with the reason if
 /// it is a refused body.
 pub(crate) fn fault_of(kind: FaultKind, offset: u64, bytes: &[u8]) -> ShowFault
-    requires { kind ≡ FaultKind.Refused → IsFrame bytes.now }
+    requires { kind ≡ FaultKind.Refused → BeginsWithFrame bytes.now }
     ensures fault { result.fault ≡ record { kind = kind; offset = offset } }
     ensures refusal { all_found result.refusal ≡ frame_reason kind offset (frame_of bytes.now) }
 {

@@ -1,10 +1,10 @@
 //! The messages of a capture, one after the other.
 
 ghost use Rattle.std.specs.Prelude.{◌≡◌, ◌≤◌, ◌<◌, ◌+◌, ◌%◌, ◌^◌, ◌++◌, length, drop, IfErr, IfOk, OnErr, OnOk, Some};
-ghost use Rattle.netlink_packet_core_grammar.specs.Frames.{IsFrame, frame_length};
+ghost use Rattle.netlink_packet_core_grammar.specs.Frames.{BeginsWithFrame, frame_length};
 ghost use Rattle.link_lines_values.specs.Appends.{Appends};
-ghost use Rattle.link_lines.specs.Memory.{Becomes, LacksMemory, LacksPlaced, LacksShown, LacksText};
-ghost use Rattle.link_lines.specs.MessageLines.{formed, located, message_lines, placed_lines, selected};
+ghost use Rattle.link_lines.specs.Memory.{ReplacesLines, LacksMemory, LacksOutputCapacity, LacksShown, LacksText};
+ghost use Rattle.link_lines.specs.MessageLines.{lines_or_json, lines_with_offset, message_lines, output_lines, selected};
 ghost use Rattle.link_lines.specs.Messages.{Message.Accepted, Message.Faulty, frame_of, report_of};
 ghost use Rattle.link_lines.specs.Options.{selection_of};
 ghost use Rattle.link_lines.specs.Outcomes.{IsAccepted, IsToBeShown};
@@ -96,7 +96,7 @@ fn judge_frame(
     limit: u32,
     text: &mut Vec<u8>,
 ) -> Result<Judgement, AllocError>
-    requires frame { IsFrame bytes.now }
+    requires frame { BeginsWithFrame bytes.now }
     requires len { len ≡ frame_length bytes.now }
     ensures ok { IfOk result (λ judgement. IsJudged limit bytes.now text.new.items judgement) }
     ensures memory { OnErr result (IsAccepted limit bytes.now) }
@@ -133,7 +133,7 @@ fn select(
     lines: &mut Vec<u8>,
     spare: &mut Vec<u8>,
 ) -> Result<(), AllocError>
-    ensures { Becomes lines.old spare.old lines.new spare.new result
+    ensures { ReplacesLines lines.old spare.old lines.new spare.new result
         (selected (selection_of options.now) lines.old.items) }
 {
     nothing_omitted_keeps_all();
@@ -155,8 +155,8 @@ fn locate(
     lines: &mut Vec<u8>,
     spare: &mut Vec<u8>,
 ) -> Result<(), AllocError>
-    ensures { Becomes lines.old spare.old lines.new spare.new result
-        (located offsets offset lines.old.items) }
+    ensures { ReplacesLines lines.old spare.old lines.new spare.new result
+        (lines_with_offset offsets offset lines.old.items) }
 {
     if !offsets || lines.is_empty() {
         return Ok(());
@@ -169,7 +169,7 @@ fn locate(
 
 /// Leaves in `lines` the object of JSON that they become, if it is shown.
 fn form(json: bool, lines: &mut Vec<u8>, spare: &mut Vec<u8>) -> Result<(), AllocError>
-    ensures { Becomes lines.old spare.old lines.new spare.new result (formed json lines.old.items) }
+    ensures { ReplacesLines lines.old spare.old lines.new spare.new result (lines_or_json json lines.old.items) }
 {
     if !json {
         return Ok(());
@@ -203,8 +203,8 @@ fn push_placed(
     out: &mut Vec<u8>,
 ) -> Result<(), AllocError>
     ensures ok { OnOk result (out.new.items ≡ out.old.items
-        ++ placed_lines (selection_of options.now) offset lines.old.items) }
-    ensures memory { OnErr result (LacksPlaced (selection_of options.now) offset lines.old.items
+        ++ output_lines (selection_of options.now) offset lines.old.items) }
+    ensures memory { OnErr result (LacksOutputCapacity (selection_of options.now) offset lines.old.items
         lines.old spare.old out.old) }
     ensures err { OnErr result (out.new.items ≡ out.old.items) }
 {
@@ -244,7 +244,7 @@ fn push_refused(
     buffers: &mut Buffers,
     out: &mut Vec<u8>,
 ) -> Result<(), AllocError>
-    requires { IsFrame frame.now }
+    requires { BeginsWithFrame frame.now }
     ensures ok { OnOk result (out.new.items ≡ out.old.items
         ++ message_lines (selection_of options.now) (Faulty offset kind frame.now)) }
     ensures memory { OnErr result (LacksShown (selection_of options.now)
@@ -261,7 +261,7 @@ fn push_refused(
 
 /// Keeps the fault of the first message of `bytes`, if none was kept before.
 fn keep_fault(found: &mut Option<ShowFault>, kind: FaultKind, offset: u64, bytes: &[u8])
-    requires { IsFrame bytes.now }
+    requires { BeginsWithFrame bytes.now }
     ensures { report_in found.new
         ≡ or_else (report_in found.old) (Some (report_of offset kind (frame_of bytes.now))) }
 {

@@ -2,7 +2,7 @@
 
 ghost use Rattle.std.specs.Prelude.{◌≡◌, IsTrue};
 ghost use Rattle.link_lines_texts.specs.Captures.{everything, is_among, is_chosen};
-ghost use Rattle.link_lines.specs.MessageLines.{IsWhole, choice_of, is_about_any};
+ghost use Rattle.link_lines.specs.MessageLines.{SelectsAllLines, choice_of, is_about_given};
 ghost use Rattle.link_lines.specs.MessageLaws.{plain};
 ghost use Rattle.link_lines.specs.Options.{selection_of};
 
@@ -81,14 +81,14 @@ impl ShowOptions<'_> {
 
     /// Returns whether messages are shown with all their lines, whatever link they are about.
     pub(crate) fn selects_all(&self) -> bool
-        ensures { IsTrue result → IsWhole (selection_of self.now) }
+        ensures { IsTrue result → SelectsAllLines (selection_of self.now) }
     {
         self.link.is_none() && self.without.keeps_lines()
     }
 
     /// Returns whether a message's lines are about the link, if one is given.
     pub(crate) fn is_about_link(&self, lines: &[u8]) -> bool
-        ensures { result ≡ is_about_any (selection_of self.now).link lines.now }
+        ensures { result ≡ is_about_given (selection_of self.now).link lines.now }
     {
         match self.link {
             Some(link) => is_about(lines, link),

@@ -9,6 +9,7 @@ ghost use Rattle.link_lines.specs.Options.{selection_of};
 ghost use Rattle.link_lines.specs.Outcomes.{RunsOutAt};
 ghost use Rattle.link_lines.specs.Refused.{reported_refusal};
 ghost use Rattle.link_lines.specs.Walks.{Ends, last_report, or_else, report_in, reported_by};
+ghost use Rattle.link_message_grammar.specs.Body.{link_body};
 
 use crate::engine::{fault_at, stopped_by};
 use crate::message_laws::{first_faults_are_reported, messages_unfold};
@@ -61,12 +62,12 @@ pub fn show_bytes(
 ) -> Result<(), ShowFault>
     requires { 16 ≤ limit }
     // It succeeds only on legal captures, and appends their lines.
-    ensures legal { OnOk result (IsLegal limit bytes.now
+    ensures legal { OnOk result (IsLegal link_body limit bytes.now
         × GainsShown (selection_of options.now) limit bytes.now out.old out.new) }
     // Otherwise it returns the first fault, unless an allocation fails, and appends the lines that
     // are shown.
     ensures fault { IfErr result
-        (λ e. e.fault.kind ≢ FaultKind.Memory → (first_fault limit bytes.now ≡ Some e.fault)
+        (λ e. e.fault.kind ≢ FaultKind.Memory → (first_fault link_body limit bytes.now ≡ Some e.fault)
         × GainsShown (selection_of options.now) limit bytes.now out.old out.new) }
     // The reason is that of the refused body, if the fault is one.
     ensures refusal { IfErr result

@@ -17,14 +17,14 @@ start_of_text c body text header small is =
     let size : frame_length text ≡ 16 + length body = ap (λ t. frame_length t) (is ∙ sym (append-nil (frame_text c body))) ∙ text_length c body [] small in
     ap (λ n. take n text) size ∙ ap (take (16 + length body)) is ∙ in_text c body header
 
-canonical : (limit : ℕ) (c : List ℕ) (frame : ℕ × List ℕ) → limit < 2 ^ 32 → AreBytes c → first_frame limit c ≡ Ok frame → IsCanonicalFrame (unpadded frame.1)
+canonical : (limit : ℕ) (c : List ℕ) (frame : ℕ × List ℕ) → limit < 2 ^ 32 → AreBytes c → first_frame link_body limit c ≡ Ok frame → IsCanonicalFrame (unpadded frame.1)
 canonical limit c frame l p e =
     let i = texted link_body limit c frame e in
     let header = (accepted link_body limit c frame e).header in
     let small : 16 + length i.body < 2 ^ 32 = omega (arith, i.fits, l) in
     subst IsCanonicalFrame (sym (start_of_text c i.body frame.1 header small i.text_is)) (unpadded_is_canonical c i.body header small p i.body_is)
 
-lines : (o : Choice) (limit : ℕ) (c : List ℕ) (frame : ℕ × List ℕ) → limit < 2 ^ 32 → first_frame limit c ≡ Ok frame → text_lines o frame.1 ≡ shown_lines o (unpadded frame.1)
+lines : (o : Choice) (limit : ℕ) (c : List ℕ) (frame : ℕ × List ℕ) → limit < 2 ^ 32 → first_frame link_body limit c ≡ Ok frame → text_lines o frame.1 ≡ shown_lines o (unpadded frame.1)
 lines o limit c frame l e =
     let i = texted link_body limit c frame e in
     let header = (accepted link_body limit c frame e).header in

@@ -6,13 +6,13 @@ use Rattle.std.proofs.lemmas.Option.{same_Some}
 use Rattle.netlink_packet_core_grammar.specs.Attributes.{Attribute, attribute_header, attribute_length, attribute_text, first_attribute, if_some, list_text, nla_align, zeros}
 use Rattle.netlink_packet_core_grammar.specs.Bytes.{AreBytes}
 use Rattle.netlink_packet_core_grammar.proofs.Attributes.{attributes_of_text, first_attribute_text}
-use Rattle.attribute_tables_grammar.specs.Lists.{Context, Grammar, ListForm, Row, all_accepted, any, first_only, if_read, is_of_kind_one, kept, list_rule, non_empty, not_empty, nothing, of_kind_one, ports, read_as, rewrite, rewritten, row_of, written_kind}
+use Rattle.attribute_tables_grammar.specs.Lists.{Context, Grammar, ListForm, Row, all_accepted, any, first_only, if_read, is_of_kind_one, kept, list_rule, non_empty, unless_empty, no_kind_in_force, of_kind_one, ports, read_as, canonical_form, canonical_forms, row_of, canonical_kind}
 use Rattle.link_lines_texts.specs.Determination.{IsCanonical}
 
 -- An attribute that its row accepts and leaves unchanged.
 pub record CanonicalAttribute (r : Row) (e : Attribute) : Type 0 where
   pub small : e.kind < 65536
-  pub kind : written_kind r e.kind ≡ e.kind
+  pub kind : canonical_kind r e.kind ≡ e.kind
   pub payload : IsCanonical r.rule e.payload
 
 -- Attributes in order, each under its row.
@@ -23,7 +23,7 @@ AllCanonical g c (e ∷ es) = CanonicalAttribute (row_of g c e) e × AllCanonica
 pub record CanonicalList (g : Grammar) (p : List ℕ) : Type 0 where
   pub attributes : List Attribute
   pub is : p ≡ list_text attributes
-  pub own : AllCanonical g nothing attributes
+  pub own : AllCanonical g no_kind_in_force attributes
 
 -- ---- bytes
 
@@ -61,12 +61,12 @@ abbrev first_or : Attribute → List Attribute → Attribute
 first_or d [] = d
 first_or d (e ∷ es) = e
 
-all_canonical : (g : Grammar) (c : Context) (es : List Attribute) → es ≡ rewritten g c es → all_accepted g c es ≡ true → AreBytes (list_text es) → AllCanonical g c es
-unfolding rewritten all_accepted
+all_canonical : (g : Grammar) (c : Context) (es : List Attribute) → es ≡ canonical_forms g c es → all_accepted g c es ≡ true → AreBytes (list_text es) → AllCanonical g c es
+unfolding canonical_forms all_accepted
 all_canonical g c [] h a b = record {}
 all_canonical g c (e ∷ es) h a b =
     let r = row_of g c e in
-    let same : e ≡ rewrite r e = ap (first_or e) h in
+    let same : e ≡ canonical_form r e = ap (first_or e) h in
     let parts = and_parts (r.rule.accepted e.payload) (all_accepted g (g.next c e) es) a in
     let bytes = bytes_of e es b in (
       record {
@@ -79,8 +79,8 @@ all_canonical g c (e ∷ es) h a b =
 
 -- ---- the attributes read from such a list are those that are written
 
-rewritten_length : (g : Grammar) (c : Context) (es : List Attribute) → length (rewritten g c es) ≡ length es
-unfolding rewritten
+rewritten_length : (g : Grammar) (c : Context) (es : List Attribute) → length (canonical_forms g c es) ≡ length es
+unfolding canonical_forms
 rewritten_length g c [] = refl
 rewritten_length g c (e ∷ es) = ap suc (rewritten_length g (g.next c e) es)
 
@@ -102,7 +102,7 @@ all_kept : (f : Attribute → Bool) (es : List Attribute) → length (filter f e
 all_kept f [] l = refl
 all_kept f (e ∷ es) l = kept_by f e es (f e) (filtered_length f es) (all_kept f es) l
 
-filled : (gs es : List Attribute) → not_empty gs ≡ Some es → gs ≡ es
+filled : (gs es : List Attribute) → unless_empty gs ≡ Some es → gs ≡ es
 filled [] es h = absurd cc
 filled (g ∷ gs) es h = same_Some (g ∷ gs) es h
 
@@ -114,45 +114,45 @@ same_implies_equal_text : (e : Attribute) → list_text (e ∷ []) ≡ attribute
 unfolding list_text
 same_implies_equal_text e = refl
 
-one_rewritten : (g : Grammar) (e : Attribute) → rewritten g nothing (e ∷ []) ≡ rewrite (row_of g nothing e) e ∷ []
-unfolding rewritten
+one_rewritten : (g : Grammar) (e : Attribute) → canonical_forms g no_kind_in_force (e ∷ []) ≡ canonical_form (row_of g no_kind_in_force e) e ∷ []
+unfolding canonical_forms
 one_rewritten g e = refl
 
-single : (g : Grammar) (es gs : List Attribute) → gs ≡ rewritten g nothing es → option_map (λ x. x.0 ∷ []) (first_attribute (list_text gs)) ≡ Some es → gs ≡ es
+single : (g : Grammar) (es gs : List Attribute) → gs ≡ canonical_forms g no_kind_in_force es → option_map (λ x. x.0 ∷ []) (first_attribute (list_text gs)) ≡ Some es → gs ≡ es
 single g es gs w h =
     let one = none_or_one (first_attribute (list_text gs)) es h in
-    let f = rewrite (row_of g nothing one.0) one.0 in
-    let is : gs ≡ f ∷ [] = w ∙ ap (λ z. rewritten g nothing z) one.1 ∙ one_rewritten g one.0 in
+    let f = canonical_form (row_of g no_kind_in_force one.0) one.0 in
+    let is : gs ≡ f ∷ [] = w ∙ ap (λ z. canonical_forms g no_kind_in_force z) one.1 ∙ one_rewritten g one.0 in
     let read : first_attribute (list_text gs) ≡ Some (f, []) = ap (λ z. first_attribute (list_text z)) is ∙ ap (λ z. first_attribute z) (same_implies_equal_text f) ∙ first_attribute_text f [] in
     is ∙ same_Some (f ∷ []) es (ap (λ o. option_map (λ x. x.0 ∷ []) o) (sym read) ∙ h)
 
-read_back : (form : ListForm) (g : Grammar) (es gs : List Attribute) → gs ≡ rewritten g nothing (kept form es) → read_as form (list_text gs) ≡ Some es → gs ≡ es
+read_back : (form : ListForm) (g : Grammar) (es gs : List Attribute) → gs ≡ canonical_forms g no_kind_in_force (kept form es) → read_as form (list_text gs) ≡ Some es → gs ≡ es
 read_back any g es gs w h = same_Some gs es (sym (attributes_of_text gs) ∙ h)
 read_back of_kind_one g es gs w h = same_Some gs es (sym (attributes_of_text gs) ∙ h)
-read_back non_empty g es gs w h = filled gs es (ap (λ o. if_some o not_empty) (sym (attributes_of_text gs)) ∙ h)
-read_back ports g es gs w h = filled gs es (ap (λ o. if_some o not_empty) (sym (attributes_of_text gs)) ∙ h)
+read_back non_empty g es gs w h = filled gs es (ap (λ o. if_some o unless_empty) (sym (attributes_of_text gs)) ∙ h)
+read_back ports g es gs w h = filled gs es (ap (λ o. if_some o unless_empty) (sym (attributes_of_text gs)) ∙ h)
 read_back first_only g es gs w h = single g es gs w h
 
 -- Such a list kind keeps all of them.
-nothing_dropped : (form : ListForm) (g : Grammar) (es : List Attribute) → rewritten g nothing (kept form es) ≡ es → kept form es ≡ es
+nothing_dropped : (form : ListForm) (g : Grammar) (es : List Attribute) → canonical_forms g no_kind_in_force (kept form es) ≡ es → kept form es ≡ es
 nothing_dropped any g es h = refl
 nothing_dropped non_empty g es h = refl
 nothing_dropped first_only g es h = refl
-nothing_dropped of_kind_one g es h = all_kept is_of_kind_one es (sym (rewritten_length g nothing (filter is_of_kind_one es)) ∙ ap length h)
-nothing_dropped ports g es h = all_kept is_of_kind_one es (sym (rewritten_length g nothing (filter is_of_kind_one es)) ∙ ap length h)
+nothing_dropped of_kind_one g es h = all_kept is_of_kind_one es (sym (rewritten_length g no_kind_in_force (filter is_of_kind_one es)) ∙ ap length h)
+nothing_dropped ports g es h = all_kept is_of_kind_one es (sym (rewritten_length g no_kind_in_force (filter is_of_kind_one es)) ∙ ap length h)
 
 module _ (form : ListForm) (g : Grammar) (p : List ℕ) (bytes : AreBytes p) where
-  canonical_attribute_by : (o : Option (List Attribute)) → read_as form p ≡ o → if_read false (λ es. all_accepted g nothing (kept form es)) o ≡ true → if_read [] (λ es. list_text (rewritten g nothing (kept form es))) o ≡ p → CanonicalList g p
+  canonical_attribute_by : (o : Option (List Attribute)) → read_as form p ≡ o → if_read false (λ es. all_accepted g no_kind_in_force (kept form es)) o ≡ true → if_read [] (λ es. list_text (canonical_forms g no_kind_in_force (kept form es))) o ≡ p → CanonicalList g p
   canonical_attribute_by None r a c = absurd cc
   canonical_attribute_by (Some es) r a c =
-      let gs = rewritten g nothing (kept form es) in
+      let gs = canonical_forms g no_kind_in_force (kept form es) in
       let same : gs ≡ es = read_back form g es gs refl (ap (read_as form) c ∙ r) in
       let whole : kept form es ≡ es = nothing_dropped form g es same in
       let is : p ≡ list_text es = sym c ∙ ap list_text same in
       record {
         attributes = es;
         is = is;
-        own = all_canonical g nothing es (sym same ∙ ap (rewritten g nothing) whole) (ap (all_accepted g nothing) (sym whole) ∙ a) (subst AreBytes is bytes);
+        own = all_canonical g no_kind_in_force es (sym same ∙ ap (canonical_forms g no_kind_in_force) whole) (ap (all_accepted g no_kind_in_force) (sym whole) ∙ a) (subst AreBytes is bytes);
       }
 
 pub canonical_list : (form : ListForm) (g : Grammar) (p : List ℕ) → IsCanonical (list_rule form g) p → CanonicalList g p

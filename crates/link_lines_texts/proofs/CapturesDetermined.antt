@@ -5,13 +5,13 @@ use Rattle.std.proofs.lemmas.Bool.{cond_both}
 use Rattle.std.proofs.lemmas.List.{take_at, drop_at, length-append, length-drop}
 use Rattle.netlink_packet_core_grammar.specs.Attributes.{nla_align, zeros}
 use Rattle.netlink_packet_core_grammar.specs.Bytes.{AreBytes}
-use Rattle.netlink_packet_core_grammar.specs.Frames.{frame_length, frame_type, frame_body, frame_text, is_frame}
+use Rattle.netlink_packet_core_grammar.specs.Frames.{frame_length, frame_type, frame_body, frame_text, begins_with_frame}
 use Rattle.netlink_packet_core_grammar.specs.Numbers.{u16_at, le4}
 use Rattle.attribute_tables_grammar.specs.Rules.{Rule, Lawful}
 use Rattle.link_message_grammar.specs.Body.{link_body, link_peer}
 use Rattle.link_message_grammar.proofs.Body.{body_lawful, link_peer_lawful}
 use Rattle.link_capture_grammar.specs.declared.fault.FaultKind.{FaultKind}
-use Rattle.link_capture_grammar.specs.Bodies.{Refusal, refused, empty_ports, unfit, ruled_text, body_text, body_text_under}
+use Rattle.link_capture_grammar.specs.Bodies.{ruled_text, body_text}
 use Rattle.link_capture_grammar.specs.Captures.{Judged, first_frame, texts}
 use Rattle.link_capture_grammar.specs.WholeFrames.{whole_within}
 use Rattle.link_capture_grammar.proofs.EveryRule.{in_force}
@@ -32,6 +32,7 @@ use Rattle.link_lines_texts.proofs.NumbersLeftOut.{cleared_shape, numbers_are_le
 use Rattle.link_lines_texts.proofs.NumbersKnown.{cleared_bytes, known_first}
 use Rattle.netlink_packet_core_grammar.proofs.Bytes.{AreBytes-append, AreBytes-drop, AreBytes-take}
 use Rattle.link_capture_grammar.proofs.Normal.{header_size, texted}
+use Rattle.link_capture_grammar.specs.declared.fault.FaultKind.TheVariants.{Refused, EmptyPorts, Unfit}
 
 -- ---- bytes
 
@@ -41,27 +42,27 @@ of_number n h = (omega arith, (omega arith, (omega arith, (omega (arith, h), tt)
 
 -- ---- the text of a body has bytes
 
-abbrev HasBytes : Result (List ℕ) Refusal → Type 0
+abbrev HasBytes : Result (List ℕ) FaultKind → Type 0
 HasBytes (Ok text) = AreBytes text
 HasBytes (Err why) = ⊤
 
-either_bytes : (c : Bool) (x y : Result (List ℕ) Refusal) → HasBytes x → HasBytes y → HasBytes (cond c x y)
+either_bytes : (c : Bool) (x y : Result (List ℕ) FaultKind) → HasBytes x → HasBytes y → HasBytes (cond c x y)
 either_bytes c x y h k = cond_both c x y HasBytes (λ e. h) (λ e. k)
 
 ruled_bytes : (r : Rule) → Lawful r → (b : List ℕ) → AreBytes b → HasBytes (ruled_text r b)
 ruled_bytes r l b h =
-    cond_both (r.accepted b) _ (Err refused) HasBytes
-    (λ a. either_bytes (r.empty_ports b) (Err empty_ports) _ tt (cond_both (r.fits b) (Ok (r.canonical b)) (Err unfit) HasBytes (λ f. l.bytes b a f h) (λ f. tt))) (λ a. tt)
+    cond_both (r.accepted b) _ (Err Refused) HasBytes
+    (λ a. either_bytes (r.empty_ports b) (Err EmptyPorts) _ tt (cond_both (r.fits b) (Ok (r.canonical b)) (Err Unfit) HasBytes (λ f. l.bytes b a f h) (λ f. tt))) (λ a. tt)
 
 link_lawful : Lawful link_body
 link_lawful = body_lawful link_peer link_peer_lawful
 
-body_bytes : (t : ℕ) (b text : List ℕ) → AreBytes b → body_text t b ≡ Ok text → AreBytes text
-unfolding body_text_under
+body_bytes : (t : ℕ) (b text : List ℕ) → AreBytes b → body_text link_body t b ≡ Ok text → AreBytes text
+unfolding body_text
 body_bytes t b text h e =
     let link = ruled_bytes link_body link_lawful b h in
     let zeros : AreBytes (0 ∷ 0 ∷ 0 ∷ 0 ∷ []) = (omega arith, (omega arith, (omega arith, (omega arith, tt)))) in
-    let all : HasBytes (body_text t b) = search either_bytes depth 7 in
+    let all : HasBytes (body_text link_body t b) = search either_bytes depth 7 in
     subst HasBytes e all
 
 -- ---- a frame's bytes without their padding
@@ -150,17 +151,17 @@ abbrev Known : Bool → List ℕ → Type 0
 Known true x = ⊤
 Known false x = (c : List ℕ) × (x ≡ numbers_cleared c)
 
-cleared_first_frame : (c x : List ℕ) (b : Bool) → is_frame c ≡ b → x ≡ numbers_cleared c → is_frame x ≡ true → NumbersAreKnown false (take (frame_length x) x) × Known false (drop (nla_align (frame_length x)) x)
-cleared_first_frame c x false h e i = absurd (let bad : true ≡ false = sym i ∙ ap is_frame (e ∙ stopped c h) ∙ h in cc)
+cleared_first_frame : (c x : List ℕ) (b : Bool) → begins_with_frame c ≡ b → x ≡ numbers_cleared c → begins_with_frame x ≡ true → NumbersAreKnown false (take (frame_length x) x) × Known false (drop (nla_align (frame_length x)) x)
+cleared_first_frame c x false h e i = absurd (let bad : true ≡ false = sym i ∙ ap begins_with_frame (e ∙ stopped c h) ∙ h in cc)
 cleared_first_frame c x true h e i =
     let n : ℕ = frame_length c in
     let size : frame_length x ≡ n = ap (λ z. frame_length z) e ∙ (cleared_shape c h).size in
     let rest : drop (nla_align (frame_length x)) x ≡ numbers_cleared (drop (nla_align n) c) = rw (size, e) (following c h) in
     (rw (size, e) (known_first c h), (drop (nla_align n) c, rest))
 
-known_by : (n : Bool) (x : List ℕ) → Known n x → is_frame x ≡ true → NumbersAreKnown n (take (frame_length x) x) × Known n (drop (nla_align (frame_length x)) x)
+known_by : (n : Bool) (x : List ℕ) → Known n x → begins_with_frame x ≡ true → NumbersAreKnown n (take (frame_length x) x) × Known n (drop (nla_align (frame_length x)) x)
 known_by true x k i = (record { own = tt; request = λ two l. tt }, tt)
-known_by false x k i = cleared_first_frame k.0 x (is_frame k.0) refl k.1 i
+known_by false x k i = cleared_first_frame k.0 x (begins_with_frame k.0) refl k.1 i
 
 -- ---- the first frame of a capture
 
@@ -170,41 +171,41 @@ record Front (n : Bool) (limit : ℕ) (s : List ℕ) : Type 0 where
   pub after : List ℕ
   pub header : 16 ≤ length s
   pub own : IsCanonicalFrame (unpadded_frame s body)
-  pub text : texts limit s ≡ frame_text s body ++ texts limit after
-  pub lines : text_lines (all_of n) (texts limit s) ≡ frame_lines n (unpadded_frame s body) ++ text_lines (all_of n) (texts limit after)
-  pub known : Known n (texts limit s) → NumbersAreKnown n (unpadded_frame s body) × Known n (texts limit after)
+  pub text : texts link_body limit s ≡ frame_text s body ++ texts link_body limit after
+  pub lines : text_lines (all_of n) (texts link_body limit s) ≡ frame_lines n (unpadded_frame s body) ++ text_lines (all_of n) (texts link_body limit after)
+  pub known : Known n (texts link_body limit s) → NumbersAreKnown n (unpadded_frame s body) × Known n (texts link_body limit after)
   pub shorter : length after < length s
   pub bytes : AreBytes after
 
-pub stopped_texts : (limit : ℕ) (s : List ℕ) (kind : FaultKind) → first_frame limit s ≡ Err kind → texts limit s ≡ []
+pub stopped_texts : (limit : ℕ) (s : List ℕ) (kind : FaultKind) → first_frame link_body limit s ≡ Err kind → texts link_body limit s ≡ []
 stopped_texts = texts_stop link_body
 
 -- The numbers of a text's first frame are known if those of the text are.
 text_known : (n : Bool) (s body rest x : List ℕ) → 16 ≤ length s → AtStart s body rest → x ≡ frame_text s body ++ rest → Known n x → NumbersAreKnown n (unpadded_frame s body) × Known n rest
 text_known n s body rest x h first e k =
     let size : frame_length x ≡ 16 + length body = ap (λ z. frame_length z) e ∙ first.determined in
-    let r = known_by n x k (ap is_frame e ∙ first.is) in
+    let r = known_by n x k (ap begins_with_frame e ∙ first.is) in
     let own : take (frame_length x) x ≡ unpadded_frame s body = ap (λ m. take m x) size ∙ ap (take (16 + length body)) e ∙ first.own ∙ in_text s body h in
     let more : drop (nla_align (frame_length x)) x ≡ rest = ap (λ m. drop (nla_align m) x) size ∙ ap (drop (nla_align (16 + length body))) e ∙ first.rest in
     (subst (NumbersAreKnown n) own r.0, subst (Known n) more r.1)
 
-pub unpadded_is_canonical : (c body : List ℕ) → 16 ≤ length c → 16 + length body < 2 ^ 32 → AreBytes c → body_text (frame_type c) (frame_body c) ≡ Ok body → IsCanonicalFrame (unpadded_frame c body)
+pub unpadded_is_canonical : (c body : List ℕ) → 16 ≤ length c → 16 + length body < 2 ^ 32 → AreBytes c → body_text link_body (frame_type c) (frame_body c) ≡ Ok body → IsCanonicalFrame (unpadded_frame c body)
 unpadded_is_canonical c body h small p o =
     let size = canonical_size c body h in
     let given : AreBytes (frame_body c) = AreBytes-take (frame_length c - 16) (drop 16 c) (AreBytes-drop 16 c p) in
     let held = body_bytes (frame_type c) (frame_body c) body given o in
-    let again : body_text (frame_type c) body ≡ Ok body = in_force.bodies_are_normal (frame_type c) (frame_body c) body o in
+    let again : body_text link_body (frame_type c) body ≡ Ok body = in_force.body_texts_are_canonical (frame_type c) (frame_body c) body o in
     let is = canonical_body c body h in
     record {
       bytes = AreBytes-append (le4 (16 + length body)) (take 12 (drop 4 c) ++ body) (of_number (16 + length body) small)
           (AreBytes-append (take 12 (drop 4 c)) body (AreBytes-take 12 (drop 4 c) (AreBytes-drop 4 c p)) held);
       header = omega (arith, size);
-      body = ap (λ t. body_text t (drop 16 (unpadded_frame c body))) (unpadded_type c body h)
-          ∙ ap (body_text (frame_type c)) is ∙ again ∙ ap (λ z. Ok z) (sym is);
+      body = ap (λ t. body_text link_body t (drop 16 (unpadded_frame c body))) (unpadded_type c body h)
+          ∙ ap (body_text link_body (frame_type c)) is ∙ again ∙ ap (λ z. Ok z) (sym is);
     }
 
 module _ (n : Bool) where
-  fronted : (limit : ℕ) (s : List ℕ) (frame : ℕ × List ℕ) → limit < 2 ^ 32 → AreBytes s → first_frame limit s ≡ Ok frame → Front n limit s
+  fronted : (limit : ℕ) (s : List ℕ) (frame : ℕ × List ℕ) → limit < 2 ^ 32 → AreBytes s → first_frame link_body limit s ≡ Ok frame → Front n limit s
   fronted limit s frame l p e =
       let i = texted link_body limit s frame e in
       let format_of = accepted link_body limit s frame e in
@@ -212,64 +213,64 @@ module _ (n : Bool) where
       let small : 16 + length i.body < 2 ^ 32 = omega (arith, i.fits, l) in
       let header = format_of.header in
       let size = length-drop (nla_align frame.0) s in
-      let text : texts limit s ≡ frame_text s i.body ++ texts limit after = in_force.captures_are_counted.next_text limit s frame e ∙ ap (λ z. z ++ texts limit after) i.text_is in
-      let first = is_at_start s i.body (texts limit after) header small in
+      let text : texts link_body limit s ≡ frame_text s i.body ++ texts link_body limit after = in_force.captures_are_counted.next_text limit s frame e ∙ ap (λ z. z ++ texts link_body limit after) i.text_is in
+      let first = is_at_start s i.body (texts link_body limit after) header small in
       record {
         body = i.body;
         after = after;
         header = header;
         own = unpadded_is_canonical s i.body header small p i.body_is;
         text = text;
-        lines = ap (λ z. text_lines (all_of n) z) text ∙ at_start (all_of n) s i.body (texts limit after) header small
-            ∙ ap (λ z. frame_lines n z ++ text_lines (all_of n) (texts limit after)) (in_text s i.body header);
-        known = text_known n s i.body (texts limit after) (texts limit s) header first text;
+        lines = ap (λ z. text_lines (all_of n) z) text ∙ at_start (all_of n) s i.body (texts link_body limit after) header small
+            ∙ ap (λ z. frame_lines n z ++ text_lines (all_of n) (texts link_body limit after)) (in_text s i.body header);
+        known = text_known n s i.body (texts link_body limit after) (texts link_body limit s) header first text;
         shorter = omega (arith, size, format_of.low, header);
         bytes = AreBytes-drop (nla_align frame.0) s p;
       }
 
-  first_of_capture : (limit : ℕ) (s : List ℕ) (j : Judged) → limit < 2 ^ 32 → AreBytes s → first_frame limit s ≡ j → (texts limit s ≡ []) ⊎ Front n limit s
+  first_of_capture : (limit : ℕ) (s : List ℕ) (j : Judged) → limit < 2 ^ 32 → AreBytes s → first_frame link_body limit s ≡ j → (texts link_body limit s ≡ []) ⊎ Front n limit s
   first_of_capture limit s (Err kind) l p e = inl (stopped_texts limit s kind e)
   first_of_capture limit s (Ok frame) l p e = inr (fronted limit s frame l p e)
 
-  first_of : (limit : ℕ) (s : List ℕ) → limit < 2 ^ 32 → AreBytes s → (texts limit s ≡ []) ⊎ Front n limit s
-  first_of limit s l p = first_of_capture limit s (first_frame limit s) l p refl
+  first_of : (limit : ℕ) (s : List ℕ) → limit < 2 ^ 32 → AreBytes s → (texts link_body limit s ≡ []) ⊎ Front n limit s
+  first_of limit s l p = first_of_capture limit s (first_frame link_body limit s) l p refl
 
   abbrev shown : List ℕ → List ℕ
   shown t = text_lines (all_of n) t
 
   module _ (limit : ℕ) (l : limit < 2 ^ 32) where
     -- What follows a frame's lines are a capture's lines.
-    starts : (s : List ℕ) → (texts limit s ≡ []) ⊎ Front n limit s → StartsFrame (shown (texts limit s))
+    starts : (s : List ℕ) → (texts link_body limit s ≡ []) ⊎ Front n limit s → StartsFrame (shown (texts link_body limit s))
     starts s (inl none) = subst StartsFrame (sym (ap shown none ∙ no_text_lines (all_of n))) tt
-    starts s (inr a) = subst StartsFrame (sym a.lines) (determined.starts n (unpadded_frame s a.body) (shown (texts limit a.after)))
+    starts s (inr a) = subst StartsFrame (sym a.lines) (determined.starts n (unpadded_frame s a.body) (shown (texts link_body limit a.after)))
 
-    rest_starts : (s : List ℕ) → AreBytes s → StartsFrame (shown (texts limit s))
+    rest_starts : (s : List ℕ) → AreBytes s → StartsFrame (shown (texts link_body limit s))
     rest_starts s p = starts s (first_of limit s l p)
 
     -- The lines of a frame aren't empty.
-    one_ended : (s t : List ℕ) → texts limit s ≡ [] → Front n limit t → shown (texts limit s) ≡ shown (texts limit t) → ⊥
+    one_ended : (s t : List ℕ) → texts link_body limit s ≡ [] → Front n limit t → shown (texts link_body limit s) ≡ shown (texts link_body limit t) → ⊥
     one_ended s t none b e =
-        frame_has_lines n (unpadded_frame t b.body) (shown (texts limit b.after)) (sym b.lines ∙ sym e ∙ ap shown none ∙ no_text_lines (all_of n))
+        frame_has_lines n (unpadded_frame t b.body) (shown (texts link_body limit b.after)) (sym b.lines ∙ sym e ∙ ap shown none ∙ no_text_lines (all_of n))
 
     -- The first frames of both are determined, and so are the rests.
-    both_first : (s t : List ℕ) (a : Front n limit s) (b : Front n limit t) → Known n (texts limit s) → Known n (texts limit t) → shown (texts limit s) ≡ shown (texts limit t) →
-        (Known n (texts limit a.after) → Known n (texts limit b.after) → shown (texts limit a.after) ≡ shown (texts limit b.after) → texts limit a.after ≡ texts limit b.after) → texts limit s ≡ texts limit t
+    both_first : (s t : List ℕ) (a : Front n limit s) (b : Front n limit t) → Known n (texts link_body limit s) → Known n (texts link_body limit t) → shown (texts link_body limit s) ≡ shown (texts link_body limit t) →
+        (Known n (texts link_body limit a.after) → Known n (texts link_body limit b.after) → shown (texts link_body limit a.after) ≡ shown (texts link_body limit b.after) → texts link_body limit a.after ≡ texts link_body limit b.after) → texts link_body limit s ≡ texts link_body limit t
     both_first s t a b h k e rest =
-        let x = shown (texts limit a.after) in
-        let y = shown (texts limit b.after) in
+        let x = shown (texts link_body limit a.after) in
+        let y = shown (texts link_body limit b.after) in
         let alike = sym a.lines ∙ e ∙ b.lines in
         let p = a.known h in
         let q = b.known k in
         let same = determined.determined n (unpadded_frame s a.body) (unpadded_frame t b.body) x y a.own b.own p.0 q.0 (rest_starts a.after a.bytes) (rest_starts b.after b.bytes) alike in
-        a.text ∙ ap (λ z. z ++ texts limit a.after) (text_determined s t a.body b.body a.header b.header same.0)
+        a.text ∙ ap (λ z. z ++ texts link_body limit a.after) (text_determined s t a.body b.body a.header b.header same.0)
         ∙ ap (λ z. frame_text t b.body ++ z) (rest p.1 q.1 same.1) ∙ sym b.text
 
     -- Captures, the first of fewer bytes than m, are determined by their lines.
     abbrev Determined : ℕ → Type 0
-    Determined m = (s t : List ℕ) → length s < m → AreBytes s → AreBytes t → Known n (texts limit s) → Known n (texts limit t) → shown (texts limit s) ≡ shown (texts limit t) → texts limit s ≡ texts limit t
+    Determined m = (s t : List ℕ) → length s < m → AreBytes s → AreBytes t → Known n (texts link_body limit s) → Known n (texts link_body limit t) → shown (texts link_body limit s) ≡ shown (texts link_body limit t) → texts link_body limit s ≡ texts link_body limit t
 
-    from_first_frame : (m : ℕ) (s t : List ℕ) → Determined m → length s < suc m → (texts limit s ≡ []) ⊎ Front n limit s → (texts limit t ≡ []) ⊎ Front n limit t →
-        Known n (texts limit s) → Known n (texts limit t) → shown (texts limit s) ≡ shown (texts limit t) → texts limit s ≡ texts limit t
+    from_first_frame : (m : ℕ) (s t : List ℕ) → Determined m → length s < suc m → (texts link_body limit s ≡ []) ⊎ Front n limit s → (texts link_body limit t ≡ []) ⊎ Front n limit t →
+        Known n (texts link_body limit s) → Known n (texts link_body limit t) → shown (texts link_body limit s) ≡ shown (texts link_body limit t) → texts link_body limit s ≡ texts link_body limit t
     from_first_frame m s t rest h (inl a) (inl b) p q e = a ∙ sym b
     from_first_frame m s t rest h (inl a) (inr b) p q e = absurd (one_ended s t a b e)
     from_first_frame m s t rest h (inr a) (inl b) p q e = absurd (one_ended t s b a (sym e))
@@ -292,9 +293,9 @@ cleared_texts_determined cleared limit s t l p q =
     let of_x = cleared.texts_cleared limit s l in
     let of_y = cleared.texts_cleared limit t l in
     let shown : List ℕ → List ℕ = λ z. text_lines without_numbers z in
-    let one : shown (texts limit x) ≡ shown (texts limit s) = ap shown of_x ∙ numbers_are_left_out (texts limit s) in
-    let other : shown (texts limit y) ≡ shown (texts limit t) = ap shown of_y ∙ numbers_are_left_out (texts limit t) in
-    let same = determined_within false limit l (suc (length x)) x y (omega arith) (cleared_bytes s p) (cleared_bytes t q) (texts limit s, of_x) (texts limit t, of_y) in
+    let one : shown (texts link_body limit x) ≡ shown (texts link_body limit s) = ap shown of_x ∙ numbers_are_left_out (texts link_body limit s) in
+    let other : shown (texts link_body limit y) ≡ shown (texts link_body limit t) = ap shown of_y ∙ numbers_are_left_out (texts link_body limit t) in
+    let same = determined_within false limit l (suc (length x)) x y (omega arith) (cleared_bytes s p) (cleared_bytes t q) (texts link_body limit s, of_x) (texts link_body limit t, of_y) in
     (λ e. sym of_x ∙ same (one ∙ e ∙ sym other) ∙ of_y, λ e. sym one ∙ ap shown (of_x ∙ e ∙ sym of_y) ∙ other)
 
 pub meanings_determined : LinesDetermineMeanings

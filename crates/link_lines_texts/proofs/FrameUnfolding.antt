@@ -5,7 +5,7 @@ use Rattle.std.proofs.lemmas.Bool.{and_from, le-leb}
 use Rattle.std.proofs.lemmas.List.{drop_at, length-append, take-append-le, take-take}
 use Rattle.netlink_packet_core_grammar.proofs.Numbers.{from_le4}
 use Rattle.netlink_packet_core_grammar.specs.Attributes.{nla_align}
-use Rattle.netlink_packet_core_grammar.specs.Frames.{frame_length, frame_text, is_frame}
+use Rattle.netlink_packet_core_grammar.specs.Frames.{frame_length, frame_text, begins_with_frame}
 use Rattle.netlink_packet_core_grammar.specs.Numbers.{u32_at, le4}
 use Rattle.link_message_grammar.specs.Body.{link_body}
 use Rattle.link_capture_grammar.specs.Captures.{first_frame, texts}
@@ -18,7 +18,7 @@ use Rattle.link_capture_grammar.proofs.Normal.{text_length, texted}
 use Rattle.link_capture_grammar.specs.WholeFrames.{whole_frames}
 use Rattle.link_capture_grammar.proofs.WholeFrames.{own_length, whole_step, whole_stop}
 
-pub whole : (o : Choice) (c : List ℕ) → is_frame c ≡ true → text_lines o c ≡ shown_lines o (take (frame_length c) c) ++ text_lines o (drop (nla_align (frame_length c)) c)
+pub whole : (o : Choice) (c : List ℕ) → begins_with_frame c ≡ true → text_lines o c ≡ shown_lines o (take (frame_length c) c) ++ text_lines o (drop (nla_align (frame_length c)) c)
 unfolding text_lines
 whole o c h =
     let n = nla_align (frame_length c) in
@@ -28,7 +28,7 @@ whole o c h =
     ap (λ w. flat_map (λ f. shown_lines o (take (frame_length f) f)) w.frames) (whole_step c h)
     ∙ ap (λ f. shown_lines o f ++ flat_map (λ f. shown_lines o (take (frame_length f) f)) (whole_frames (drop n c)).frames) own
 
-pub stopped : (o : Choice) (c : List ℕ) → is_frame c ≡ false → text_lines o c ≡ []
+pub stopped : (o : Choice) (c : List ℕ) → begins_with_frame c ≡ false → text_lines o c ≡ []
 unfolding text_lines
 stopped o c h = ap (λ w. flat_map (λ f. shown_lines o (take (frame_length f) f)) w.frames) (whole_stop c h)
 
@@ -43,7 +43,7 @@ length_kept n more h = from_le4 n
 
 -- A frame's text, followed by other bytes, begins with a whole frame.
 pub record AtStart (c body r : List ℕ) : Type 0 where
-  pub is : is_frame (frame_text c body ++ r) ≡ true
+  pub is : begins_with_frame (frame_text c body ++ r) ≡ true
   pub determined : frame_length (frame_text c body ++ r) ≡ 16 + length body
   pub own : take (16 + length body) (frame_text c body ++ r) ≡ take (16 + length body) (frame_text c body)
   pub rest : drop (nla_align (16 + length body)) (frame_text c body ++ r) ≡ r
@@ -76,17 +76,17 @@ at_start o c body r h b =
 -- ---- texts before other bytes
 
 module _ (o : Choice) (limit : ℕ) (l : limit < 2 ^ 32) where
-  frame_first : (c : List ℕ) (frame : ℕ × List ℕ) → first_frame limit c ≡ Ok frame → (own : List ℕ) × ((r : List ℕ) → text_lines o (frame.1 ++ r) ≡ own ++ text_lines o r)
+  frame_first : (c : List ℕ) (frame : ℕ × List ℕ) → first_frame link_body limit c ≡ Ok frame → (own : List ℕ) × ((r : List ℕ) → text_lines o (frame.1 ++ r) ≡ own ++ text_lines o r)
   frame_first c frame h =
       let t = texted link_body limit c frame h in
       let small : 16 + length t.body < 2 ^ 32 = omega (arith, t.fits, l) in
       (shown_lines o (take (16 + length t.body) (frame_text c t.body)), λ r. ap (λ z. text_lines o (z ++ r)) t.text_is ∙ at_start o c t.body r (accepted link_body limit c frame h).header small)
 
-  joined_texts : (s t : List ℕ) → text_lines o (texts limit s ++ t) ≡ text_lines o (texts limit s) ++ text_lines o t
+  joined_texts : (s t : List ℕ) → text_lines o (texts link_body limit s ++ t) ≡ text_lines o (texts link_body limit s) ++ text_lines o t
   joined_texts s t =
-      Frames.by_frames link_body limit (λ s. text_lines o (texts limit s ++ t) ≡ text_lines o (texts limit s) ++ text_lines o t)
+      Frames.by_frames link_body limit (λ s. text_lines o (texts link_body limit s ++ t) ≡ text_lines o (texts link_body limit s) ++ text_lines o t)
       (λ s frame h i.
-      let more = texts limit (drop (nla_align frame.0) s) in
+      let more = texts link_body limit (drop (nla_align frame.0) s) in
       let f = frame_first s frame h in
       let e = texts_step link_body limit s frame h in
       ap (λ z. text_lines o (z ++ t)) e ∙ ap (text_lines o) (append_assoc frame.1 more t) ∙ f.1 (more ++ t) ∙ ap (λ z. f.0 ++ z) i

@@ -7,9 +7,9 @@ use Rattle.std.proofs.lemmas.List.{append_cancel_left, length-drop, length-take,
 use Rattle.netlink_packet_core_grammar.specs.Bytes.{AreBytes}
 use Rattle.netlink_packet_core_grammar.specs.Attributes.{nla_align}
 use Rattle.netlink_packet_core_grammar.specs.Numbers.{u16_at, u32_at}
-use Rattle.attribute_tables_grammar.specs.Peers.{Peer, bytes_peer}
+use Rattle.attribute_tables_grammar.specs.Peers.{RuleOfPeers, bytes_peer}
 use Rattle.link_message_grammar.specs.Body.{link_body, link_peer}
-use Rattle.link_capture_grammar.specs.Bodies.{refused, empty_ports, unfit, is_link_type, body_text, body_text_under, ruled_text}
+use Rattle.link_capture_grammar.specs.Bodies.{is_link_type, body_text, ruled_text}
 use Rattle.link_lines_values.specs.declared.values.ShownBy.TheVariants.{Signed, Bytes}
 use Rattle.link_lines_values.specs.Bytes.{bytes_text, is_zero}
 use Rattle.link_lines_values.specs.Digits.{is_signed_size}
@@ -40,6 +40,7 @@ use Rattle.link_lines_texts.proofs.LinksDetermined.{found_canonical, link_lists_
 use Rattle.link_lines_texts.proofs.LinkBodiesDetermined.{FamiliesDetermined, IsCanonicalLink, link_part, link_determined, canonical_link}
 use Rattle.link_lines_values.proofs.ValuesDetermined.{both_parts}
 use Rattle.netlink_packet_core_grammar.proofs.Bytes.{AreBytes-drop, AreBytes-take}
+use Rattle.link_capture_grammar.specs.declared.fault.FaultKind.TheVariants.{Refused, EmptyPorts, Unfit}
 
 -- ---- lines of bytes, and of codes
 
@@ -224,7 +225,7 @@ code_determined n m f determined p q s t a b l o g h i j e =
 
 -- ---- a link's body
 
-ruled_is : (x y z : Bool) (p b : List ℕ) → cond x (cond y (Err empty_ports) (cond z (Ok p) (Err unfit))) (Err refused) ≡ Ok b → (x ≡ true) × (p ≡ b)
+ruled_is : (x y z : Bool) (p b : List ℕ) → cond x (cond y (Err EmptyPorts) (cond z (Ok p) (Err Unfit))) (Err Refused) ≡ Ok b → (x ≡ true) × (p ≡ b)
 ruled_is true false true p b e = (refl, cc)
 ruled_is x y z p b e = absurd cc
 
@@ -239,7 +240,7 @@ unfolding link_lines
 link_lines_are scope b h = rw (le-leb 16 (length b) h)
 
 -- The lines of a canonical body of a link under a rule of peers determine it.
-body_determined : (peer : Peer) (scope : Scope) → ((bound : ℕ) → FamiliesDetermined bound peer scope) → (p q s t : List ℕ) → AreBytes p → AreBytes q → IsCanonicalLink peer p → IsCanonicalLink peer q → StartsFrame s → StartsFrame t →
+body_determined : (peer : RuleOfPeers) (scope : Scope) → ((bound : ℕ) → FamiliesDetermined bound peer scope) → (p q s t : List ℕ) → AreBytes p → AreBytes q → IsCanonicalLink peer p → IsCanonicalLink peer q → StartsFrame s → StartsFrame t →
     link_lines scope p ++ s ≡ link_lines scope q ++ t → (p ≡ q) × (s ≡ t)
 body_determined peer scope lists p q s t a b h k i j e =
     let lines = sym (ap (λ z. z ++ s) (link_lines_are scope p h.size)) ∙ e ∙ ap (λ z. z ++ t) (link_lines_are scope q k.size) in
@@ -284,12 +285,12 @@ abbrev done_type : ℕ
 done_type = 3
 
 abbrev BodiesOfTypeAreDetermined : Bool → ℕ → ℕ → Type 0
-BodiesOfTypeAreDetermined numbers flags n = (p q s t : List ℕ) → AreBytes p → AreBytes q → body_text n p ≡ Ok p → body_text n q ≡ Ok q →
+BodiesOfTypeAreDetermined numbers flags n = (p q s t : List ℕ) → AreBytes p → AreBytes q → body_text link_body n p ≡ Ok p → body_text link_body n q ≡ Ok q →
     RequestIsKnown numbers n p → RequestIsKnown numbers n q → StartsFrame s → StartsFrame t →
     body_lines numbers n flags p ++ s ≡ body_lines numbers n flags q ++ t → (p ≡ q) × (s ≡ t)
 
-noop_is : (p : List ℕ) → body_text noop_type p ≡ Ok p → [] ≡ p
-unfolding body_text_under
+noop_is : (p : List ℕ) → body_text link_body noop_type p ≡ Ok p → [] ≡ p
+unfolding body_text
 noop_is p h = cc
 
 noops_determined : (numbers : Bool) (flags : ℕ) → BodiesOfTypeAreDetermined numbers flags noop_type
@@ -298,20 +299,20 @@ noops_determined numbers flags [] [] s t a b h k f g i j e = (refl, e)
 noops_determined numbers flags [] (y ∷ q) s t a b h k f g i j e = absurd (let none = noop_is (y ∷ q) k in cc)
 noops_determined numbers flags (x ∷ p) q s t a b h k f g i j e = absurd (let none = noop_is (x ∷ p) h in cc)
 
-code_by : (b : Bool) (p q : List ℕ) → cond b (Err refused) (Ok q) ≡ Ok p → b ≡ false
+code_by : (b : Bool) (p q : List ℕ) → cond b (Err Refused) (Ok q) ≡ Ok p → b ≡ false
 code_by true p q h = absurd cc
 code_by false p q h = refl
 
-error_size : (p : List ℕ) → body_text error_type p ≡ Ok p → 4 ≤ length p
-unfolding body_text_under
+error_size : (p : List ℕ) → body_text link_body error_type p ≡ Ok p → 4 ≤ length p
+unfolding body_text
 error_size p h = let l = ltb-false (length p) 4 (code_by _ p p h) in omega (arith, l)
 
-done_by : (a b : Bool) (p : List ℕ) → (a ≡ true → length p ≡ 0) → cond a (Ok (0 ∷ 0 ∷ 0 ∷ 0 ∷ [])) (cond b (Err refused) (Ok p)) ≡ Ok p → b ≡ false
+done_by : (a b : Bool) (p : List ℕ) → (a ≡ true → length p ≡ 0) → cond a (Ok (0 ∷ 0 ∷ 0 ∷ 0 ∷ [])) (cond b (Err Refused) (Ok p)) ≡ Ok p → b ≡ false
 done_by true b p l h = let zeros : 0 ∷ 0 ∷ 0 ∷ 0 ∷ [] ≡ p = cc in let size : 4 ≡ length p = ap length zeros in absurd (omega (arith, l refl))
 done_by false b p l h = code_by b p p h
 
-done_size : (p : List ℕ) → body_text done_type p ≡ Ok p → 4 ≤ length p
-unfolding body_text_under
+done_size : (p : List ℕ) → body_text link_body done_type p ≡ Ok p → 4 ≤ length p
+unfolding body_text
 done_size p h = let l = ltb-false (length p) 4 (done_by (length p == 0) _ p (eqb-true (length p) 0) h) in omega (arith, l)
 
 errors_determined : (numbers : Bool) (flags : ℕ) → BodiesOfTypeAreDetermined numbers flags error_type
@@ -325,8 +326,8 @@ dones_determined numbers flags p q s t a b h k f g i j e =
     code_determined numbers done_type flags (after_done numbers flags) p q s t a b (done_size p h) (done_size q k) f g i j e
 
 -- A body of another type.
-text_is : (n : ℕ) (p : List ℕ) → (n ≡ noop_type → ⊥) → (n ≡ error_type → ⊥) → (n ≡ done_type → ⊥) → body_text n p ≡ cond (is_link_type n) (ruled_text link_body p) (Ok p)
-unfolding body_text_under
+text_is : (n : ℕ) (p : List ℕ) → (n ≡ noop_type → ⊥) → (n ≡ error_type → ⊥) → (n ≡ done_type → ⊥) → body_text link_body n p ≡ cond (is_link_type n) (ruled_text link_body p) (Ok p)
+unfolding body_text
 text_is n p a b c = rw (ne_eqb n noop_type a, ne_eqb n error_type b, ne_eqb n done_type c)
 
 lines_are : (numbers : Bool) (flags n : ℕ) (p : List ℕ) → (n ≡ error_type → ⊥) → (n ≡ done_type → ⊥) → body_lines numbers n flags p ≡ cond (is_link_type n) (link_lines (in_message (has_request_flag flags)) p) (other_lines n (has_request_flag flags) p)
@@ -421,7 +422,7 @@ frames_determined numbers f g s t h k x y i j e =
     let same = header_determined numbers f g (own_f ++ s) (own_g ++ t) h.bytes k.bytes h.header k.header x.own y.own
     (following (header_line numbers f) own_f s (header_line numbers g) own_g t e) in
     let back = sym same.type in
-    let other = subst (λ n. body_text n (drop 16 g) ≡ Ok (drop 16 g)) back k.body in
+    let other = subst (λ n. body_text link_body n (drop 16 g) ≡ Ok (drop 16 g)) back k.body in
     let asked : RequestIsKnown numbers (u16_at 4 f) (drop 16 g) = λ two. y.request (back ∙ two) in
     let rest = same.rest ∙ ap (λ n. lines n (u16_at 6 g) g ++ t) back ∙ ap (λ r. lines (u16_at 4 f) r g ++ t) (sym same.flags) in
     let r = bodies_determined numbers (u16_at 6 f) (u16_at 4 f) (drop 16 f) (drop 16 g) s t (AreBytes-drop 16 f h.bytes) (AreBytes-drop 16 g k.bytes) h.body other x.request asked i j rest in

@@ -6,9 +6,9 @@ use Rattle.std.proofs.lemmas.List.{length-drop}
 use Rattle.std.proofs.lemmas.Slice.Eq.{bytes_eq-Decides}
 use Rattle.netlink_packet_core_grammar.specs.Bytes.{AreBytes}
 use Rattle.attribute_tables_grammar.specs.Lists.{any}
-use Rattle.attribute_tables_grammar.specs.Peers.{Peer, bytes_peer, peer_rule}
+use Rattle.attribute_tables_grammar.specs.Peers.{RuleOfPeers, bytes_peer, peer_rule}
 use Rattle.attribute_tables_grammar.specs.Tables.{Payload}
-use Rattle.link_message_grammar.specs.Body.{body_rule, link_peer, list_rule_of}
+use Rattle.link_message_grammar.specs.Body.{body_rule, link_peer, attributes_rule}
 use Rattle.link_message_grammar.specs.LinkMessage.{Family, unspec, bridge, inet_6, other, link_table}
 use Rattle.link_lines_values.proofs.BytesDetermined.{bytes_determined as bytes_are_determined}
 use Rattle.link_lines_raw.specs.Attributes.{plain_bytes}
@@ -27,21 +27,21 @@ use Rattle.link_lines_texts.proofs.ListsDetermined.{InsideDetermined, NestedDete
 use Rattle.link_lines_texts.proofs.TablesDetermined.{payload_determined, settled}
 
 -- What is shown of a peer that is shorter than a bound determines it.
-abbrev PeersDetermined : ℕ → Peer → Scope → Type 0
+abbrev PeersDetermined : ℕ → RuleOfPeers → Scope → Type 0
 PeersDetermined bound peer scope = InsideDetermined bound scope (peer_rule peer) (settled scope PeerInside)
 
 -- The attributes of an address family, under its table of names.
-family_determined : (bound : ℕ) (peer : Peer) (scope : Scope) → PeersDetermined bound peer scope → (f : Family) (m : Table) → holds_shown (Payload.list any (link_table f)) (Some (Nested m)) ≡ true → NestedDetermined bound (list_rule_of peer f) (record { table = m; scope = scope })
-unfolding list_rule_of
+family_determined : (bound : ℕ) (peer : RuleOfPeers) (scope : Scope) → PeersDetermined bound peer scope → (f : Family) (m : Table) → holds_shown (Payload.list any (link_table f)) (Some (Nested m)) ≡ true → NestedDetermined bound (attributes_rule peer f) (record { table = m; scope = scope })
+unfolding attributes_rule
 family_determined bound peer scope peers f m h level p q s t short o u sx sy same = payload_determined bound peer scope peers (Payload.list any (link_table f)) (Nested m) h level p q s t short o u sx sy refl same
 
-by_family : (bound : ℕ) (peer : Peer) (scope : Scope) → PeersDetermined bound peer scope → (a b c : Bool) → NestedDetermined bound (list_rule_of peer (cond a unspec (cond b bridge (cond c inet_6 other)))) (record { table = cond a LINK_UNSPEC (cond b LINK_BRIDGE (cond c LINK_INET6 LINK_OTHER)); scope = scope })
+by_family : (bound : ℕ) (peer : RuleOfPeers) (scope : Scope) → PeersDetermined bound peer scope → (a b c : Bool) → NestedDetermined bound (attributes_rule peer (cond a unspec (cond b bridge (cond c inet_6 other)))) (record { table = cond a LINK_UNSPEC (cond b LINK_BRIDGE (cond c LINK_INET6 LINK_OTHER)); scope = scope })
 by_family bound peer scope peers true b c = family_determined bound peer scope peers unspec LINK_UNSPEC determined.unspec_determined
 by_family bound peer scope peers false true c = family_determined bound peer scope peers bridge LINK_BRIDGE determined.bridge_determined
 by_family bound peer scope peers false false true = family_determined bound peer scope peers inet_6 LINK_INET6 determined.inet6_determined
 by_family bound peer scope peers false false false = family_determined bound peer scope peers other LINK_OTHER determined.other_determined
 
-families_determined : (bound : ℕ) (peer : Peer) (scope : Scope) → PeersDetermined bound peer scope → FamiliesDetermined bound peer scope
+families_determined : (bound : ℕ) (peer : RuleOfPeers) (scope : Scope) → PeersDetermined bound peer scope → FamiliesDetermined bound peer scope
 families_determined bound peer scope peers level n p q s t = by_family bound peer scope peers (n == 0) (n == 7) (n == 10) level p q s t
 
 -- ---- canonical peers

@@ -5,7 +5,7 @@ use Rattle.std.proofs.lemmas.Bool.{cond_both, leb-true}
 use Rattle.std.proofs.lemmas.List.{length-drop}
 use Rattle.netlink_packet_core_grammar.specs.Attributes.{Attribute, nla_align, attribute_length, first_attribute, proper_kind}
 use Rattle.netlink_packet_core_grammar.proofs.Attributes.{sized}
-use Rattle.attribute_tables_grammar.specs.Lists.{Context, nothing}
+use Rattle.attribute_tables_grammar.specs.Lists.{Context, no_kind_in_force}
 use Rattle.link_lines_parts.specs.Levels.{deepest_level}
 use Rattle.link_lines_texts.specs.Format.{Inside, Inside.Peer, Inside.Nested, if_reached, known_inside}
 use Rattle.link_lines_texts.specs.declared.attributes.ListTable.{ListTable}
@@ -55,7 +55,7 @@ list_shorter level list_table c bytes e x h i = let b : Within (length e.payload
 
 same_inside : (m n level size : ℕ) (o : Option (ListTable × List ℕ)) → Agree m n → Within size o → size ≤ m → size ≤ n → inside_lines (λ l t d b. lines_within m l t d b) level o ≡ inside_lines (λ l t d b. lines_within n l t d b) level o
 same_inside m n level size None i w h k = refl
-same_inside m n level size (Some x) i w h k = i level x.0 nothing x.1 (omega (arith, w, h)) (omega (arith, w, k))
+same_inside m n level size (Some x) i w h k = i level x.0 no_kind_in_force x.1 (omega (arith, w, h)) (omega (arith, w, k))
 
 same_next : (m n level : ℕ) (list_table : ListTable) (c : Context) (bytes : List ℕ) → Agree m n → length bytes ≤ suc m → length bytes ≤ suc n → (o : Option (Attribute × List ℕ)) → first_attribute bytes ≡ o → next_lines (λ l t d b. lines_within m l t d b) level list_table c o ≡ next_lines (λ l t d b. lines_within n l t d b) level list_table c o
 same_next m n level list_table c bytes i p q None h = refl
@@ -79,7 +79,7 @@ enough (suc m) (suc n) level list_table c bytes p q = same_next m n level list_t
 inside_is : (n level size : ℕ) (o : Option (ListTable × List ℕ)) → Within size o → size ≤ n → inside_lines (λ l t d b. lines_within n l t d b) level o ≡ nested_lines level o
 unfolding list_lines
 inside_is n level size None w h = refl
-inside_is n level size (Some x) w h = enough n (length x.1) level x.0 nothing x.1 (omega (arith, w, h)) (omega arith)
+inside_is n level size (Some x) w h = enough n (length x.1) level x.0 no_kind_in_force x.1 (omega (arith, w, h)) (omega arith)
 
 pub next : (level : ℕ) (list_table : ListTable) (c : Context) (bytes : List ℕ) (e : Attribute) (after : List ℕ) → first_attribute bytes ≡ Some (e, after) → rest_lines level list_table c bytes ≡ attribute_lines level list_table c e ++ (nested_lines (level + 1) (list_inside level list_table c e) ++ rest_lines level list_table (next_in list_table.table c e) after)
 unfolding rest_lines lines_within

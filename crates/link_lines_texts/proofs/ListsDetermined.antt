@@ -9,7 +9,7 @@ use Rattle.netlink_packet_core_grammar.proofs.Attributes.{first_attribute_text, 
 use Rattle.link_tables.specs.declared.rows.Held.{Held as TableHeld}
 use Rattle.link_tables.specs.declared.rows.Held.TheVariants.{List as HeldList}
 use Rattle.attribute_tables_grammar.specs.Rules.{Rule}
-use Rattle.attribute_tables_grammar.specs.Lists.{Context, Grammar, ListForm, Row, list_rule, nothing, row_of, written_kind}
+use Rattle.attribute_tables_grammar.specs.Lists.{Context, Grammar, ListForm, Row, list_rule, no_kind_in_force, row_of, canonical_kind}
 use Rattle.link_lines_parts.specs.Levels.{deepest_level}
 use Rattle.link_lines_values.specs.Bytes.{bytes_text}
 use Rattle.link_lines_values.specs.Indents.{indent}
@@ -262,7 +262,7 @@ not_raw level m k f names t s (Some n) h none i ends e =
     let both : Some t ≡ None = sym h ∙ ap (attribute_name_of m.0) kinds ∙ none in
     absurd cc
 
-written_typed : (r : Row) (k : ℕ) → r.is_typed ≡ true → written_kind r k ≡ proper_kind k + cond r.is_nested 0x8000 0
+written_typed : (r : Row) (k : ℕ) → r.is_typed ≡ true → canonical_kind r k ≡ proper_kind k + cond r.is_nested 0x8000 0
 written_typed r k h = ap (λ t. cond t (proper_kind k + cond r.is_nested 0x8000 0) k) h
 
 -- The lines below a line that has a name.
@@ -374,14 +374,14 @@ module _ (bound : ℕ) (g : Grammar) (m : ListTable) (names : NamesDetermined m.
       let rest = attributes_determined level (next_in m.table c e) es fs s t short.1 canonical_e canonical_f h k (one.1 ∙ ap (λ x. lines_of level m (next_in m.table c x) fs ++ t) (sym one.0)) in
       (λ i. one.0 i ∷ rest.0 i, rest.1)
 
-by_start : (level : ℕ) (m : ListTable) (p : List ℕ) (es : List Attribute) → p ≡ list_text es → list_lines level m p ≡ lines_of level m nothing es
-by_start level m p es h = steps.start level m p ∙ ap (rest_lines level m nothing) h ∙ by_attributes level m nothing es
+by_start : (level : ℕ) (m : ListTable) (p : List ℕ) (es : List Attribute) → p ≡ list_text es → list_lines level m p ≡ lines_of level m no_kind_in_force es
+by_start level m p es h = steps.start level m p ∙ ap (rest_lines level m no_kind_in_force) h ∙ by_attributes level m no_kind_in_force es
 
 -- Lines determine a list if they determine its rows.
 pub lists_determined : (bound : ℕ) (form : ListForm) (g : Grammar) (m : ListTable) → NamesDetermined m.table → RowsDetermined bound g m → NestedDetermined bound (list_rule form g) m
 lists_determined bound form g m names rows level p q s t short o u h k same =
     let a = canonical_list form g p o in
     let b = canonical_list form g q u in
-    let r = attributes_determined bound g m names rows level nothing a.attributes b.attributes s t (all_short bound a.attributes (subst (λ z. length z < bound) a.is short)) a.own b.own h k
+    let r = attributes_determined bound g m names rows level no_kind_in_force a.attributes b.attributes s t (all_short bound a.attributes (subst (λ z. length z < bound) a.is short)) a.own b.own h k
     (ap (λ z. z ++ s) (sym (by_start level m p a.attributes a.is)) ∙ same ∙ ap (λ z. z ++ t) (by_start level m q b.attributes b.is)) in
     (a.is ∙ ap list_text r.0 ∙ sym b.is, r.1)

@@ -5,7 +5,7 @@ use Rattle.std.proofs.lemmas.Bool.{and_from, le-leb}
 use Rattle.std.proofs.lemmas.List.{length-take, length-take-le, length-drop, drop-drop, drop-take, take-take, take_at, drop_at}
 use Rattle.netlink_packet_core_grammar.specs.Attributes.{nla_align, zeros}
 use Rattle.netlink_packet_core_grammar.specs.Bytes.{AreBytes}
-use Rattle.netlink_packet_core_grammar.specs.Frames.{frame_length, frame_type, frame_body, is_frame}
+use Rattle.netlink_packet_core_grammar.specs.Frames.{frame_length, frame_type, frame_body, begins_with_frame}
 use Rattle.netlink_packet_core_grammar.specs.Numbers.{u16_at, u32_at}
 use Rattle.link_capture_numbers.specs.Cleared.{zeros_at, repeats_request, first_frame_cleared, numbers_cleared}
 use Rattle.link_capture_grammar.proofs.WholeFrames.{by_first_frames, length_of}
@@ -57,7 +57,7 @@ cleared_request c d f m own body l t h =
     let is : drop 16 f ≡ zeros_at 12 b = own ∙ body ∙ ap (λ r. cond r (zeros_at 12 b) b) (repeats c t long) in
     of_zeros (drop 4 (drop 16 f)) (ap (λ z. take 8 (drop 8 (drop 4 z))) is ∙ request_zeros b (omega (arith, known, long)))
 
-pub known_first : (c : List ℕ) → is_frame c ≡ true → NumbersAreKnown false (take (frame_length c) (numbers_cleared c))
+pub known_first : (c : List ℕ) → begins_with_frame c ≡ true → NumbersAreKnown false (take (frame_length c) (numbers_cleared c))
 known_first c h =
     let n : ℕ = frame_length c in
     let d : List ℕ = numbers_cleared c in
@@ -88,7 +88,7 @@ first_is_frame : (c : List ℕ) → AreBytes c → AreBytes (first_frame_cleared
 unfolding first_frame_cleared
 first_is_frame c h = first_frame_by c (repeats_request c) h
 
-bytes_after_frame : (c : List ℕ) → is_frame c ≡ true → (AreBytes (drop (nla_align (frame_length c)) c) → AreBytes (numbers_cleared (drop (nla_align (frame_length c)) c))) → AreBytes c → AreBytes (numbers_cleared c)
+bytes_after_frame : (c : List ℕ) → begins_with_frame c ≡ true → (AreBytes (drop (nla_align (frame_length c)) c) → AreBytes (numbers_cleared (drop (nla_align (frame_length c)) c))) → AreBytes c → AreBytes (numbers_cleared c)
 bytes_after_frame c h rest a =
     let n : ℕ = nla_align (frame_length c) in
     rw (whole c h) (AreBytes-append (take n (first_frame_cleared c)) (numbers_cleared (drop n c)) (AreBytes-take n (first_frame_cleared c) (first_is_frame c a)) (rest (AreBytes-drop n c a)))

@@ -4,7 +4,7 @@ use Rattle.std.specs.Prelude.{◌&&◌, nat_eq, nat_le, codes, decimal}
 use Rattle.std.proofs.lemmas.Bool.{and_from, and_parts, eqb-true, le-leb}
 use Rattle.std.proofs.lemmas.List.{length-take-le, length-drop, drop-drop, drop-take, take-take, take_at}
 use Rattle.netlink_packet_core_grammar.specs.Attributes.{nla_align, zeros}
-use Rattle.netlink_packet_core_grammar.specs.Frames.{frame_length, frame_type, frame_body, is_frame}
+use Rattle.netlink_packet_core_grammar.specs.Frames.{frame_length, frame_type, frame_body, begins_with_frame}
 use Rattle.netlink_packet_core_grammar.specs.Numbers.{u16_at, u32_at}
 use Rattle.link_capture_numbers.specs.Cleared.{zeros_at, repeats_request, numbers_cleared}
 use Rattle.link_capture_grammar.proofs.WholeFrames.{by_first_frames, length_of}
@@ -118,12 +118,12 @@ frame_same c d l m s =
 -- ---- texts
 
 -- The first frame of what is cleared.
-pub cleared_shape : (c : List ℕ) → is_frame c ≡ true → Shape c (numbers_cleared c)
+pub cleared_shape : (c : List ℕ) → begins_with_frame c ≡ true → Shape c (numbers_cleared c)
 cleared_shape c h =
     let bounds = length_of c h in
     subst (Shape c) (sym (whole c h)) (shape c (numbers_cleared (drop (nla_align (frame_length c)) c)) bounds.0 bounds.1)
 
-pub cleared_is_frame : (c : List ℕ) → is_frame c ≡ true → is_frame (numbers_cleared c) ≡ true
+pub cleared_is_frame : (c : List ℕ) → begins_with_frame c ≡ true → begins_with_frame (numbers_cleared c) ≡ true
 cleared_is_frame c h =
     let d : List ℕ = numbers_cleared c in
     let bounds = length_of c h in
@@ -137,7 +137,7 @@ cleared_is_frame c h =
 abbrev AreLeftOut : List ℕ → Type 0
 AreLeftOut c = text_lines without_numbers (numbers_cleared c) ≡ text_lines without_numbers c
 
-rest_left_out : (c : List ℕ) → is_frame c ≡ true → AreLeftOut (drop (nla_align (frame_length c)) c) → AreLeftOut c
+rest_left_out : (c : List ℕ) → begins_with_frame c ≡ true → AreLeftOut (drop (nla_align (frame_length c)) c) → AreLeftOut c
 rest_left_out c h rest =
     let n : ℕ = frame_length c in
     let d : List ℕ = numbers_cleared c in

@@ -5,9 +5,9 @@ use Rattle.std.proofs.lemmas.Bool.{and_parts, eqb-true, leb-true}
 use Rattle.std.proofs.lemmas.List.{drop_all, drop_at, length-append, length-take, length-drop, length-replicate, take_all}
 use Rattle.netlink_packet_core_grammar.specs.Attributes.{zeros}
 use Rattle.netlink_packet_core_grammar.specs.Texts.{without_nul}
-use Rattle.netlink_packet_core_grammar.specs.Booleans.{boolean_of, one_of}
+use Rattle.netlink_packet_core_grammar.specs.Booleans.{boolean_of, is_one}
 use Rattle.attribute_tables_grammar.specs.Rules.{shape_rule}
-use Rattle.attribute_tables_grammar.specs.Shapes.{Shape, exact, either, at_most, nonzero_byte, one_byte, boolean_of_four, presence, text, fixed_record, id_and_boolean, resized, number, number_boolean}
+use Rattle.attribute_tables_grammar.specs.Shapes.{Shape, exact, either, at_most, boolean_if_nonzero, boolean_if_one, boolean_of_four, presence, text, fixed_record, id_and_boolean, resized, number, number_boolean}
 use Rattle.link_lines_values.specs.declared.fields.FieldShownBy.TheVariants as F
 use Rattle.link_lines_values.specs.declared.values.ShownBy.TheVariants as V
 use Rattle.link_lines_values.specs.Bytes.{address_text, is_zero}
@@ -48,8 +48,8 @@ record_sized m n f false l h = absurd cc
 
 sized : (s : Shape) (f : ℕ → Bool) → is_sized (canonical_size s) f ≡ true → HasSize s f
 sized (exact n) f h = record { n = n; known = h; size = λ p o. eqb-true (length p) n o.accepted }
-sized nonzero_byte f h = record { n = 1; known = h; size = λ p o. eqb-true (length p) 1 o.accepted }
-sized one_byte f h = record { n = 1; known = h; size = λ p o. eqb-true (length p) 1 o.accepted }
+sized boolean_if_nonzero f h = record { n = 1; known = h; size = λ p o. eqb-true (length p) 1 o.accepted }
+sized boolean_if_one f h = record { n = 1; known = h; size = λ p o. eqb-true (length p) 1 o.accepted }
 sized boolean_of_four f h = record { n = 4; known = h; size = λ p o. eqb-true (length p) 4 o.accepted }
 sized presence f h = record { n = 0; known = h; size = λ p o. ap length (sym o.canonical) }
 sized (fixed_record m n) f h = record_sized m n f (nat_le m n) refl h
@@ -72,7 +72,7 @@ boolean_small : (n : ℕ) → boolean_of n ≤ 1
 boolean_small zero = omega arith
 boolean_small (suc n) = omega arith
 
-one_small : (n : ℕ) → one_of n ≤ 1
+one_small : (n : ℕ) → is_one n ≤ 1
 one_small zero = omega arith
 one_small (suc zero) = omega arith
 one_small (suc (suc n)) = omega arith
@@ -86,14 +86,14 @@ boolean_as_number : (n : ℕ) → number (boolean_of n ∷ 0 ∷ 0 ∷ 0 ∷ [])
 boolean_as_number n = omega (arith, boolean_small n)
 
 at_most_one : (s : Shape) (p : List ℕ) → is_boolean s ≡ true → CanonicalPayload s p → number p ≤ 1
-at_most_one nonzero_byte p h o = mapped p boolean_of (eqb-true (length p) 1 o.accepted) boolean_small o.canonical
-at_most_one one_byte p h o = mapped p one_of (eqb-true (length p) 1 o.accepted) one_small o.canonical
+at_most_one boolean_if_nonzero p h o = mapped p boolean_of (eqb-true (length p) 1 o.accepted) boolean_small o.canonical
+at_most_one boolean_if_one p h o = mapped p is_one (eqb-true (length p) 1 o.accepted) one_small o.canonical
 at_most_one boolean_of_four p h o = subst (λ q. number q ≤ 1) o.canonical (boolean_as_number (number p))
 at_most_one s p h o = absurd cc
 
 boolean_sized : (s : Shape) → is_boolean s ≡ true → HasSize s (λ n. true)
-boolean_sized nonzero_byte h = sized nonzero_byte (λ n. true) refl
-boolean_sized one_byte h = sized one_byte (λ n. true) refl
+boolean_sized boolean_if_nonzero h = sized boolean_if_nonzero (λ n. true) refl
+boolean_sized boolean_if_one h = sized boolean_if_one (λ n. true) refl
 boolean_sized boolean_of_four h = sized boolean_of_four (λ n. true) refl
 boolean_sized s h = absurd cc
 

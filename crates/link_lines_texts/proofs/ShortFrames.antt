@@ -5,7 +5,7 @@ use Rattle.std.proofs.lemmas.Bool.{and_parts, cond_both, leb-true}
 use Rattle.std.proofs.lemmas.List.{length-append, length-drop, length-take}
 use Rattle.netlink_packet_core_grammar.specs.Attributes.{nla_align}
 use Rattle.netlink_packet_core_grammar.specs.Bytes.{AreBytes}
-use Rattle.netlink_packet_core_grammar.specs.Frames.{frame_length, frame_type, is_frame}
+use Rattle.netlink_packet_core_grammar.specs.Frames.{frame_length, frame_type, begins_with_frame}
 use Rattle.netlink_packet_core_grammar.specs.Numbers.{u16_at, u32_at}
 use Rattle.netlink_packet_core_grammar.proofs.Bytes.{AreBytes-drop, AreBytes-take}
 use Rattle.attribute_tables_grammar.specs.Shapes.{number}
@@ -296,10 +296,10 @@ shown_short o f h a = cond_both (is_chosen o.only (frame_type f)) (frame_lines o
 abbrev AreShort : Choice → List ℕ → Type 0
 AreShort o c = AreBytes c → length (text_lines o c) ≤ factor * length c
 
-no_frame : (o : Choice) (c : List ℕ) → is_frame c ≡ false → AreShort o c
+no_frame : (o : Choice) (c : List ℕ) → begins_with_frame c ≡ false → AreShort o c
 no_frame o c h a = omega (arith, ap length (stopped o c h))
 
-one_frame : (o : Choice) (c : List ℕ) → is_frame c ≡ true → AreShort o (drop (nla_align (frame_length c)) c) → AreShort o c
+one_frame : (o : Choice) (c : List ℕ) → begins_with_frame c ≡ true → AreShort o (drop (nla_align (frame_length c)) c) → AreShort o c
 one_frame o c h more a =
     let n = frame_length c in
     let l = length_of c h in

@@ -8,7 +8,7 @@ use Rattle.netlink_packet_core_grammar.specs.Bytes.{AreBytes}
 use Rattle.netlink_packet_core_grammar.specs.Numbers.{u16_at, u32_at}
 use Rattle.netlink_packet_core_grammar.proofs.Attributes.{sized}
 use Rattle.netlink_packet_core_grammar.proofs.Bytes.{AreBytes-drop, AreBytes-first_attribute}
-use Rattle.attribute_tables_grammar.specs.Lists.{Context, nothing}
+use Rattle.attribute_tables_grammar.specs.Lists.{Context, no_kind_in_force}
 use Rattle.link_tables.specs.declared.rows.Held.{Held as TableHeld}
 use Rattle.link_tables.specs.declared.rows.Held.TheVariants.{List as HeldList}
 use Rattle.link_tables.specs.InForce.{data_under, port_data_under}
@@ -223,7 +223,7 @@ AllShort n = (level : ℕ) (m : ListTable) (c : Context) (p : List ℕ) → leve
 
 inside_by : (n level : ℕ) (m : ListTable) (c : Context) (e : Attribute) (o : Option (ListTable × List ℕ)) → list_inside level m c e ≡ o → AllShort n → AreListed o → length (inside_lines (λ l t d b. lines_within n l t d b) (level + 1) o) ≤ factor * listed_size o
 inside_by n level m c e None h i a = omega arith
-inside_by n level m c e (Some x) h i a = i (level + 1) x.0 nothing x.1 (list_in_reach level m c e x h) a
+inside_by n level m c e (Some x) h i a = i (level + 1) x.0 no_kind_in_force x.1 (list_in_reach level m c e x h) a
 
 aligned : (n : ℕ) → n ≤ nla_align n
 aligned n = omega arith
@@ -245,4 +245,4 @@ within_short (suc n) level m c p l a = next_by n level m c p (first_attribute p)
 
 pub list_short : (level : ℕ) (m : ListTable) (p : List ℕ) → level ≤ deepest_level → AreBytes p → length (list_lines level m p) ≤ factor * length p
 unfolding list_lines
-list_short level m p l a = within_short (length p) level m nothing p l a
+list_short level m p l a = within_short (length p) level m no_kind_in_force p l a

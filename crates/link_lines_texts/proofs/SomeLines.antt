@@ -18,23 +18,23 @@ some_since [] h = absurd (h refl)
 some_since (x ∷ s) h = omega arith
 
 -- A frame that is accepted has some.
-accepted_lines : (limit : ℕ) (c : List ℕ) (frame : ℕ × List ℕ) → limit < 2 ^ 32 → first_frame limit c ≡ Ok frame → 0 < length (lines everything limit c)
+accepted_lines : (limit : ℕ) (c : List ℕ) (frame : ℕ × List ℕ) → limit < 2 ^ 32 → first_frame link_body limit c ≡ Ok frame → 0 < length (lines everything limit c)
 accepted_lines limit c frame l e =
     let i = texted link_body limit c frame e in
     let small : 16 + length i.body < 2 ^ 32 = omega (arith, i.fits, l) in
-    let more = texts limit (drop (nla_align frame.0) c) in
-    let text : texts limit c ≡ frame_text c i.body ++ more = in_force.captures_are_counted.next_text limit c frame e ∙ ap (λ z. z ++ more) i.text_is in
+    let more = texts link_body limit (drop (nla_align frame.0) c) in
+    let text : texts link_body limit c ≡ frame_text c i.body ++ more = in_force.captures_are_counted.next_text limit c frame e ∙ ap (λ z. z ++ more) i.text_is in
     let own = take (16 + length i.body) (frame_text c i.body) in
     let all : lines everything limit c ≡ frame_lines true own ++ text_lines everything more =
     ap (λ z. text_lines everything z) text ∙ at_start everything c i.body more (accepted link_body limit c frame e).header small in
     some_since (lines everything limit c) (λ none. frame_has_lines true own (text_lines everything more) (sym all ∙ none))
 
 -- A frame that isn't accepted has none.
-judged_lines : (limit : ℕ) (c : List ℕ) (j : Judged) → first_frame limit c ≡ j → 0 < length (lines everything limit c) → (frame : ℕ × List ℕ) × (first_frame limit c ≡ Ok frame)
+judged_lines : (limit : ℕ) (c : List ℕ) (j : Judged) → first_frame link_body limit c ≡ j → 0 < length (lines everything limit c) → (frame : ℕ × List ℕ) × (first_frame link_body limit c ≡ Ok frame)
 judged_lines limit c (Ok frame) e h = (frame, e)
 judged_lines limit c (Err kind) e h =
     let none : lines everything limit c ≡ [] = ap (λ z. text_lines everything z) (stopped_texts limit c kind e) ∙ no_text_lines everything in
     absurd (omega (arith, ap length none, h))
 
 pub have_lines : AcceptedFramesHaveLines
-have_lines limit c l = (judged_lines limit c (first_frame limit c) refl, λ a. accepted_lines limit c a.0 l a.1)
+have_lines limit c l = (judged_lines limit c (first_frame link_body limit c) refl, λ a. accepted_lines limit c a.0 l a.1)

@@ -12,8 +12,8 @@ use Rattle.link_tables.specs.Names.{held_by_name}
 use Rattle.attribute_tables_grammar.specs.Rules.{Rule, shape_rule}
 use Rattle.attribute_tables_grammar.specs.Shapes.{Shape, never, raw, text}
 use Rattle.attribute_tables_grammar.specs.Lists.{Context, ListForm, Row, without_context}
-use Rattle.attribute_tables_grammar.specs.Peers.{Peer, peer_rule}
-use Rattle.attribute_tables_grammar.specs.Tables.{Payload, Table, Names, info_next, info_row, lacks_name, named, names_grammar, row_in, row_in_force, rule}
+use Rattle.attribute_tables_grammar.specs.Peers.{RuleOfPeers, peer_rule}
+use Rattle.attribute_tables_grammar.specs.Tables.{Payload, Table, Names, info_next, info_row, lacks_name, rule_of_name, names_grammar, row_in, row_in_force, rule}
 use Rattle.link_lines_values.specs.declared.values.ShownBy.TheVariants as V
 use Rattle.link_lines_values.specs.Values.{Shown}
 use Rattle.link_lines_values.specs.Layouts.{layout_fields}
@@ -92,7 +92,7 @@ known_independent scope (Payload.link_info form d ports) c i h p = absurd cc
 known_is_settled : (scope : Scope) (s : Payload) (c : Context) (i : Inside) → holds_shown s (Some i) ≡ true → ◌≡◌ {A = List ℕ → Inside} (λ p. known_inside scope c i p) (settled scope i)
 known_is_settled scope s c i h = λ k p. known_independent scope s c i h p k
 
-module _ (bound : ℕ) (peer : Peer) (scope : Scope) where
+module _ (bound : ℕ) (peer : RuleOfPeers) (scope : Scope) where
   -- A row that is looked up is determined under its name.
   abbrev RowDetermined : Table → ℕ → Name → Type 0
   RowDetermined table k t = ((row_in peer table k).is_typed ≡ true) × ((c : Context) → InsideDetermined bound scope (row_in peer table k).rule (λ p. known_inside scope c t.1 p))
@@ -116,19 +116,19 @@ module _ (bound : ℕ) (peer : Peer) (scope : Scope) where
 
   -- The data under a name.
   abbrev NameDetermined : Names → List NameRow → List ℕ → Type 0
-  NameDetermined ns kinds n = InsideDetermined bound scope (named peer ns n) (λ p. kind_inside kinds n)
+  NameDetermined ns kinds n = InsideDetermined bound scope (rule_of_name peer ns n) (λ p. kind_inside kinds n)
 
   name_by : (n m : List ℕ) (s : Payload) (ns : Names) (kinds : List NameRow) (b : Bool) → bytes_eq n m ≡ b → InsideDetermined bound scope (rule peer s) (λ p. kind_inside kinds m) → (lacks_name n ns ≡ false → NameDetermined ns kinds n) →
-      (not b && lacks_name n ns) ≡ false → InsideDetermined bound scope (elim b [ true ↦ rule peer s | false ↦ named peer ns n ]) (λ p. kind_inside kinds n)
+      (not b && lacks_name n ns) ≡ false → InsideDetermined bound scope (elim b [ true ↦ rule peer s | false ↦ rule_of_name peer ns n ]) (λ p. kind_inside kinds n)
   name_by n m s ns kinds true h determined more l = subst (λ z. InsideDetermined bound scope (rule peer s) (λ p. kind_inside kinds z)) (sym ((bytes_eq-Decides n m).0 h)) determined
   name_by n m s ns kinds false h determined more l = more l
 
-  other_by : (n m : List ℕ) (s : Payload) (ns : Names) (b : Bool) → (lacks_name n ns ≡ true → named peer ns n ≡ shape_rule raw) → (not b && lacks_name n ns) ≡ true → (elim b [ true ↦ rule peer s | false ↦ named peer ns n ]) ≡ shape_rule raw
+  other_by : (n m : List ℕ) (s : Payload) (ns : Names) (b : Bool) → (lacks_name n ns ≡ true → rule_of_name peer ns n ≡ shape_rule raw) → (not b && lacks_name n ns) ≡ true → (elim b [ true ↦ rule peer s | false ↦ rule_of_name peer ns n ]) ≡ shape_rule raw
   other_by n m s ns true more l = absurd cc
   other_by n m s ns false more l = more l
 
   -- A name without a payload holds bytes.
-  other_name : (ns : Names) (n : List ℕ) → lacks_name n ns ≡ true → named peer ns n ≡ shape_rule raw
+  other_name : (ns : Names) (n : List ℕ) → lacks_name n ns ≡ true → rule_of_name peer ns n ≡ shape_rule raw
   other_name Names.others n l = refl
   other_name (Names.name m s ns) n l = other_by n m s ns (bytes_eq n m) (other_name ns n) l
 
@@ -148,7 +148,7 @@ unlisted (r ∷ kinds) ns n h l =
 unlisted_inside : (kinds : List NameRow) (ns : Names) (n : List ℕ) → kinds_listed kinds ns ≡ true → lacks_name n ns ≡ true → kind_inside kinds n ≡ Value V.Bytes
 unlisted_inside kinds ns n h l = ap of_held (unlisted kinds ns n h l)
 
-any_name_by : (bound : ℕ) (peer : Peer) (scope : Scope) (kinds : List NameRow) (ns : Names) (n : List ℕ) (b : Bool) → lacks_name n ns ≡ b → kinds_listed kinds ns ≡ true → (lacks_name n ns ≡ false → NameDetermined bound peer scope ns kinds n) → NameDetermined bound peer scope ns kinds n
+any_name_by : (bound : ℕ) (peer : RuleOfPeers) (scope : Scope) (kinds : List NameRow) (ns : Names) (n : List ℕ) (b : Bool) → lacks_name n ns ≡ b → kinds_listed kinds ns ≡ true → (lacks_name n ns ≡ false → NameDetermined bound peer scope ns kinds n) → NameDetermined bound peer scope ns kinds n
 any_name_by bound peer scope kinds ns n false l h determined = determined l
 any_name_by bound peer scope kinds ns n true l h determined =
     subst (λ r. InsideDetermined bound scope r (λ p. kind_inside kinds n)) (sym (other_name bound peer scope ns n l)) (subst (λ i. InsideDetermined bound scope (shape_rule raw) (λ p. i)) (sym (unlisted_inside kinds ns n h l)) (bytes_determined bound scope))
@@ -178,30 +178,30 @@ force_statistics bound scope None = never_determined bound scope (Value V.Bytes)
 force_statistics bound scope (Some n) =
     cond_both (bytes_eq n (codes "can")) (HeldInside can_statistics) (Value V.Bytes) (λ i. InsideDetermined bound scope (shape_rule raw) (λ p. i)) (λ e. held_determined bound scope (shape_rule raw) can_statistics can_determined) (λ e. bytes_determined bound scope)
 
-module _ (bound : ℕ) (peer : Peer) (scope : Scope) where
+module _ (bound : ℕ) (peer : RuleOfPeers) (scope : Scope) where
   -- The data of all names are determined.
   abbrev AllNamesDetermined : Names → List NameRow → Type 0
   AllNamesDetermined ns kinds = (n : List ℕ) → NameDetermined bound peer scope ns kinds n
 
-  force_determined : (ns : Names) (kinds : List NameRow) (o : Option (List ℕ)) → AllNamesDetermined ns kinds → InsideDetermined bound scope (row_in_force o (named peer ns)).rule (λ p. inside_held (held_under kinds o))
+  force_determined : (ns : Names) (kinds : List NameRow) (o : Option (List ℕ)) → AllNamesDetermined ns kinds → InsideDetermined bound scope (row_in_force o (rule_of_name peer ns)).rule (λ p. inside_held (held_under kinds o))
   force_determined ns kinds None determined = never_determined bound scope (Value V.Bytes)
   force_determined ns kinds (Some n) determined = determined n
 
   module _ (data' ports : Names) (data_determined : AllNamesDetermined data' KINDS) (ports_determined : AllNamesDetermined ports PORT_KINDS) where
     abbrev info : Context → ℕ → Row
-    info c k = info_row (named peer data') (named peer ports) c k
+    info c k = info_row (rule_of_name peer data') (rule_of_name peer ports) c k
 
     info_determined : (c : Context) (k : ℕ) → 1 ≤ k → k ≤ 5 → ((info c k).is_typed ≡ true) × KnownDetermined bound scope (info c k).rule c (format (attribute_name_of LINK_INFO.0 k))
     unfolding attribute_name_of attribute_names_of link_names family_names info_attribute_names data_under port_data_under
     info_determined c zero h l = absurd (omega arith)
     info_determined c (suc zero) h l = (refl, plain_determined bound scope text V.Text refl)
-    info_determined c (suc (suc zero)) h l = (force_typed c.kind (named peer data'), force_determined data' KINDS c.kind data_determined)
+    info_determined c (suc (suc zero)) h l = (force_typed c.kind (rule_of_name peer data'), force_determined data' KINDS c.kind data_determined)
     info_determined c (suc (suc (suc zero))) h l = (force_typed c.kind (λ n. shape_rule raw), force_statistics bound scope c.kind)
     info_determined c (suc (suc (suc (suc zero)))) h l = (refl, plain_determined bound scope text V.Text refl)
-    info_determined c (suc (suc (suc (suc (suc zero))))) h l = (force_typed c.port_kind (named peer ports), force_determined ports PORT_KINDS c.port_kind ports_determined)
+    info_determined c (suc (suc (suc (suc (suc zero))))) h l = (force_typed c.port_kind (rule_of_name peer ports), force_determined ports PORT_KINDS c.port_kind ports_determined)
     info_determined c (suc (suc (suc (suc (suc (suc k)))))) h l = absurd (omega arith)
 
-    info_rows : RowsDetermined bound (names_grammar (named peer data') (named peer ports)) (record { table = LINK_INFO; scope = scope })
+    info_rows : RowsDetermined bound (names_grammar (rule_of_name peer data') (rule_of_name peer ports)) (record { table = LINK_INFO; scope = scope })
     info_rows = record {
       named_attributes = λ c k t l e.
           let b = info_kind k t e in
@@ -212,7 +212,7 @@ module _ (bound : ℕ) (peer : Peer) (scope : Scope) where
 
 -- ---- tables
 
-module _ (bound : ℕ) (peer : Peer) (scope : Scope) (peers : InsideDetermined bound scope (peer_rule peer) (settled scope PeerInside)) where
+module _ (bound : ℕ) (peer : RuleOfPeers) (scope : Scope) (peers : InsideDetermined bound scope (peer_rule peer) (settled scope PeerInside)) where
   abbrev list_table : Named → ListTable
   list_table n = record { table = n; scope = scope }
 
@@ -243,7 +243,7 @@ module _ (bound : ℕ) (peer : Peer) (scope : Scope) (peers : InsideDetermined b
       let second = and_parts (names_shown ports PORT_KINDS) (kinds_listed PORT_KINDS ports) both.1 in
       let data_all : AllNamesDetermined bound peer scope data' KINDS = λ m. any_name_by bound peer scope KINDS data' m (lacks_name m data') refl first.1 (data_determined first.0 m) in
       let ports_all : AllNamesDetermined bound peer scope ports PORT_KINDS = λ m. any_name_by bound peer scope PORT_KINDS ports m (lacks_name m ports) refl second.1 (ports_determined second.0 m) in
-      let determined = lists_determined bound form (names_grammar (named peer data') (named peer ports)) (list_table LINK_INFO) (names_determined LINK_INFO) (info_rows bound peer scope data' ports data_all ports_all) in
+      let determined = lists_determined bound form (names_grammar (rule_of_name peer data') (rule_of_name peer ports)) (list_table LINK_INFO) (names_determined LINK_INFO) (info_rows bound peer scope data' ports data_all ports_all) in
       subst (λ k. InsideDetermined bound scope (rule peer (Payload.link_info form data' ports)) (λ p. Nested k)) (sym (info_is n parts.0)) (nested_determined bound scope (rule peer (Payload.link_info form data' ports)) LINK_INFO determined)
 
   -- Data under a name are no peer.

@@ -4,6 +4,7 @@ use Rattle.netlink_packet_core_grammar.specs.Frames.{frame_length, frame_type}
 use Rattle.link_capture_grammar.specs.Captures.{texts}
 use Rattle.link_capture_grammar.specs.WholeFrames.{whole_frames}
 use Rattle.link_lines_texts.specs.Frames.{frame_lines}
+use Rattle.link_message_grammar.specs.Body.{link_body}
 
 -- A choice of what is shown: whether sequence numbers and netlink port IDs are, and the types of the shown messages if
 -- not all are.
@@ -39,4 +40,4 @@ text_lines o t = flat_map (λ f. shown_lines o (take (frame_length f) f)) (whole
 
 -- The lines of a capture's normal text, or of the texts before its first fault.
 abbrev pub lines : Choice → ℕ → List ℕ → List ℕ
-lines o limit c = text_lines o (texts limit c)
+lines o limit c = text_lines o (texts link_body limit c)

@@ -4,7 +4,7 @@ use Rattle.std.specs.Prelude.{ℕ, ◌==◌, ◌&&◌, ◌||◌, not, nat_le, Bo
 use Rattle.std.specs.Prelude.{Some, None, bytes_eq}
 use Rattle.std.specs.List.{list_all}
 use Rattle.link_tables.specs.declared.names.NameRow.{NameRow}
-use Rattle.attribute_tables_grammar.specs.Shapes.{Shape, exact, either, at_most, nonzero_byte, one_byte}
+use Rattle.attribute_tables_grammar.specs.Shapes.{Shape, exact, either, at_most, boolean_if_nonzero, boolean_if_one}
 use Rattle.attribute_tables_grammar.specs.Shapes.{boolean_of_four, presence, text, raw, never, fixed_record}
 use Rattle.attribute_tables_grammar.specs.Shapes.{id_and_boolean, resized}
 use Rattle.attribute_tables_grammar.specs.Tables.{Payload, Payload.plain, Payload.peer, Payload.list, Payload.link_info}
@@ -37,8 +37,8 @@ abbrev pub canonical_size : Shape → Option ℕ
 canonical_size (exact n) = Some n
 canonical_size (either m n) = None
 canonical_size (at_most n) = None
-canonical_size nonzero_byte = Some 1
-canonical_size one_byte = Some 1
+canonical_size boolean_if_nonzero = Some 1
+canonical_size boolean_if_one = Some 1
 canonical_size boolean_of_four = Some 4
 canonical_size presence = Some 0
 canonical_size text = None
@@ -59,8 +59,8 @@ is_size n = (n == 1) || ((n == 2) || ((n == 3) || ((n == 4) || (n == 8))))
 
 -- Whether the canonical payloads of a shape are the numbers 0 and 1.
 abbrev pub is_boolean : Shape → Bool
-is_boolean nonzero_byte = true
-is_boolean one_byte = true
+is_boolean boolean_if_nonzero = true
+is_boolean boolean_if_one = true
 is_boolean boolean_of_four = true
 is_boolean s = false
 

@@ -6,7 +6,7 @@ use Rattle.netlink_packet_core_grammar.specs.Frames.{frame_length}
 use Rattle.netlink_packet_core_grammar.specs.Numbers.{u16_at, u32_at}
 use Rattle.attribute_tables_grammar.specs.Rules.{Rule, shape_rule}
 use Rattle.attribute_tables_grammar.specs.Shapes.{Shape}
-use Rattle.link_message_grammar.specs.Body.{attributes_rule}
+use Rattle.link_message_grammar.specs.Body.{attributes_rule, link_peer, link_body}
 use Rattle.link_message_grammar.specs.LinkMessage.{family_of}
 use Rattle.link_capture_grammar.specs.Bodies.{body_text}
 use Rattle.link_capture_grammar.specs.Captures.{first_frame}
@@ -19,6 +19,7 @@ use Rattle.link_tables.specs.Tables.{family_table}
 use Rattle.link_lines_raw.specs.Lines.{IsShallow}
 use Rattle.link_lines_texts.specs.declared.attributes.ListTable.{ListTable}
 use Rattle.link_lines_texts.specs.Lists.{list_lines}
+use Rattle.link_capture_grammar.specs.Laws.{IsLimit}
 
 -- Bytes that a rule accepts, and that are already canonical.
 pub record IsCanonical (r : Rule) (p : List ℕ) : Type 0 where
@@ -39,7 +40,7 @@ of_family scope n = record { table = family_table n; scope = scope }
 -- whatever shallower lines follow.
 abbrev pub ListsAreDetermined : Type 0
 ListsAreDetermined = (is_request : Bool) (level n : ℕ) (p q s t : List ℕ) →
-    IsCanonical (attributes_rule (family_of n)) p → IsCanonical (attributes_rule (family_of n)) q →
+    IsCanonical (attributes_rule link_peer (family_of n)) p → IsCanonical (attributes_rule link_peer (family_of n)) q →
     IsShallow level s → IsShallow level t → list_lines level (of_family (in_message is_request) n) p ++ s
     ≡ list_lines level (of_family (in_message is_request) n) q ++ t → (p ≡ q) × (s ≡ t)
 
@@ -47,7 +48,7 @@ ListsAreDetermined = (is_request : Bool) (level n : ℕ) (p q s t : List ℕ) �
 pub record IsCanonicalFrame (f : List ℕ) : Type 0 where
   pub bytes : AreBytes f
   pub header : 16 ≤ length f
-  pub body : body_text (u16_at 4 f) (drop 16 f) ≡ Ok (drop 16 f)
+  pub body : body_text link_body (u16_at 4 f) (drop 16 f) ≡ Ok (drop 16 f)
 
 -- A text is empty, or begins as the name of a type does.
 abbrev pub StartsFrame : List ℕ → Type 0
@@ -83,7 +84,7 @@ unpadded t = take (frame_length t) t
 
 -- The text of an accepted frame is shown as a frame whose body is canonical.
 pub record AcceptedFramesAreCanonical : Type 0 where
-  pub canonical : (limit : ℕ) (c : List ℕ) (frame : ℕ × List ℕ) → limit < 2 ^ 32 → AreBytes c →
-      first_frame limit c ≡ Ok frame → IsCanonicalFrame (unpadded frame.1)
-  pub lines : (o : Choice) (limit : ℕ) (c : List ℕ) (frame : ℕ × List ℕ) → limit < 2 ^ 32 →
-      first_frame limit c ≡ Ok frame → text_lines o frame.1 ≡ shown_lines o (unpadded frame.1)
+  pub canonical : (limit : ℕ) (c : List ℕ) (frame : ℕ × List ℕ) → IsLimit limit → AreBytes c →
+      first_frame link_body limit c ≡ Ok frame → IsCanonicalFrame (unpadded frame.1)
+  pub lines : (o : Choice) (limit : ℕ) (c : List ℕ) (frame : ℕ × List ℕ) → IsLimit limit →
+      first_frame link_body limit c ≡ Ok frame → text_lines o frame.1 ≡ shown_lines o (unpadded frame.1)

@@ -4,7 +4,7 @@
 use Rattle.std.specs.Prelude.{ℕ, zero, suc, ◌+◌, nat_le, true, cond, List, [], ◌∷◌, ◌++◌, length, drop}
 use Rattle.std.specs.Prelude.{Option, Some, None, slice_index}
 use Rattle.netlink_packet_core_grammar.specs.Attributes.{Attribute, proper_kind, first_attribute}
-use Rattle.attribute_tables_grammar.specs.Lists.{Context, nothing}
+use Rattle.attribute_tables_grammar.specs.Lists.{Context, no_kind_in_force}
 use Rattle.attribute_tables_grammar.specs.Tables.{info_next}
 use Rattle.link_lines_values.specs.Bytes.{bytes_text}
 use Rattle.link_lines_values.specs.Indents.{indent}
@@ -93,7 +93,7 @@ list_inside level m c e = named_attribute_list (level + 1) m c (attribute_name_o
 -- The lines of the list in an attribute, if there is one, given the lines of lists.
 abbrev pub inside_lines : (ℕ → ListTable → Context → List ℕ → List ℕ) → ℕ → Option (ListTable × List ℕ) → List ℕ
 inside_lines list level None = []
-inside_lines list level (Some x) = list level x.0 nothing x.1
+inside_lines list level (Some x) = list level x.0 no_kind_in_force x.1
 
 -- The lines of the first attribute, of the list in it, and of the attributes after it, given the lines of lists.
 abbrev pub next_lines : (ℕ → ListTable → Context → List ℕ → List ℕ) → ℕ → ListTable → Context →
@@ -110,7 +110,7 @@ lines_within (suc n) level m c bytes = next_lines (λ l t d b. lines_within n l 
 
 -- The lines of a list of attributes of a table.
 unfoldable pub list_lines : ℕ → ListTable → List ℕ → List ℕ
-list_lines level m bytes = lines_within (length bytes) level m nothing bytes
+list_lines level m bytes = lines_within (length bytes) level m no_kind_in_force bytes
 
 -- The lines of the list in an attribute, if there is one.
 abbrev pub nested_lines : ℕ → Option (ListTable × List ℕ) → List ℕ

@@ -21,15 +21,15 @@ short n true e l = absurd (let h : 16 ≤ n = leb-true 16 n e in omega arith)
 short n false e l = refl
 
 pub body-short : BodiesAreHeadersAndAttributes link_peer → (b : List ℕ) → length b < 16 → link_body.accepted b ≡ false
-body-short parts b l = (parts b).accepted ∙ ap (λ t. t && (attributes_rule (family b)).accepted (attribute_bytes b)) (short (length b) (nat_le 16 (length b)) refl l)
+body-short parts b l = (parts b).accepted ∙ ap (λ t. t && (attributes_rule link_peer (family b)).accepted (attribute_bytes b)) (short (length b) (nat_le 16 (length b)) refl l)
 
-pub body-accepted : BodiesAreHeadersAndAttributes link_peer → (b : List ℕ) → 16 ≤ length b → link_body.accepted b ≡ (attributes_rule (family b)).accepted (attribute_bytes b)
-body-accepted parts b l = (parts b).accepted ∙ ap (λ t. t && (attributes_rule (family b)).accepted (attribute_bytes b)) (le-leb 16 (length b) l)
+pub body-accepted : BodiesAreHeadersAndAttributes link_peer → (b : List ℕ) → 16 ≤ length b → link_body.accepted b ≡ (attributes_rule link_peer (family b)).accepted (attribute_bytes b)
+body-accepted parts b l = (parts b).accepted ∙ ap (λ t. t && (attributes_rule link_peer (family b)).accepted (attribute_bytes b)) (le-leb 16 (length b) l)
 
-pub body-canonical : BodiesAreHeadersAndAttributes link_peer → (b : List ℕ) → link_body.canonical b ≡ header_text b ++ (attributes_rule (family b)).canonical (attribute_bytes b)
+pub body-canonical : BodiesAreHeadersAndAttributes link_peer → (b : List ℕ) → link_body.canonical b ≡ header_text b ++ (attributes_rule link_peer (family b)).canonical (attribute_bytes b)
 body-canonical parts b = (parts b).canonical
 
-pub body-fits : BodiesAreHeadersAndAttributes link_peer → (b : List ℕ) → link_body.fits b ≡ (attributes_rule (family b)).fits (attribute_bytes b)
+pub body-fits : BodiesAreHeadersAndAttributes link_peer → (b : List ℕ) → link_body.fits b ≡ (attributes_rule link_peer (family b)).fits (attribute_bytes b)
 body-fits parts b = (parts b).fits
 
 -- The attributes that are read determine whether they have ports of which no entry is kept.
@@ -37,9 +37,9 @@ read_empty : (vs : List LinkAttribute) → list_any (λ w. is_emptied w.entry) (
 read_empty [] = refl
 read_empty (v ∷ vs) = ap (λ t. is_emptied (link_attribute_entry v) || t) (read_empty vs)
 
-pub body-empty_ports : BodiesAreHeadersAndAttributes link_peer → EmptyPortsAreDetermined link_peer → (b : List ℕ) (f : Family) → f ≡ family b → (vs : List LinkAttribute) → reading_as any (without_context (attribute_row f)) (attribute_bytes b) ≡ Some (map (written_as link_attribute_entry link_attribute_fits) vs) → list_any (λ v. is_emptied (link_attribute_entry v)) vs ≡ link_body.empty_ports b
+pub body-empty_ports : BodiesAreHeadersAndAttributes link_peer → EmptyPortsAreDetermined link_peer → (b : List ℕ) (f : Family) → f ≡ family b → (vs : List LinkAttribute) → reading_as any (without_context (attribute_row link_peer f)) (attribute_bytes b) ≡ Some (map (written_as link_attribute_entry link_attribute_fits) vs) → list_any (λ v. is_emptied (link_attribute_entry v)) vs ≡ link_body.empty_ports b
 body-empty_ports parts law b f h vs r =
-    sym (read_empty vs) ∙ sym (law f (attribute_bytes b) _ r) ∙ ap (λ g. (attributes_rule g).empty_ports (attribute_bytes b)) h ∙ sym (parts b).empty_ports
+    sym (read_empty vs) ∙ sym (law f (attribute_bytes b) _ r) ∙ ap (λ g. (attributes_rule link_peer g).empty_ports (attribute_bytes b)) h ∙ sym (parts b).empty_ports
 
 -- A size that `buffer_len` and similar functions return is 0 if they return 0.
 pub emitted_size_determined : (n : ℕ) → (as_usize n == 0) ≡ (n == 0)

@@ -2,7 +2,7 @@
 use Rattle.std.specs.Prelude.{ℕ, Bool, List, ◌++◌, map}
 use Rattle.std.specs.List.{All, list_any}
 use Rattle.netlink_packet_core.specs.Lists.{text_by, all_fit_by}
-use Rattle.attribute_tables_grammar.specs.Readings.{Written}
+use Rattle.attribute_tables_grammar.specs.Readings.{AttributeReading}
 use Rattle.attribute_tables.specs.Written.{written_as}
 use Rattle.link_message_grammar.specs.Body.{is_emptied}
 use Rattle.link_message_types.specs.AddressFamilies.{table_family}
@@ -24,7 +24,7 @@ abbrev pub link_message_empty_ports : LinkMessage → Bool
 link_message_empty_ports m = list_any (λ v. is_emptied (link_attribute_entry v)) m.attributes.items
 
 -- The attributes that a message is written as, each with whether what is inside it fits.
-abbrev pub link_message_written : LinkMessage → List Written
+abbrev pub link_message_written : LinkMessage → List AttributeReading
 link_message_written m = map (written_as link_attribute_entry link_attribute_fits) m.attributes.items
 
 -- Each attribute is the variant that its row names, under the family of the header.

@@ -4,7 +4,7 @@ ghost use Rattle.std.specs.Prelude.{◌≡◌, ◌<◌, true, length, slice_inde
 ghost use Rattle.netlink_packet_core.specs.Errors.{is_memory};
 ghost use Rattle.attribute_tables_grammar.specs.Lists.{any, without_context};
 ghost use Rattle.attribute_tables_grammar.specs.Readings.{reading_as};
-ghost use Rattle.link_message_grammar.specs.Body.{attribute_bytes, attribute_row, family, header_text, link_body};
+ghost use Rattle.link_message_grammar.specs.Body.{attribute_bytes, attribute_row, family, header_text, link_body, link_peer};
 ghost use Rattle.link_message_types.specs.AddressFamilies.{address_family_of};
 ghost use Rattle.link_message_types.specs.Headers.{link_header_bytes};
 ghost use Rattle.link_message.specs.LinkMessages.{link_message_text, link_message_fits, link_message_written};
@@ -47,7 +47,7 @@ impl LinkMessage {
         ensures family { IfOk result
             (λ m. m.header.interface_family ≡ address_family_of (slice_index bytes.now 0)) }
         ensures read { IfOk result
-            (λ m. reading_as any (without_context (attribute_row (family bytes.now)))
+            (λ m. reading_as any (without_context (attribute_row link_peer (family bytes.now)))
             (attribute_bytes bytes.now)
             ≡ Some (link_message_written m)) }
         ensures text { IfOk result (λ m. link_message_text m ≡ link_body.canonical bytes.now) }

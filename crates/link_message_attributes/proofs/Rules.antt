@@ -9,14 +9,14 @@ use Rattle.link_message_grammar.specs.Body.{attribute_row, attributes_rule, info
 use Rattle.link_message_grammar.specs.Laws.{AttributesAreLookedUp}
 use Rattle.link_message_grammar.specs.LinkMessage.{Family}
 
-pub attributes-rule : AttributesAreLookedUp link_peer → (f : Family) → attributes_rule f ≡ rows_rule any (attribute_row f)
+pub attributes-rule : AttributesAreLookedUp link_peer → (f : Family) → attributes_rule link_peer f ≡ rows_rule any (attribute_row link_peer f)
 attributes-rule law = law
 
 pub ruleset attribute_rules = (attributes-rule)
 
 -- Empty bytes are no link info.
-pub no_info : (b : List ℕ) → true ≡ length b == 0 → info_payload_rule.accepted b ≡ false
-unfolding LookUps.link_info_of Attributes.attributes_within
+pub no_info : (b : List ℕ) → true ≡ length b == 0 → (info_payload_rule link_peer).accepted b ≡ false
+unfolding LookUps.link_info_rule Attributes.attributes_within
 no_info [] h = refl
 no_info (x ∷ b) h = absurd (omega (arith, eqb-true (length (x ∷ b)) 0 (sym h)))
 

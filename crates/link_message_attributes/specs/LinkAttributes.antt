@@ -7,18 +7,18 @@ use Rattle.netlink_packet_core.specs.AttributeViews.{viewed_kind, viewed_payload
 use Rattle.netlink_packet_core.specs.Families.{attribute, family_row}
 use Rattle.netlink_packet_core.specs.Lists.{text_by, all_fit_by}
 use Rattle.netlink_packet_core.specs.Numbers.{le4, signed_bits}
-use Rattle.attribute_tables_grammar.specs.Lists.{nothing, Row}
-use Rattle.attribute_tables_grammar.specs.LookUps.{Line, line_holds_bytes}
+use Rattle.attribute_tables_grammar.specs.Lists.{no_kind_in_force, Row}
+use Rattle.attribute_tables_grammar.specs.LookUps.{Line, line_allocates}
 use Rattle.attribute_tables_grammar.specs.Peers.{bytes_peer}
-use Rattle.attribute_tables_grammar.specs.Readings.{all_named}
+use Rattle.attribute_tables_grammar.specs.Readings.{AreRowVariants}
 use Rattle.attribute_tables_grammar.specs.Shapes.{raw}
 use Rattle.attribute_tables_grammar.specs.Tables.{Payload, Payload.plain, Payload.list, Payload.link_info}
 use Rattle.attribute_tables.specs.Beginnings.{begins_readable, line_may_allocate, table_may_allocate}
-use Rattle.link_info_grammar.specs.LinkInfo.{info_grammar_under}
+use Rattle.link_info_grammar.specs.LinkInfo.{info_grammar}
 use Rattle.link_info.specs.LinkInfo.{link_info_entry, link_info_fits, link_info_is_row_variant}
-use Rattle.link_message_grammar.specs.LinkMessage.{Family, unspec, bridge, inet_6, family_payload, has_no_link_row}
+use Rattle.link_message_grammar.specs.LinkMessage.{Family, unspec, bridge, inet_6, family_payload, HasNoLinkRow}
 use Rattle.link_message_grammar.specs.LinkMessage.{link_line}
-use Rattle.link_message_grammar.specs.Body.{attribute_row, attribute_row_under, info_payload_rule, link_peer}
+use Rattle.link_message_grammar.specs.Body.{attribute_row, info_payload_rule, link_peer}
 use Rattle.link_message_grammar.specs.NestedTables.{specific}
 use Rattle.link_message_nested.specs.AddressFamilies.{af_spec_unspec_entry, af_spec_unspec_fits}
 use Rattle.link_message_nested.specs.AddressFamilies.{af_spec_unspec_names_row}
@@ -134,11 +134,11 @@ link_attribute_names_row f (Link.VfInfoList vs) = All link_vf_info_names_row vs.
 link_attribute_names_row f (Link.Xdp vs) = All link_xdp_names_row vs.items
 link_attribute_names_row f (Link.Event e) = e ≡ link_event_of (link_event_number e)
 link_attribute_names_row f (Link.LinkInfo vs) =
-    all_named (info_grammar_under link_peer) link_info_entry link_info_is_row_variant nothing vs.items
+    AreRowVariants (info_grammar link_peer) link_info_entry link_info_is_row_variant no_kind_in_force vs.items
 link_attribute_names_row f (Link.ProtoInfoBridge vs) = f ≡ bridge
 link_attribute_names_row f (Link.ProtoInfoInet6 vs) = f ≡ inet_6
 link_attribute_names_row f (Link.ProtoInfoUnknown a) = (proper_kind a.kind ≡ 12) ×
-    has_no_link_row f (proper_kind a.kind)
+    HasNoLinkRow f (proper_kind a.kind)
 link_attribute_names_row f (Link.PropList vs) = All prop_names_row vs.items
 link_attribute_names_row f (Link.ProtoDownReason vs) = All link_protocol_down_reason_names_row vs.items
 link_attribute_names_row f (Link.Mode m) = m ≡ link_mode_of (link_mode_number m)
@@ -150,13 +150,13 @@ link_attribute_names_row f (Link.AfSpecUnknown b) = family_payload f ≡ plain r
 link_attribute_names_row f (Link.DevlinkPort vs) = All devlink_port_names_row vs.items
 link_attribute_names_row f (Link.DpllPin vs) = All dpll_pin_names_row vs.items
 link_attribute_names_row f (Link.Other a) = ((proper_kind a.kind == 12) ≡ false) ×
-    has_no_link_row f (proper_kind a.kind)
+    HasNoLinkRow f (proper_kind a.kind)
 link_attribute_names_row f _ = Unit {0}
 
 -- The row of a kind under the rule by which peers are bytes, which is the row in force of every kind except link
 -- info's.
 abbrev pub plain_row : Family → ℕ → Row
-plain_row = attribute_row_under bytes_peer
+plain_row = attribute_row bytes_peer
 
 -- Whether a payload is a list of attributes.
 abbrev pub payload_holds_list : Payload → Bool
@@ -178,7 +178,7 @@ families_may_allocate f p = line_may_allocate (link_line f 26) p
 -- is accepted, or is a list whose reading may allocate.
 abbrev pub list_may_allocate : Family → ℕ → List ℕ → Bool
 list_may_allocate f k p =
-    cond (k == 18) (info_payload_rule.accepted p)
+    cond (k == 18) ((info_payload_rule link_peer).accepted p)
     (cond (k == 22) (vf_infos_begin_readable p)
     (cond (k == 24) (vf_ports_begin_readable p)
     (cond (k == 26) (families_may_allocate f p)
@@ -188,8 +188,8 @@ list_may_allocate f k p =
 -- bits of a mask, on whether the row accepts them.
 abbrev pub row_may_allocate : Family → ℕ → List ℕ → Bool
 row_may_allocate f k p =
-    cond (line_holds_list (link_line f k)) (list_may_allocate f k p) ((k == 29 || line_holds_bytes (link_line f k)) &&
-    (attribute_row f k).rule.accepted p)
+    cond (line_holds_list (link_line f k)) (list_may_allocate f k p) ((k == 29 || line_allocates (link_line f k)) &&
+    (attribute_row link_peer f k).rule.accepted p)
 
 -- Whether reading the attribute at the start of some bytes may allocate.
 abbrev pub link_attribute_may_allocate : Family → List ℕ → Bool

@@ -3,13 +3,13 @@
 
 ghost use Rattle.std.specs.Prelude.{◌≡◌, ◌==◌, ◌<◌, false, true, length, map, Some, IfOk, IfErr};
 ghost use Rattle.std.specs.List.{All};
-ghost use Rattle.netlink_packet_core.specs.AttributeViews.{IsAttribute};
+ghost use Rattle.netlink_packet_core.specs.AttributeViews.{BeginsWithAttribute};
 ghost use Rattle.netlink_packet_core.specs.NlaBuffers.{storage};
 ghost use Rattle.attribute_tables_grammar.specs.Lists.{any, without_context};
 ghost use Rattle.attribute_tables_grammar.specs.Readings.{reading_as};
 ghost use Rattle.attribute_tables.specs.Views.{is_accepted_by, viewed_row};
 ghost use Rattle.netlink_packet_core.specs.AttributeViews.{viewed_attribute};
-ghost use Rattle.link_message_grammar.specs.Body.{attribute_row, attributes_rule};
+ghost use Rattle.link_message_grammar.specs.Body.{attribute_row, attributes_rule, link_peer};
 ghost use Rattle.link_message_types.specs.AddressFamilies.{table_family};
 ghost use Rattle.link_message_attributes.specs.LinkAttributes.{link_attribute_entry, link_attribute_fits, link_attribute_names_row};
 ghost use Rattle.link_message_attributes.specs.LinkAttributes.{IsNoText, link_attribute_may_allocate, plain_row};
@@ -452,7 +452,7 @@ impl LinkAttribute {
         kind: u16,
         payload: &[u8],
     ) -> Result<Option<Self>, DecodeError>
-        ensures { IsRowRead result (table_family family) (attribute_row (table_family family) kind) kind payload.now }
+        ensures { IsRowRead result (table_family family) (attribute_row link_peer (table_family family) kind) kind payload.now }
     {
         only_link_info_holds_peers();
         match kind {
@@ -467,11 +467,11 @@ impl LinkAttribute {
         buf: &NlaBuffer<&[u8]>,
         family: AddressFamily,
     ) -> Result<LinkAttribute, DecodeError>
-        requires { IsAttribute (storage buf.now).now }
+        requires { BeginsWithAttribute (storage buf.now).now }
         ensures judged { SucceedsIf result
-            (is_accepted_by (attribute_row (table_family family)) (storage buf.now).now) }
+            (is_accepted_by (attribute_row link_peer (table_family family)) (storage buf.now).now) }
         ensures written { IsRewrittenBy result link_attribute_entry link_attribute_fits
-            (viewed_row (attribute_row (table_family family)) (storage buf.now).now)
+            (viewed_row (attribute_row link_peer (table_family family)) (storage buf.now).now)
             (viewed_attribute (storage buf.now).now) }
         ensures is_row_variant { IfOk result
             (λ v. link_attribute_names_row (table_family family) v) }
@@ -501,11 +501,11 @@ impl LinkAttribute {
         buf: &NlaBuffer<&[u8]>,
         family: AddressFamily,
     ) -> Result<LinkAttribute, DecodeError>
-        requires { IsAttribute (storage buf.now).now }
+        requires { BeginsWithAttribute (storage buf.now).now }
         ensures judged { IsRefusedUnless result
-            (is_accepted_by (attribute_row (table_family family)) (storage buf.now).now) }
+            (is_accepted_by (attribute_row link_peer (table_family family)) (storage buf.now).now) }
         ensures written { IsRewrittenBy result link_attribute_entry link_attribute_fits
-            (viewed_row (attribute_row (table_family family)) (storage buf.now).now)
+            (viewed_row (attribute_row link_peer (table_family family)) (storage buf.now).now)
             (viewed_attribute (storage buf.now).now) }
         ensures is_row_variant { IfOk result
             (λ v. link_attribute_names_row (table_family family) v) }
@@ -529,11 +529,11 @@ impl LinkAttribute {
         family: AddressFamily,
     ) -> Result<Vec<LinkAttribute>, DecodeError>
         ensures judged { SucceedsIf result
-            ((attributes_rule (table_family family)).accepted bytes.now) }
+            ((attributes_rule link_peer (table_family family)).accepted bytes.now) }
         ensures read { ListIsReadAs result link_attribute_entry link_attribute_fits
-            (reading_as any (without_context (attribute_row (table_family family))) bytes.now) }
+            (reading_as any (without_context (attribute_row link_peer (table_family family))) bytes.now) }
         ensures written { ListIsWrittenBy result link_attribute_entry link_attribute_fits
-            (attributes_rule (table_family family)) bytes.now }
+            (attributes_rule link_peer (table_family family)) bytes.now }
         ensures is_row_variant { IfOk result
             (λ v. All (link_attribute_names_row (table_family family)) v.items) }
         ensures not_empty { IfErr result (λ _. 0 < length bytes.now) }
@@ -556,11 +556,11 @@ impl LinkAttribute {
         family: AddressFamily,
     ) -> Result<Vec<LinkAttribute>, DecodeError>
         ensures judged { IsRefusedUnless result
-            ((attributes_rule (table_family family)).accepted bytes.now) }
+            ((attributes_rule link_peer (table_family family)).accepted bytes.now) }
         ensures read { ListIsReadAs result link_attribute_entry link_attribute_fits
-            (reading_as any (without_context (attribute_row (table_family family))) bytes.now) }
+            (reading_as any (without_context (attribute_row link_peer (table_family family))) bytes.now) }
         ensures written { ListIsWrittenBy result link_attribute_entry link_attribute_fits
-            (attributes_rule (table_family family)) bytes.now }
+            (attributes_rule link_peer (table_family family)) bytes.now }
         ensures is_row_variant { IfOk result
             (λ v. All (link_attribute_names_row (table_family family)) v.items) }
         ensures not_empty { IfErr result (λ _. 0 < length bytes.now) }
@@ -581,7 +581,7 @@ struct LinkAttributeReader {
 impl Reader for LinkAttributeReader {
     type Value = LinkAttribute;
 
-    ghost row_of = { λ r. attribute_row (table_family r.family) };
+    ghost row_of = { λ r. attribute_row link_peer (table_family r.family) };
 
     ghost is_row_variant = { λ r. link_attribute_names_row (table_family r.family) };
 

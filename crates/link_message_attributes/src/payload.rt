@@ -3,9 +3,9 @@
 ghost use Rattle.std.specs.Prelude.{◌≡◌, ◌==◌, ◌<◌, true, length, IsTrue, IfOk, IfErr, OnOk};
 ghost use Rattle.netlink_packet_core.specs.Errors.{is_memory};
 ghost use Rattle.netlink_packet_core.specs.Numbers.{as_usize, le4};
-ghost use Rattle.attribute_tables_grammar.specs.Lists.{nothing};
-ghost use Rattle.attribute_tables_grammar.specs.Readings.{all_named};
-ghost use Rattle.link_info_grammar.specs.LinkInfo.{info_grammar_under};
+ghost use Rattle.attribute_tables_grammar.specs.Lists.{no_kind_in_force};
+ghost use Rattle.attribute_tables_grammar.specs.Readings.{AreRowVariants};
+ghost use Rattle.link_info_grammar.specs.LinkInfo.{info_grammar};
 ghost use Rattle.link_info.specs.LinkInfo.{link_info_entry, link_info_fits, link_info_is_row_variant};
 ghost use Rattle.link_message_grammar.specs.Body.{info_payload_rule, link_peer};
 ghost use Rattle.link_message_types.specs.ExtentMasks.{joined_extent_masks, link_extent_masks_of};
@@ -162,11 +162,11 @@ pub(crate) fn parse_extent_masks(
 /// A refusal if the list isn't legal or has no attribute; out of memory if an allocation fails for
 /// an accepted list.
 pub(crate) fn parse_link_info(alloc: Global, payload: &[u8]) -> Result<Vec<LinkInfo>, DecodeError>
-    ensures judged { IsRefusedUnless result (info_payload_rule.accepted payload.now) }
-    ensures written { ListIsWrittenBy result link_info_entry link_info_fits info_payload_rule
+    ensures judged { IsRefusedUnless result ((info_payload_rule link_peer).accepted payload.now) }
+    ensures written { ListIsWrittenBy result link_info_entry link_info_fits (info_payload_rule link_peer)
         payload.now }
     ensures is_row_variant { IfOk result
-        (λ v. all_named (info_grammar_under link_peer) link_info_entry link_info_is_row_variant nothing
+        (λ v. AreRowVariants (info_grammar link_peer) link_info_entry link_info_is_row_variant no_kind_in_force
         v.items) }
     ensures not_empty { IfMemory result (0 < length payload.now) }
 {

@@ -5,21 +5,21 @@ use Rattle.std.proofs.lemmas.Bool.{false_from_ne_true}
 use Rattle.std.proofs.lemmas.List.{take_min}
 use Rattle.std.proofs.lemmas.Slice.Eq.{bytes_eq-Decides}
 use Rattle.link_interpreter.proofs.SameShapes.{following_same}
-use Rattle.link_message_grammar.specs.Body.{header_text, is_listed, layer_type_text}
+use Rattle.link_message_grammar.specs.Body.{header_text, has_layer_type_name, layer_type_text}
 
-pub canonical_header : (b : List ℕ) → 16 ≤ length b → slice_index b 1 ≡ 0 → is_listed (slice_index b 2 + 256 * slice_index b 3) ≡ true → header_text b ≡ take 16 b
+pub canonical_header : (b : List ℕ) → 16 ≤ length b → slice_index b 1 ≡ 0 → has_layer_type_name (slice_index b 2 + 256 * slice_index b 3) ≡ true → header_text b ≡ take 16 b
 canonical_header (f ∷ x ∷ k ∷ l ∷ tail) long z h =
     ap (λ v. f ∷ 0 ∷ (cond v (k ∷ l ∷ []) (255 ∷ 255 ∷ []) ++ take 12 tail)) h ∙ ap (λ n. f ∷ n ∷ k ∷ l ∷ take 12 tail) (sym z)
 canonical_header b long z h = absurd (omega arith)
 
 -- The layer type that is written, in two bytes.
-pub named_layer : (a b : ℕ) → a < 256 → is_listed (a + 256 * b) ≡ true → (a + 256 * b) % 256 ∷ (a + 256 * b) / 256 ∷ [] ≡ layer_type_text a b
+pub named_layer : (a b : ℕ) → a < 256 → has_layer_type_name (a + 256 * b) ≡ true → (a + 256 * b) % 256 ∷ (a + 256 * b) / 256 ∷ [] ≡ layer_type_text a b
 named_layer a b l h =
     let m : (a + 256 * b) % 256 ≡ a = omega (arith, l) in
     let d : (a + 256 * b) / 256 ≡ b = omega (arith, l) in
     (λ i. m i ∷ d i ∷ []) ∙ ap (λ v. cond v (a ∷ b ∷ []) (255 ∷ 255 ∷ [])) (sym h)
 
-pub void_layer : (a b : ℕ) → is_listed (a + 256 * b) ≡ false → 255 ∷ 255 ∷ [] ≡ layer_type_text a b
+pub void_layer : (a b : ℕ) → has_layer_type_name (a + 256 * b) ≡ false → 255 ∷ 255 ∷ [] ≡ layer_type_text a b
 void_layer a b h = ap (λ v. cond v (a ∷ b ∷ []) (255 ∷ 255 ∷ [])) (sym h)
 
 -- ---- two headers, each of which may be cut short after its layer type

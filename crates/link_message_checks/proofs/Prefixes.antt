@@ -7,10 +7,10 @@ use Rattle.std.proofs.lemmas.List.{drop-drop, length-append, length-drop, length
 use Rattle.attribute_tables_grammar.specs.Laws.{RowsAreLookedUp}
 use Rattle.attribute_tables_grammar.specs.Lists.{any, list_rule}
 use Rattle.attribute_tables_grammar.specs.LookUps.{rows_rule}
-use Rattle.attribute_tables_grammar.specs.Peers.{Peer}
+use Rattle.attribute_tables_grammar.specs.Peers.{RuleOfPeers}
 use Rattle.attribute_tables_grammar.specs.Rules.{Rule}
 use Rattle.attribute_tables_grammar.specs.Tables.{Payload.list, Table, rule}
-use Rattle.link_message_grammar.specs.Body.{attribute_bytes, body_rule, family, header_text, list_rule_of}
+use Rattle.link_message_grammar.specs.Body.{attribute_bytes, body_rule, family, header_text, attributes_rule}
 use Rattle.link_message_grammar.specs.LinkMessage.{Family, link_table}
 use Rattle.link_message_grammar.specs.Laws.{BodiesAreHeadersAndAttributes}
 use Rattle.link_interpreter.specs.Prefixes.{IsCanonicalPrefix, RestIsIndependent}
@@ -18,34 +18,34 @@ use Rattle.link_interpreter.specs.Measures.{rows_of}
 use Rattle.link_message_checks.specs.Prefixes.{IsBodyPrefix}
 
 -- The attributes of a family are a list of the rows that are looked up.
-pub attributes_rule : RowsAreLookedUp → (p : Peer) (f : Family) (t : Table) → t ≡ link_table f → list_rule any (rows_of p t) ≡ list_rule_of p f
-unfolding rows_rule list_rule_of
-attributes_rule law p f t e = sym (law.payload p any t) ∙ ap (λ t. rule p (list any t)) e
+pub attributes_are_rows : RowsAreLookedUp → (p : RuleOfPeers) (f : Family) (t : Table) → t ≡ link_table f → list_rule any (rows_of p t) ≡ attributes_rule p f
+unfolding rows_rule attributes_rule
+attributes_are_rows law p f t e = sym (law.payload p any t) ∙ ap (λ t. rule p (list any t)) e
 
 -- When no prefix is reported.
-pub no_prefix : (p : Peer) (b : List ℕ) → IsBodyPrefix p b 0
+pub no_prefix : (p : RuleOfPeers) (b : List ℕ) → IsBodyPrefix p b 0
 no_prefix p b = record { within = omega arith; header = λ l. absurd (omega (arith, l)); attributes = λ l. absurd (omega (arith, l)) }
 
 -- A canonical header, and the canonical prefix of its attributes; none is reported if that is too long for its number.
-pub body_prefix : (p : Peer) (b : List ℕ) (already_canonical small : Bool) (n : ℕ) → 16 ≤ length b → (already_canonical ≡ true → header_text b ≡ take 16 b) → IsCanonicalPrefix (list_rule_of p (family b)) (attribute_bytes b) n → IsBodyPrefix p b (cond (already_canonical && small) (16 + n) 0)
+pub body_prefix : (p : RuleOfPeers) (b : List ℕ) (already_canonical small : Bool) (n : ℕ) → 16 ≤ length b → (already_canonical ≡ true → header_text b ≡ take 16 b) → IsCanonicalPrefix (attributes_rule p (family b)) (attribute_bytes b) n → IsBodyPrefix p b (cond (already_canonical && small) (16 + n) 0)
 body_prefix p b true true n long h f = record {
   within = omega (arith, f.within, length-drop 16 b, long);
   header = λ l. h refl;
-  attributes = λ l. subst (IsCanonicalPrefix (list_rule_of p (family b)) (attribute_bytes b)) (omega arith) f;
+  attributes = λ l. subst (IsCanonicalPrefix (attributes_rule p (family b)) (attribute_bytes b)) (omega arith) f;
 }
 body_prefix p b true false n long h f = no_prefix p b
 body_prefix p b false small n long h f = no_prefix p b
 
 -- Such a prefix is followed by accepted attributes, and the text continues with theirs.
-pub record BodyContinues (p : Peer) (b : List ℕ) (n : ℕ) : Type 0 where
-  pub accepted : (list_rule_of p (family b)).accepted (drop n b) ≡ true
-  pub fits : (list_rule_of p (family b)).fits (drop n b) ≡ true
-  pub text : (body_rule p).canonical b ≡ take n b ++ (list_rule_of p (family b)).canonical (drop n b)
-  pub size : length ((body_rule p).canonical b) ≡ n + length ((list_rule_of p (family b)).canonical (drop n b))
+pub record BodyContinues (p : RuleOfPeers) (b : List ℕ) (n : ℕ) : Type 0 where
+  pub accepted : (attributes_rule p (family b)).accepted (drop n b) ≡ true
+  pub fits : (attributes_rule p (family b)).fits (drop n b) ≡ true
+  pub text : (body_rule p).canonical b ≡ take n b ++ (attributes_rule p (family b)).canonical (drop n b)
+  pub size : length ((body_rule p).canonical b) ≡ n + length ((attributes_rule p (family b)).canonical (drop n b))
 
-pub body_continues : (p : Peer) → BodiesAreHeadersAndAttributes p → (b : List ℕ) (n : ℕ) → 16 ≤ n → IsBodyPrefix p b n → (body_rule p).accepted b ≡ true → (body_rule p).fits b ≡ true → BodyContinues p b n
+pub body_continues : (p : RuleOfPeers) → BodiesAreHeadersAndAttributes p → (b : List ℕ) (n : ℕ) → 16 ≤ n → IsBodyPrefix p b n → (body_rule p).accepted b ≡ true → (body_rule p).fits b ≡ true → BodyContinues p b n
 body_continues p law b n long f a fit =
-    let inner : Rule = list_rule_of p (family b) in
+    let inner : Rule = attributes_rule p (family b) in
     let parts = law b in
     let inside : RestIsIndependent inner (attribute_bytes b) (take (n - 16) (attribute_bytes b)) (drop (n - 16) (attribute_bytes b)) = (f.attributes long).continues (and_parts _ _ (sym parts.accepted ∙ a)).1 (sym parts.fits ∙ fit) in
     let whole : 16 + (n - 16) ≡ n = omega (arith, long) in

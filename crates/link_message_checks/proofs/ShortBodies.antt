@@ -7,9 +7,9 @@ use Rattle.std.proofs.lemmas.List.{length-take}
 use Rattle.std.proofs.lemmas.Slice.Eq.{bytes_eq-Decides}
 use Rattle.netlink_packet_core_grammar.specs.Attributes.{attributes_within}
 use Rattle.attribute_tables_grammar.specs.Lists.{all_same}
-use Rattle.attribute_tables_grammar.specs.Peers.{Peer}
+use Rattle.attribute_tables_grammar.specs.Peers.{RuleOfPeers}
 use Rattle.link_message_grammar.specs.LinkMessage.{Family}
-use Rattle.link_message_grammar.specs.Body.{attribute_bytes, family, header_text, is_listed, layer_type_text, list_rule_of}
+use Rattle.link_message_grammar.specs.Body.{attribute_bytes, family, header_text, has_layer_type_name, layer_type_text, attributes_rule}
 
 two_bytes : (v : Bool) (a b : ℕ) → length (cond v (a ∷ b ∷ []) (255 ∷ 255 ∷ [])) ≡ 2
 two_bytes true a b = refl
@@ -17,7 +17,7 @@ two_bytes false a b = refl
 
 header_size : (b : List ℕ) → 4 ≤ length b → length (header_text b) ≡ min (length b) 16
 header_size (f ∷ x ∷ k ∷ l ∷ tail) long =
-    let layer = two_bytes (is_listed (k + 256 * l)) k l in
+    let layer = two_bytes (has_layer_type_name (k + 256 * l)) k l in
     let all = length-append (layer_type_text k l) (take 12 tail) in
     omega (arith, layer, all, length-take 12 tail)
 header_size b long = absurd (omega arith)
@@ -35,22 +35,22 @@ both_short a b e short = elim (leb_tells 16 (length b)) [
 cut_off : (b : List ℕ) → length b < 16 → attribute_bytes b ≡ []
 cut_off b short = let l : length b ≤ 16 = omega (arith, short) in drop_of_length-le b l
 
-no_attributes : (p : Peer) (f : Family) → (list_rule_of p f).same [] [] ≡ true
-unfolding list_rule_of attributes_within all_same
+no_attributes : (p : RuleOfPeers) (f : Family) → (attributes_rule p f).same [] [] ≡ true
+unfolding attributes_rule attributes_within all_same
 no_attributes p f = refl
 
-module _ (p : Peer) (a b : List ℕ) where
+module _ (p : RuleOfPeers) (a b : List ℕ) where
   abbrev headers_same : Bool
   headers_same = bytes_eq (header_text a) (header_text b)
 
   abbrev attributes_same : Bool
-  attributes_same = (list_rule_of p (family a)).same (attribute_bytes a) (attribute_bytes b)
+  attributes_same = (attributes_rule p (family a)).same (attribute_bytes a) (attribute_bytes b)
 
   abbrev one_short : Type 0
   one_short = (length a < 16) ⊎ ((16 ≤ length a) × (length b < 16))
 
   none_after_prefix : length a < 16 → length b < 16 → attributes_same ≡ true
-  none_after_prefix l m = (λ i. (list_rule_of p (family a)).same (cut_off a l i) (cut_off b m i)) ∙ no_attributes p (family a)
+  none_after_prefix l m = (λ i. (attributes_rule p (family a)).same (cut_off a l i) (cut_off b m i)) ∙ no_attributes p (family a)
 
   both : one_short → header_text a ≡ header_text b → (length a < 16) × (length b < 16)
   both (inl l) e = (l, both_short a b e l)

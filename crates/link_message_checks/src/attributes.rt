@@ -5,7 +5,7 @@ ghost use Rattle.std.specs.Prelude.{◌≡◌, false, true};
 ghost use Rattle.netlink_packet_core_grammar.specs.Attributes.{proper_kind};
 ghost use Rattle.netlink_packet_core_numbers.specs.Errors.{is_memory};
 ghost use Rattle.link_message_grammar.specs.LinkMessage.{family_of};
-ghost use Rattle.link_message_grammar.specs.Body.{attribute_row, attributes_rule};
+ghost use Rattle.link_message_grammar.specs.Body.{attribute_row, attributes_rule, link_peer};
 
 use crate::body::walk_attributes;
 use crate::peer::LinkPeer;
@@ -19,7 +19,7 @@ use netlink_packet_core_numbers::DecodeError;
 /// family. The kind may have its flag bits.
 pub fn accepts_attribute(family: u8, kind: u16, payload: &[u8]) -> bool
     ensures { result
-        ≡ (attribute_row (family_of family) (proper_kind kind)).rule.accepted payload.now }
+        ≡ (attribute_row link_peer (family_of family) (proper_kind kind)).rule.accepted payload.now }
 {
     measures_determine_rules();
     kinds_are_looked_up();
@@ -29,7 +29,7 @@ pub fn accepts_attribute(family: u8, kind: u16, payload: &[u8]) -> bool
 
 /// Returns whether the bytes are attributes of an address family.
 pub fn accepts_attributes(family: u8, bytes: &[u8]) -> bool
-    ensures { result ≡ (attributes_rule (family_of family)).accepted bytes.now }
+    ensures { result ≡ (attributes_rule link_peer (family_of family)).accepted bytes.now }
 {
     measures_determine_rules();
     walk_attributes(&LinkPeer, family, bytes).is_some()
@@ -40,8 +40,8 @@ pub fn accepts_attributes(family: u8, bytes: &[u8]) -> bool
 /// refused.
 pub fn attribute_error(family: u8, kind: u16, payload: &[u8], error: DecodeError) -> DecodeError
     requires refused { is_memory error ≡ false
-        → (attribute_row (family_of family) (proper_kind kind)).rule.accepted payload.now ≡ false }
-    ensures outcome { (attribute_row (family_of family) (proper_kind kind)).rule.accepted payload.now
+        → (attribute_row link_peer (family_of family) (proper_kind kind)).rule.accepted payload.now ≡ false }
+    ensures outcome { (attribute_row link_peer (family_of family) (proper_kind kind)).rule.accepted payload.now
         ≡ is_memory result }
     ensures memory { is_memory result ≡ true → is_memory error ≡ true }
 {
@@ -56,8 +56,8 @@ pub fn attribute_error(family: u8, kind: u16, payload: &[u8], error: DecodeError
 /// is refused.
 pub fn attributes_error(family: u8, bytes: &[u8], error: DecodeError) -> DecodeError
     requires refused { is_memory error ≡ false
-        → (attributes_rule (family_of family)).accepted bytes.now ≡ false }
-    ensures { (attributes_rule (family_of family)).accepted bytes.now ≡ is_memory result }
+        → (attributes_rule link_peer (family_of family)).accepted bytes.now ≡ false }
+    ensures { (attributes_rule link_peer (family_of family)).accepted bytes.now ≡ is_memory result }
 {
     if error.is_memory() && !accepts_attributes(family, bytes) {
         return DecodeError::from("no attributes of a link");

@@ -4,7 +4,7 @@ ghost use Rattle.std.specs.Prelude.{◌≡◌, ◌≤◌, ◌+◌, ◌-◌, ◌^
 ghost use Rattle.attribute_tables_grammar.specs.Walks.{measure};
 ghost use Rattle.link_message_grammar.specs.Laws.{BodyLaws};
 ghost use Rattle.link_message_grammar.specs.LinkMessage.{family_of};
-ghost use Rattle.link_message_grammar.specs.Body.{body_rule, list_rule_of};
+ghost use Rattle.link_message_grammar.specs.Body.{body_rule, attributes_rule};
 ghost use Rattle.link_interpreter.specs.Measures.{view};
 ghost use Rattle.link_interpreter.specs.Prefixes.{IsCanonicalPrefix};
 ghost use Rattle.link_message_checks.specs.Prefixes.{IsBodyPrefix};
@@ -30,12 +30,12 @@ pub(crate) fn body_laws_hold<P: PeerSet>(peers: &P)
 // their canonical prefix; None if they aren't accepted.
 pub(crate) fn walk_attributes<P: PeerSet>(peers: &P, family: u8, bytes: &[u8]) -> Option<Measured>
     ensures measure { option_map view result
-        ≡ measure (list_rule_of P.peer (family_of family)) bytes.now }
+        ≡ measure (attributes_rule P.peer (family_of family)) bytes.now }
     ensures already_canonical { IfSome result
         (λ m. m.is_canonical ≡ true
-        → (list_rule_of P.peer (family_of family)).canonical bytes.now ≡ bytes.now) }
+        → (attributes_rule P.peer (family_of family)).canonical bytes.now ≡ bytes.now) }
     ensures prefix { IfSome result
-        (λ m. IsCanonicalPrefix (list_rule_of P.peer (family_of family)) bytes.now m.prefix) }
+        (λ m. IsCanonicalPrefix (attributes_rule P.peer (family_of family)) bytes.now m.prefix) }
 {
     rows_are_looked_up();
     walk_list(peers, Form::Any, family_table(family), bytes)
@@ -83,7 +83,7 @@ pub(crate) fn walk_body_over<P: PeerSet>(peers: &P, bytes: &[u8]) -> Option<Meas
 
 // Returns whether two lists of attributes of a family under these peers mean the same.
 fn same_attributes<P: PeerSet>(peers: &P, family: u8, left: &[u8], right: &[u8]) -> bool
-    ensures { result ≡ (list_rule_of P.peer (family_of family)).same left.now right.now }
+    ensures { result ≡ (attributes_rule P.peer (family_of family)).same left.now right.now }
 {
     let held = Held::List(Form::Any, family_table(family));
     same_held(peers, held, left, right)
@@ -108,11 +108,11 @@ pub(crate) fn same_body_over<P: PeerSet>(peers: &P, left: &[u8], right: &[u8]) -
 
 // Appends the canonical text of attributes of a family under these peers.
 fn write_attributes<P: WritePeer>(peers: &P, family: u8, bytes: &[u8], out: &mut Vec<u8>)
-    requires accepted { (list_rule_of P.peer (family_of family)).accepted bytes.now ≡ true }
-    requires fits { (list_rule_of P.peer (family_of family)).fits bytes.now ≡ true }
-    requires capacity { HasCapacity out.old ((list_rule_of P.peer (family_of family)).canonical bytes.now) }
+    requires accepted { (attributes_rule P.peer (family_of family)).accepted bytes.now ≡ true }
+    requires fits { (attributes_rule P.peer (family_of family)).fits bytes.now ≡ true }
+    requires capacity { HasCapacity out.old ((attributes_rule P.peer (family_of family)).canonical bytes.now) }
     ensures text { out.new.items
-        ≡ out.old.items ++ (list_rule_of P.peer (family_of family)).canonical bytes.now }
+        ≡ out.old.items ++ (attributes_rule P.peer (family_of family)).canonical bytes.now }
     ensures capacity { vec_capacity out.old ≤ vec_capacity out.new }
 {
     let held = Held::List(Form::Any, family_table(family));

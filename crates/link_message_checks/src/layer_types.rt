@@ -1,7 +1,7 @@
 //! The types of link layers (if_arp.h, ARPHRD_*).
 
 ghost use Rattle.std.specs.Prelude.{◌≡◌};
-ghost use Rattle.link_message_grammar.specs.Body.{is_listed};
+ghost use Rattle.link_message_grammar.specs.Body.{has_layer_type_name};
 
 const ARPHRD_NETROM: u16 = 0;
 
@@ -19,9 +19,9 @@ const LAYER_TYPES: [u16; 67] = [
 
 /// Returns whether a layer type has a name. That of requests, 0, and those of most links are found
 /// without searching the list.
-#[tactic(auto, unfolding(link_message_grammar::specs::Body::is_listed))]
+#[tactic(auto, unfolding(link_message_grammar::specs::Body::has_layer_type_name))]
 pub fn has_name(layer_type: u16) -> bool
-    ensures { result ≡ is_listed layer_type }
+    ensures { result ≡ has_layer_type_name layer_type }
 {
     match layer_type {
         ARPHRD_NETROM | ARPHRD_ETHER | ARPHRD_LOOPBACK => true,

@@ -7,17 +7,17 @@ use Rattle.std.proofs.lemmas.Slice.Eq.{bytes_eq-Decides}
 use Rattle.netlink_packet_core_grammar.specs.Attributes.{nla_align}
 use Rattle.netlink_packet_core_grammar.specs.Bytes.{AreBytes}
 use Rattle.netlink_packet_core_grammar.proofs.Bytes.{AreBytes-append, AreBytes-take, AreBytes-drop}
-use Rattle.attribute_tables_grammar.specs.Rules.{Rule, Lawful, Migrates}
+use Rattle.attribute_tables_grammar.specs.Rules.{Rule, Lawful, IsMigratedBy}
 use Rattle.attribute_tables_grammar.specs.Lists.{any}
-use Rattle.attribute_tables_grammar.specs.Peers.{Peer, LawfulPeer, bytes_peer}
+use Rattle.attribute_tables_grammar.specs.Peers.{RuleOfPeers, LawfulPeer, bytes_peer}
 use Rattle.attribute_tables_grammar.specs.Tables.{Payload.list}
 use Rattle.attribute_tables_grammar.proofs.Attributes.{migrates_reflexive}
 use Rattle.attribute_tables_grammar.proofs.Migrated.{migrated}
 use Rattle.attribute_tables_grammar.proofs.Tables.{bytes_peer_lawful}
 use Rattle.link_message_grammar.proofs.Tables.{table_lawful, table_bounded}
 use Rattle.link_message_grammar.specs.LinkMessage.{Family, family_of, link_table}
-use Rattle.link_message_grammar.specs.Body.{is_listed, layer_type_text, header_text, attribute_bytes, family, list_rule_of, body_rule, link_peer, link_peer_of}
-use Rattle.link_message_grammar.specs.Laws.{LinkPeersAreLawful, LinkPeerIsLawful, OldBodiesAreMigrated}
+use Rattle.link_message_grammar.specs.Body.{has_layer_type_name, layer_type_text, header_text, attribute_bytes, family, attributes_rule, body_rule, link_peer, link_peer_of}
+use Rattle.link_message_grammar.specs.Laws.{PeersThatAreBodiesAreLawful, LinkPeerIsLawful, OldBodiesAreMigrated}
 
 -- ---- the header
 
@@ -43,8 +43,8 @@ pub record LayerType (k l : ℕ) : Type 0 where
   pub idempotent : layer_type_text a b ≡ a ∷ b ∷ []
   pub bytes : k < 256 → l < 256 → AreBytes (a ∷ b ∷ [])
 
-layer_type_by : (k l : ℕ) (t : Bool) → is_listed (k + 256 * l) ≡ t → LayerType k l
-unfolding is_listed
+layer_type_by : (k l : ℕ) (t : Bool) → has_layer_type_name (k + 256 * l) ≡ t → LayerType k l
+unfolding has_layer_type_name
 layer_type_by k l true t =
     let e : layer_type_text k l ≡ k ∷ l ∷ [] = ap (λ b. cond b (k ∷ l ∷ []) (255 ∷ 255 ∷ [])) t in
     record { a = k; b = l; is = e; idempotent = e; bytes = λ p q. (p, (q, tt)) }
@@ -52,7 +52,7 @@ layer_type_by k l false t =
     record { a = 255; b = 255; is = ap (λ b. cond b (k ∷ l ∷ []) (255 ∷ 255 ∷ [])) t; idempotent = refl; bytes = λ p q. (omega arith, (omega arith, tt)) }
 
 layer_type_of : (k l : ℕ) → LayerType k l
-layer_type_of k l = layer_type_by k l (is_listed (k + 256 * l)) refl
+layer_type_of k l = layer_type_by k l (has_layer_type_name (k + 256 * l)) refl
 
 -- A header that is written, before any bytes.
 pub record WrittenHeader (b : List ℕ) : Type 0 where
@@ -97,29 +97,29 @@ small_rest : (L l : ℕ) → nla_align (4 + L) ≤ 77 * (4 + l) → nla_align (4
 small_rest L l h = omega arith
 
 -- If q's attributes migrate those of p, its bodies migrate those of p.
-module _ (p q : Peer) (migrates : (f : Family) → Migrates (list_rule_of p f) (list_rule_of q f)) where
+module _ (p q : RuleOfPeers) (migrates : (f : Family) → IsMigratedBy (attributes_rule p f) (attributes_rule q f)) where
   abbrev old_text : List ℕ → List ℕ
-  old_text b = (list_rule_of p (family b)).canonical (attribute_bytes b)
+  old_text b = (attributes_rule p (family b)).canonical (attribute_bytes b)
 
   -- Both accept a header that is written, and attributes.
   record BothAccept (b : List ℕ) : Type 0 where
     header : WrittenHeader b
-    old : (list_rule_of p (family b)).accepted (attribute_bytes b) ≡ true
-    new : (list_rule_of q (family b)).accepted (attribute_bytes b) ≡ true
+    old : (attributes_rule p (family b)).accepted (attribute_bytes b) ≡ true
+    new : (attributes_rule q (family b)).accepted (attribute_bytes b) ≡ true
 
   both_accept : (b : List ℕ) → (body_rule p).accepted b ≡ true → (body_rule q).accepted b ≡ true → BothAccept b
   unfolding body_rule
   both_accept b x y =
-      let s = and_parts (nat_le 16 (length b)) ((list_rule_of p (family b)).accepted (attribute_bytes b)) x in
-      let t = and_parts (nat_le 16 (length b)) ((list_rule_of q (family b)).accepted (attribute_bytes b)) y in
+      let s = and_parts (nat_le 16 (length b)) ((attributes_rule p (family b)).accepted (attribute_bytes b)) x in
+      let t = and_parts (nat_le 16 (length b)) ((attributes_rule q (family b)).accepted (attribute_bytes b)) y in
       record { header = written_header b s.0; old = s.1; new = t.1 }
 
   -- The result of q for the attributes in p's text.
-  inside : {A : Type 0} (say : Rule → List ℕ → A) (b : List ℕ) → WrittenHeader b → say (list_rule_of q (family (header_text b ++ old_text b))) (attribute_bytes (header_text b ++ old_text b)) ≡ say (list_rule_of q (family b)) (old_text b)
+  inside : {A : Type 0} (say : Rule → List ℕ → A) (b : List ℕ) → WrittenHeader b → say (attributes_rule q (family (header_text b ++ old_text b))) (attribute_bytes (header_text b ++ old_text b)) ≡ say (attributes_rule q (family b)) (old_text b)
   inside say b w =
-      ap (λ f. say (list_rule_of q f) (attribute_bytes (header_text b ++ old_text b))) (family_read_back b (old_text b) w) ∙ ap (say (list_rule_of q (family b))) (w.rest (old_text b))
+      ap (λ f. say (attributes_rule q f) (attribute_bytes (header_text b ++ old_text b))) (family_read_back b (old_text b) w) ∙ ap (say (attributes_rule q (family b))) (w.rest (old_text b))
 
-  pub bodies_migrate : Migrates (body_rule p) (body_rule q)
+  pub bodies_migrate : IsMigratedBy (body_rule p) (body_rule q)
   unfolding body_rule
   bodies_migrate = record {
     accepted = λ b x y m.
@@ -131,16 +131,16 @@ module _ (p q : Peer) (migrates : (f : Family) → Migrates (list_rule_of p f) (
     canonical = λ b x y.
         let k = both_accept b x y in
         let rest = inside (λ r. r.canonical) b k.header ∙ (migrates (family b)).canonical (attribute_bytes b) k.old k.new in
-        ap (λ z. z ++ (list_rule_of q (family (header_text b ++ old_text b))).canonical (attribute_bytes (header_text b ++ old_text b))) (k.header.idempotent (old_text b)) ∙ ap (λ z. header_text b ++ z) rest;
+        ap (λ z. z ++ (attributes_rule q (family (header_text b ++ old_text b))).canonical (attribute_bytes (header_text b ++ old_text b))) (k.header.idempotent (old_text b)) ∙ ap (λ z. header_text b ++ z) rest;
   }
 
-module _ (p : Peer) (lawful_peer : LawfulPeer p) where
-  law : (f : Family) → Lawful (list_rule_of p f)
-  unfolding list_rule_of
+module _ (p : RuleOfPeers) (lawful_peer : LawfulPeer p) where
+  law : (f : Family) → Lawful (attributes_rule p f)
+  unfolding attributes_rule
   law f = table_lawful p lawful_peer f
 
-  self_migration : Migrates (body_rule p) (body_rule p)
-  self_migration = bodies_migrate p p (λ f. migrates_reflexive (list_rule_of p f) (law f))
+  self_migration : IsMigratedBy (body_rule p) (body_rule p)
+  self_migration = bodies_migrate p p (λ f. migrates_reflexive (attributes_rule p f) (law f))
 
   pub body_lawful : Lawful (body_rule p)
   unfolding body_rule
@@ -149,54 +149,54 @@ module _ (p : Peer) (lawful_peer : LawfulPeer p) where
     canonical_fits = λ b a f. self_migration.fits b a a f;
     canonical_idempotent = λ b a. self_migration.canonical b a a;
     same_implies_equal_text = λ a b x y e.
-        let s = and_parts (nat_le 16 (length a)) ((list_rule_of p (family a)).accepted (attribute_bytes a)) x in
-        let t = and_parts (nat_le 16 (length b)) ((list_rule_of p (family b)).accepted (attribute_bytes b)) y in
-        let e' = and_parts (bytes_eq (header_text a) (header_text b)) ((list_rule_of p (family a)).same (attribute_bytes a) (attribute_bytes b)) e in
+        let s = and_parts (nat_le 16 (length a)) ((attributes_rule p (family a)).accepted (attribute_bytes a)) x in
+        let t = and_parts (nat_le 16 (length b)) ((attributes_rule p (family b)).accepted (attribute_bytes b)) y in
+        let e' = and_parts (bytes_eq (header_text a) (header_text b)) ((attributes_rule p (family a)).same (attribute_bytes a) (attribute_bytes b)) e in
         let h : header_text a ≡ header_text b = (bytes_eq-Decides (header_text a) (header_text b)).0 e'.0 in
         let fam = one_family a b (written_header a s.0) (written_header b t.0) h in
-        let t' : (list_rule_of p (family a)).accepted (attribute_bytes b) ≡ true = ap (λ f. (list_rule_of p f).accepted (attribute_bytes b)) fam ∙ t.1 in
+        let t' : (attributes_rule p (family a)).accepted (attribute_bytes b) ≡ true = ap (λ f. (attributes_rule p f).accepted (attribute_bytes b)) fam ∙ t.1 in
         let c = (law (family a)).same_implies_equal_text (attribute_bytes a) (attribute_bytes b) s.1 t' e'.1 in
-        ap (λ z. z ++ (list_rule_of p (family a)).canonical (attribute_bytes a)) h ∙ ap (λ z. header_text b ++ z) c ∙ ap (λ f. header_text b ++ (list_rule_of p f).canonical (attribute_bytes b)) fam;
+        ap (λ z. z ++ (attributes_rule p (family a)).canonical (attribute_bytes a)) h ∙ ap (λ z. header_text b ++ z) c ∙ ap (λ f. header_text b ++ (attributes_rule p f).canonical (attribute_bytes b)) fam;
     equal_text_implies_same = λ a b x y e.
-        let s = and_parts (nat_le 16 (length a)) ((list_rule_of p (family a)).accepted (attribute_bytes a)) x in
-        let t = and_parts (nat_le 16 (length b)) ((list_rule_of p (family b)).accepted (attribute_bytes b)) y in
-        let ca = (list_rule_of p (family a)).canonical (attribute_bytes a) in
-        let cb = (list_rule_of p (family b)).canonical (attribute_bytes b) in
+        let s = and_parts (nat_le 16 (length a)) ((attributes_rule p (family a)).accepted (attribute_bytes a)) x in
+        let t = and_parts (nat_le 16 (length b)) ((attributes_rule p (family b)).accepted (attribute_bytes b)) y in
+        let ca = (attributes_rule p (family a)).canonical (attribute_bytes a) in
+        let cb = (attributes_rule p (family b)).canonical (attribute_bytes b) in
         let v = written_header a s.0 in
         let w = written_header b t.0 in
         let h : header_text a ≡ header_text b = sym (take_at (header_text a) ca 16 v.size) ∙ ap (take 16) e ∙ take_at (header_text b) cb 16 w.size in
         let c : ca ≡ cb = sym (drop_at (header_text a) ca 16 v.size) ∙ ap (drop 16) e ∙ drop_at (header_text b) cb 16 w.size in
         let fam = one_family a b v w h in
-        let t' : (list_rule_of p (family a)).accepted (attribute_bytes b) ≡ true = ap (λ f. (list_rule_of p f).accepted (attribute_bytes b)) fam ∙ t.1 in
+        let t' : (attributes_rule p (family a)).accepted (attribute_bytes b) ≡ true = ap (λ f. (attributes_rule p f).accepted (attribute_bytes b)) fam ∙ t.1 in
         and_from _ _ ((bytes_eq-Decides (header_text a) (header_text b)).1 h)
-        ((law (family a)).equal_text_implies_same (attribute_bytes a) (attribute_bytes b) s.1 t' (c ∙ ap (λ f. (list_rule_of p f).canonical (attribute_bytes b)) (sym fam)));
+        ((law (family a)).equal_text_implies_same (attribute_bytes a) (attribute_bytes b) s.1 t' (c ∙ ap (λ f. (attributes_rule p f).canonical (attribute_bytes b)) (sym fam)));
     bounded = λ b a.
-        let s = and_parts (nat_le 16 (length b)) ((list_rule_of p (family b)).accepted (attribute_bytes b)) a in
+        let s = and_parts (nat_le 16 (length b)) ((attributes_rule p (family b)).accepted (attribute_bytes b)) a in
         let w = written_header b s.0 in
-        let c = (list_rule_of p (family b)).canonical (attribute_bytes b) in
+        let c = (attributes_rule p (family b)).canonical (attribute_bytes b) in
         let l : length (header_text b ++ c) ≡ 16 + length c = length-append (header_text b) c ∙ ap (λ n. n + length c) w.size in
         let lb : length b ≡ 16 + length (attribute_bytes b) = omega (arith, length-drop 16 b, leb-true 16 (length b) s.0) in
         rw (l, lb) (small_rest (length c) (length (attribute_bytes b)) ((law (family b)).bounded (attribute_bytes b) s.1));
     counted = λ b a.
-        let s = and_parts (nat_le 16 (length b)) ((list_rule_of p (family b)).accepted (attribute_bytes b)) a in
+        let s = and_parts (nat_le 16 (length b)) ((attributes_rule p (family b)).accepted (attribute_bytes b)) a in
         omega (arith, (law (family b)).counted (attribute_bytes b) s.1, length-drop 16 b);
     bytes = λ b a m h.
-        let s = and_parts (nat_le 16 (length b)) ((list_rule_of p (family b)).accepted (attribute_bytes b)) a in
+        let s = and_parts (nat_le 16 (length b)) ((attributes_rule p (family b)).accepted (attribute_bytes b)) a in
         let w = written_header b s.0 in
-        AreBytes-append (header_text b) ((list_rule_of p (family b)).canonical (attribute_bytes b)) (w.bytes h) ((law (family b)).bytes (attribute_bytes b) s.1 m (AreBytes-drop 16 b h));
+        AreBytes-append (header_text b) ((attributes_rule p (family b)).canonical (attribute_bytes b)) (w.bytes h) ((law (family b)).bytes (attribute_bytes b) s.1 m (AreBytes-drop 16 b h));
   }
 
   pub body_size : (b : List ℕ) → (body_rule p).accepted b ≡ true → length ((body_rule p).canonical b) ≤ 77 * length b
   unfolding body_rule
   body_size b a =
-      let s = and_parts (nat_le 16 (length b)) ((list_rule_of p (family b)).accepted (attribute_bytes b)) a in
+      let s = and_parts (nat_le 16 (length b)) ((attributes_rule p (family b)).accepted (attribute_bytes b)) a in
       let w = written_header b s.0 in
-      let c = (list_rule_of p (family b)).canonical (attribute_bytes b) in
+      let c = (attributes_rule p (family b)).canonical (attribute_bytes b) in
       omega (arith, length-append (header_text b) c, w.size, length-drop 16 b, leb-true 16 (length b) s.0, (law (family b)).bounded (attribute_bytes b) s.1)
 
 -- Bodies whose peers were bytes, under any rule of peers.
 pub old_bodies_are_migrated : OldBodiesAreMigrated
-unfolding list_rule_of
+unfolding attributes_rule
 old_bodies_are_migrated p = bodies_migrate bytes_peer p (λ f. migrated p (list any (link_table f)) (table_bounded f))
 
 -- ---- peers
@@ -221,7 +221,7 @@ link_peer_lawful_of r l small = record {
         let t = and_parts (r.accepted b) (not (r.empty_ports b)) s.0 in
         (t.0, not-true (r.empty_ports b) t.1, s.1)
 
-pub link_peers_are_lawful : LinkPeersAreLawful
+pub link_peers_are_lawful : PeersThatAreBodiesAreLawful
 link_peers_are_lawful p l = link_peer_lawful_of (body_rule p) (body_lawful p l) (body_size p l)
 
 -- The rule of peers in force, under which the peers inside a peer are bytes, is lawful.

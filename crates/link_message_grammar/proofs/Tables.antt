@@ -2,7 +2,7 @@
 use Rattle.std.proofs.Common.{◌≡◌, true, refl}
 use Rattle.attribute_tables_grammar.specs.Rules.{Lawful}
 use Rattle.attribute_tables_grammar.specs.Lists.{any}
-use Rattle.attribute_tables_grammar.specs.Peers.{Peer, LawfulPeer}
+use Rattle.attribute_tables_grammar.specs.Peers.{RuleOfPeers, LawfulPeer}
 use Rattle.attribute_tables_grammar.specs.Tables.{Payload.list, rows_bounded, rising, rule}
 use Rattle.attribute_tables_grammar.proofs.Tables.{lawful}
 use Rattle.link_message_grammar.specs.NestedTables.{resized}
@@ -15,7 +15,7 @@ table_bounded bridge = refl
 table_bounded inet_6 = refl
 table_bounded other = refl
 
-pub table_lawful : (p : Peer) → LawfulPeer p → (f : Family) → Lawful (rule p (list any (link_table f)))
+pub table_lawful : (p : RuleOfPeers) → LawfulPeer p → (f : Family) → Lawful (rule p (list any (link_table f)))
 table_lawful p l f = lawful p l (list any (link_table f)) (table_bounded f)
 
 pub kinds_rise : (f : Family) → rising (list any (link_table f)) ≡ true

@@ -1,7 +1,7 @@
 -- The laws that need more than one lemma, and the lemmas that all laws use.
 use Rattle.attribute_tables_grammar.proofs.Together.{one_text_each, keeps_meaning}
 use Rattle.link_message_grammar.specs.Body.{body_rule}
-use Rattle.link_message_grammar.specs.Laws.{BodiesDetermineMeanings, BodiesKeepMeanings, BodyLawsHoldForAnyPeers}
+use Rattle.link_message_grammar.specs.Laws.{CanonicalBodiesDetermineMeanings, BodiesKeepMeanings, BodyLawsHoldForAnyPeers}
 use Rattle.link_message_grammar.proofs.Body.{body_lawful, body_size, link_peer_lawful, link_peers_are_lawful, old_bodies_are_migrated}
 use Rattle.link_message_grammar.proofs.EmptyPorts.{empty_ports_are_determined}
 use Rattle.link_message_grammar.proofs.Lines.{kinds_are_looked_up}
@@ -12,7 +12,7 @@ use Rattle.link_message_grammar.proofs.ReadBack.{canonical_texts_are_read_back}
 use Rattle.link_message_grammar.proofs.Sizes.{bodies_grow_by_attributes, short_bodies_fit}
 use Rattle.link_message_grammar.proofs.Tables.{kinds_rise}
 
-pub bodies_determine_meanings : BodiesDetermineMeanings
+pub bodies_determine_meanings : CanonicalBodiesDetermineMeanings
 bodies_determine_meanings p l = one_text_each (body_rule p) (body_lawful p l)
 
 pub bodies_keep_meanings : BodiesKeepMeanings

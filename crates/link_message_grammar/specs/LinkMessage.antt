@@ -49,8 +49,8 @@ with_protocol inet_6 t =
 with_protocol other t = t
 
 -- The rows before IFLA_PROTINFO, followed by others.
-abbrev pub below_protocol : Table → Table
-below_protocol t =
+abbrev pub before_protinfo : Table → Table
+before_protinfo t =
     1 ↪ raw ⸴  -- IFLA_ADDRESS
     2 ↪ raw ⸴  -- IFLA_BROADCAST
     3 ↪ text ⸴  -- IFLA_IFNAME
@@ -62,8 +62,8 @@ below_protocol t =
     t
 
 -- The rows after IFLA_PROTINFO.
-abbrev pub above_protocol : Family → Table
-above_protocol f =
+abbrev pub after_protinfo : Family → Table
+after_protinfo f =
     13 ↪ exact 4 ⸴  -- IFLA_TXQLEN
     14 ↪ fixed_record 28 32 ⸴  -- IFLA_MAP
     16 ↪ exact 1 ⸴  -- IFLA_OPERSTATE
@@ -118,12 +118,12 @@ above_protocol f =
 
 -- The table of IFLA_* under a family; a kind that isn't listed is a raw attribute.
 abbrev pub link_table : Family → Table
-link_table f = below_protocol (with_protocol f (above_protocol f))
+link_table f = before_protinfo (with_protocol f (after_protinfo f))
 
 -- The row of a kind without its flag bits. IFLA_PROTINFO, which only some families list, is looked up separately.
 abbrev pub link_line : Family → ℕ → Option Line
-link_line f k = cond (k == 12) (protocol_line f) (line_at (below_protocol (above_protocol f)) k)
+link_line f k = cond (k == 12) (protocol_line f) (line_at (before_protinfo (after_protinfo f)) k)
 
 -- No row of the table is that kind's.
-abbrev pub has_no_link_row : Family → ℕ → Type 0
-has_no_link_row f k = link_line f k ≡ None
+abbrev pub HasNoLinkRow : Family → ℕ → Type 0
+HasNoLinkRow f k = link_line f k ≡ None

@@ -2,10 +2,10 @@
 #![tactic(auto, using(crate::proofs::Together::laws))]
 
 ghost use Rattle.link_message_grammar.specs.Laws.{AttributesAreLawful, KindsRise, BodiesAreLawful, BodiesAreSmall};
-ghost use Rattle.link_message_grammar.specs.Laws.{LinkPeersAreLawful, BodiesDetermineMeanings, BodiesKeepMeanings, OldBodiesAreMigrated};
+ghost use Rattle.link_message_grammar.specs.Laws.{PeersThatAreBodiesAreLawful, CanonicalBodiesDetermineMeanings, BodiesKeepMeanings, OldBodiesAreMigrated};
 ghost use Rattle.link_message_grammar.specs.Laws.{BodiesAreHeadersAndAttributes, KindsAreLookedUp};
-ghost use Rattle.link_message_grammar.specs.Laws.{AttributesAreLookedUp, InfoIsAListInside};
-ghost use Rattle.link_message_grammar.specs.Laws.{EmptyPortsAreDetermined, CanonicalTextsAreReadBack, BodiesAreMeasured};
+ghost use Rattle.link_message_grammar.specs.Laws.{AttributesAreLookedUp, InfoPayloadsAreLists};
+ghost use Rattle.link_message_grammar.specs.Laws.{EmptyPortsAreDetermined, CanonicalBodiesAreReadBack, BodiesAreMeasured};
 ghost use Rattle.link_message_grammar.specs.Laws.{BodiesGrowByAttributes, ShortBodiesFit, BodyLawsHoldForAnyPeers};
 ghost use Rattle.link_message_grammar.specs.Laws.{LinkPeerIsLawful, OnlyLinkInfoHoldsPeers};
 ghost use Rattle.link_message_grammar.specs.Body.{link_peer};
@@ -44,7 +44,7 @@ pub fn short_bodies_fit()
 
 /// Peers that are link bodies are lawful, under every lawful rule of the peers inside them.
 pub fn link_peers_are_lawful()
-    ensures { LinkPeersAreLawful }
+    ensures { PeersThatAreBodiesAreLawful }
 {}
 
 /// The rule of peers in force is lawful: peers are link bodies, in which peers are bytes.
@@ -54,10 +54,11 @@ pub fn link_peer_is_lawful()
 
 /// Two accepted bodies mean the same if and only if their canonical texts are equal.
 pub fn bodies_determine_meanings()
-    ensures { BodiesDetermineMeanings }
+    ensures { CanonicalBodiesDetermineMeanings }
 {}
 
-/// A canonical text means the same as the body.
+/// The canonical form of an accepted body means the same as the body, unless a list of VF ports in
+/// it keeps no entry.
 pub fn bodies_keep_meanings()
     ensures { BodiesKeepMeanings }
 {}
@@ -77,7 +78,7 @@ pub fn bodies_are_headers_and_attributes()
 /// An accepted body that fits, and in which no list of ports would be empty, is read from its
 /// canonical text as from its own bytes.
 pub fn canonical_texts_are_read_back()
-    ensures { CanonicalTextsAreReadBack link_peer }
+    ensures { CanonicalBodiesAreReadBack link_peer }
 {}
 
 /// A look-up of a kind returns its row in the table of the family.
@@ -103,7 +104,7 @@ pub fn only_link_info_holds_peers()
 
 /// The payload of IFLA_LINKINFO is a list of link info, and is refused if it is empty.
 pub fn info_is_a_list_inside()
-    ensures { InfoIsAListInside link_peer }
+    ensures { InfoPayloadsAreLists link_peer }
 {}
 
 /// The measure of a body is that of its attributes after a header of 16 bytes, and the body is

@@ -4,7 +4,7 @@ use Rattle.std.specs.List.{All}
 use Rattle.netlink_packet_core.specs.Attributes.{Attribute, proper_kind}
 use Rattle.netlink_packet_core.specs.Families.{attribute}
 use Rattle.netlink_packet_core.specs.Lists.{text_by, all_fit_by}
-use Rattle.attribute_tables_grammar.specs.LookUps.{has_no_row}
+use Rattle.attribute_tables_grammar.specs.LookUps.{HasNoRow}
 use Rattle.link_message_grammar.specs.NestedTables.{specific}
 use Rattle.link_message_nested.specs.Mctp.{af_spec_mctp_entry, af_spec_mctp_names_row}
 use Rattle.link_message_nested.specs.InetSettings.{af_spec_inet_entry, af_spec_inet_names_row}
@@ -30,4 +30,4 @@ abbrev pub af_spec_unspec_names_row : AfSpecUnspec → Type 0
 af_spec_unspec_names_row (AfSpecUnspec.Inet vs) = All af_spec_inet_names_row vs.items
 af_spec_unspec_names_row (AfSpecUnspec.Inet6 vs) = All af_spec_inet_6_names_row vs.items
 af_spec_unspec_names_row (AfSpecUnspec.Mctp vs) = All af_spec_mctp_names_row vs.items
-af_spec_unspec_names_row (AfSpecUnspec.Other a) = has_no_row specific (proper_kind a.kind)
+af_spec_unspec_names_row (AfSpecUnspec.Other a) = HasNoRow specific (proper_kind a.kind)

@@ -3,7 +3,7 @@ use Rattle.std.specs.Prelude.{[], string_bytes, ◌++◌, ◌∷◌}
 use Rattle.netlink_packet_core.specs.Attributes.{Attribute, proper_kind}
 use Rattle.netlink_packet_core.specs.Families.{attribute}
 use Rattle.netlink_packet_core.specs.Numbers.{le4}
-use Rattle.attribute_tables_grammar.specs.LookUps.{has_no_row}
+use Rattle.attribute_tables_grammar.specs.LookUps.{HasNoRow}
 use Rattle.link_message_grammar.specs.NestedTables.{devlink_port}
 use Rattle.link_message_nested.specs.declared.devlink.DevlinkPort.{DevlinkPort}
 use Rattle.link_message_nested.specs.declared.devlink.DevlinkPort.TheVariants.{BusName, DevName, PortIndex, Other}
@@ -17,5 +17,5 @@ devlink_port_entry (Other a) = a
 
 -- The value is the variant that its row names: a kind with a row isn't kept as `Other`.
 abbrev pub devlink_port_names_row : DevlinkPort → Type 0
-devlink_port_names_row (Other a) = has_no_row devlink_port (proper_kind a.kind)
+devlink_port_names_row (Other a) = HasNoRow devlink_port (proper_kind a.kind)
 devlink_port_names_row _ = Unit {0}

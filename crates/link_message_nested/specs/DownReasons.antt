@@ -2,7 +2,7 @@
 use Rattle.netlink_packet_core.specs.Attributes.{Attribute, proper_kind}
 use Rattle.netlink_packet_core.specs.Families.{attribute}
 use Rattle.netlink_packet_core.specs.Numbers.{le4}
-use Rattle.attribute_tables_grammar.specs.LookUps.{has_no_row}
+use Rattle.attribute_tables_grammar.specs.LookUps.{HasNoRow}
 use Rattle.link_message_grammar.specs.NestedTables.{protocol_down_reason}
 use Rattle.link_message_nested.specs.declared.down_reason.LinkProtocolDownReason.{LinkProtocolDownReason}
 use Rattle.link_message_nested.specs.declared.down_reason.LinkProtocolDownReason.TheVariants.{Mask, Value, Other}
@@ -15,5 +15,5 @@ link_protocol_down_reason_entry (Other a) = a
 
 -- The value is the variant that its row names: a kind with a row isn't kept as `Other`.
 abbrev pub link_protocol_down_reason_names_row : LinkProtocolDownReason → Type 0
-link_protocol_down_reason_names_row (Other a) = has_no_row protocol_down_reason (proper_kind a.kind)
+link_protocol_down_reason_names_row (Other a) = HasNoRow protocol_down_reason (proper_kind a.kind)
 link_protocol_down_reason_names_row _ = Unit {0}

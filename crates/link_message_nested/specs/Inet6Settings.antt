@@ -4,7 +4,7 @@ use Rattle.std.specs.Net.Addr.{ipv6_octets}
 use Rattle.netlink_packet_core.specs.Attributes.{Attribute, proper_kind}
 use Rattle.netlink_packet_core.specs.Families.{attribute}
 use Rattle.netlink_packet_core.specs.Numbers.{le4}
-use Rattle.attribute_tables_grammar.specs.LookUps.{has_no_row}
+use Rattle.attribute_tables_grammar.specs.LookUps.{HasNoRow}
 use Rattle.link_message_grammar.specs.NestedTables.{inet6}
 use Rattle.link_message_records.specs.CacheInfos.{inet_6_cache_info_bytes}
 use Rattle.link_message_records.specs.ValueRecords.{i32_values_bytes, u64_values_bytes}
@@ -27,5 +27,5 @@ af_spec_inet_6_entry (AfSpecInet6.Other a) = a
 -- The value is the variant that its row names: a kind with a row isn't kept as `Other`, nor a named number as `Other`.
 abbrev pub af_spec_inet_6_names_row : AfSpecInet6 → Type 0
 af_spec_inet_6_names_row (AfSpecInet6.AddrGenMode m) = m ≡ in_6_addr_gen_mode_of (in_6_addr_gen_mode_number m)
-af_spec_inet_6_names_row (AfSpecInet6.Other a) = has_no_row inet6 (proper_kind a.kind)
+af_spec_inet_6_names_row (AfSpecInet6.Other a) = HasNoRow inet6 (proper_kind a.kind)
 af_spec_inet_6_names_row _ = Unit {0}

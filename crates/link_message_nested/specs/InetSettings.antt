@@ -4,7 +4,7 @@ use Rattle.std.specs.Int.{w32, cast_unsigned}
 use Rattle.netlink_packet_core.specs.Attributes.{Attribute, proper_kind, list_text}
 use Rattle.netlink_packet_core.specs.Families.{attribute}
 use Rattle.netlink_packet_core.specs.Numbers.{le4}
-use Rattle.attribute_tables_grammar.specs.LookUps.{has_no_row}
+use Rattle.attribute_tables_grammar.specs.LookUps.{HasNoRow}
 use Rattle.link_message_grammar.specs.NestedTables.{inet}
 use Rattle.link_message_records.specs.ValueRecords.{i32_values_bytes}
 use Rattle.link_message_nested.specs.declared.inet.AfSpecInet.{AfSpecInet}
@@ -30,7 +30,7 @@ af_spec_inet_entry (AfSpecInet.Other a) = a
 abbrev pub af_spec_inet_names_row : AfSpecInet → Type 0
 af_spec_inet_names_row (AfSpecInet.DevConf r) = Unit {0}
 af_spec_inet_names_row (AfSpecInet.DevConfRequest r) = ⊥
-af_spec_inet_names_row (AfSpecInet.Other a) = has_no_row inet (proper_kind a.kind)
+af_spec_inet_names_row (AfSpecInet.Other a) = HasNoRow inet (proper_kind a.kind)
 
 -- ---- requested settings, as code holds them
 

@@ -3,7 +3,7 @@ use Rattle.std.specs.Prelude.{[], ◌∷◌, ◌≡◌}
 use Rattle.netlink_packet_core.specs.Attributes.{Attribute, proper_kind}
 use Rattle.netlink_packet_core.specs.Families.{attribute}
 use Rattle.netlink_packet_core.specs.Numbers.{le4}
-use Rattle.attribute_tables_grammar.specs.LookUps.{has_no_row}
+use Rattle.attribute_tables_grammar.specs.LookUps.{HasNoRow}
 use Rattle.link_message_grammar.specs.NestedTables.{mctp}
 use Rattle.link_message_types.specs.MctpTypes.{mctp_phys_binding_number, mctp_phys_binding_of}
 use Rattle.link_message_nested.specs.declared.mctp.AfSpecMctp.{AfSpecMctp}
@@ -18,5 +18,5 @@ af_spec_mctp_entry (Other a) = a
 -- The value is the variant that its row names: a kind with a row isn't kept as `Other`, nor a named number as `Other`.
 abbrev pub af_spec_mctp_names_row : AfSpecMctp → Type 0
 af_spec_mctp_names_row (PhysBinding v) = v ≡ mctp_phys_binding_of (mctp_phys_binding_number v)
-af_spec_mctp_names_row (Other a) = has_no_row mctp (proper_kind a.kind)
+af_spec_mctp_names_row (Other a) = HasNoRow mctp (proper_kind a.kind)
 af_spec_mctp_names_row _ = Unit {0}

@@ -5,8 +5,8 @@ use Rattle.netlink_packet_core.specs.Attributes.{Attribute, proper_kind}
 use Rattle.netlink_packet_core.specs.AttributeViews.{viewed_attribute, viewed_payload}
 use Rattle.netlink_packet_core.specs.Families.{attribute, family_row}
 use Rattle.netlink_packet_core.specs.Lists.{text_by, all_fit_by}
-use Rattle.attribute_tables_grammar.specs.Lists.{Row, any, is_of_kind_one, rewrite}
-use Rattle.attribute_tables_grammar.specs.LookUps.{has_no_row, row_of_line}
+use Rattle.attribute_tables_grammar.specs.Lists.{Row, any, is_of_kind_one, canonical_form}
+use Rattle.attribute_tables_grammar.specs.LookUps.{HasNoRow, row_of_line}
 use Rattle.attribute_tables_grammar.specs.Peers.{bytes_peer}
 use Rattle.attribute_tables_grammar.specs.Tables.{Payload.list}
 use Rattle.attribute_tables.specs.Beginnings.{begins_readable, entries_begin_readable, table_may_allocate}
@@ -46,7 +46,7 @@ abbrev pub vf_info_names_row : VfInfo → Type 0
 vf_info_names_row (VfInfo.LinkState r) = r.state ≡ vf_link_state_of (vf_link_state_number r.state)
 vf_info_names_row (VfInfo.Stats vs) = All vf_stats_names_row vs.items
 vf_info_names_row (VfInfo.VlanList vs) = All vf_vlan_names_row vs.items
-vf_info_names_row (VfInfo.Other a) = has_no_row vf (proper_kind a.kind)
+vf_info_names_row (VfInfo.Other a) = HasNoRow vf (proper_kind a.kind)
 vf_info_names_row _ = Unit {0}
 
 -- The kind and the payload of a virtual function.
@@ -74,7 +74,7 @@ is_vf_info b = is_of_kind_one (viewed_attribute b) && vf_info_row.rule.accepted 
 -- The value is read from the attribute at the start of the bytes.
 abbrev pub IsVfInfoOf : List ℕ → LinkVfInfo → Type 0
 IsVfInfoOf b v =
-    (link_vf_info_entry v ≡ rewrite vf_info_row (viewed_attribute b))
+    (link_vf_info_entry v ≡ canonical_form vf_info_row (viewed_attribute b))
     × (link_vf_info_fits v ≡ vf_info_row.rule.fits (viewed_payload b))
     × link_vf_info_names_row v
 

@@ -4,7 +4,7 @@ use Rattle.netlink_packet_core.specs.Attributes.{Attribute}
 use Rattle.netlink_packet_core.specs.AttributeViews.{viewed_attribute, viewed_payload}
 use Rattle.netlink_packet_core.specs.Families.{attribute, family_row}
 use Rattle.netlink_packet_core.specs.Lists.{text_by, all_fit_by}
-use Rattle.attribute_tables_grammar.specs.Lists.{Row, is_of_kind_one, rewrite}
+use Rattle.attribute_tables_grammar.specs.Lists.{Row, is_of_kind_one, canonical_form}
 use Rattle.attribute_tables_grammar.specs.LookUps.{row_of_line}
 use Rattle.attribute_tables_grammar.specs.Peers.{bytes_peer}
 use Rattle.attribute_tables_grammar.specs.Rows.{raw_list}
@@ -37,7 +37,7 @@ is_vf_port b = is_of_kind_one (viewed_attribute b) && vf_port_row.rule.accepted 
 -- The value is read from the attribute at the start of the bytes.
 abbrev pub IsVfPortOf : List ℕ → LinkVfPort → Type 0
 IsVfPortOf b v =
-    (link_vf_port_entry v ≡ rewrite vf_port_row (viewed_attribute b))
+    (link_vf_port_entry v ≡ canonical_form vf_port_row (viewed_attribute b))
     × (link_vf_port_fits v ≡ vf_port_row.rule.fits (viewed_payload b))
 
 -- The first port of a list is accepted, or its first attribute is.

@@ -2,7 +2,7 @@
 use Rattle.netlink_packet_core.specs.Attributes.{Attribute, proper_kind}
 use Rattle.netlink_packet_core.specs.Families.{attribute}
 use Rattle.netlink_packet_core.specs.Numbers.{le8}
-use Rattle.attribute_tables_grammar.specs.LookUps.{has_no_row}
+use Rattle.attribute_tables_grammar.specs.LookUps.{HasNoRow}
 use Rattle.link_message_grammar.specs.NestedTables.{vf_stats}
 use Rattle.link_message_nested.specs.declared.vf_stats.VfStats.{VfStats}
 use Rattle.link_message_nested.specs.declared.vf_stats.VfStats.TheVariants.{RxPackets, TxPackets, RxBytes, TxBytes}
@@ -23,5 +23,5 @@ vf_stats_entry (Other a) = a
 
 -- The value is the variant that its row names: a kind with a row isn't kept as `Other`.
 abbrev pub vf_stats_names_row : VfStats → Type 0
-vf_stats_names_row (Other a) = has_no_row vf_stats (proper_kind a.kind)
+vf_stats_names_row (Other a) = HasNoRow vf_stats (proper_kind a.kind)
 vf_stats_names_row _ = Unit {0}

@@ -3,7 +3,7 @@ use Rattle.std.specs.Prelude.{[], ◌∷◌, ◌≡◌}
 use Rattle.netlink_packet_core.specs.Attributes.{Attribute, proper_kind}
 use Rattle.netlink_packet_core.specs.Families.{attribute}
 use Rattle.netlink_packet_core.specs.Numbers.{le4, signed_bits}
-use Rattle.attribute_tables_grammar.specs.LookUps.{has_no_row}
+use Rattle.attribute_tables_grammar.specs.LookUps.{HasNoRow}
 use Rattle.link_message_grammar.specs.NestedTables.{xdp}
 use Rattle.link_message_types.specs.XdpTypes.{xdp_attached_number, xdp_attached_of}
 use Rattle.link_message_nested.specs.declared.xdp.LinkXdp.{LinkXdp}
@@ -25,5 +25,5 @@ link_xdp_entry (Other a) = a
 -- The value is the variant that its row names: a kind with a row isn't kept as `Other`, nor a named number as `Other`.
 abbrev pub link_xdp_names_row : LinkXdp → Type 0
 link_xdp_names_row (Attached v) = v ≡ xdp_attached_of (xdp_attached_number v)
-link_xdp_names_row (Other a) = has_no_row xdp (proper_kind a.kind)
+link_xdp_names_row (Other a) = HasNoRow xdp (proper_kind a.kind)
 link_xdp_names_row _ = Unit {0}

@@ -2,7 +2,7 @@
 
 ghost use Rattle.std.specs.Prelude.{◌≡◌, ◌<◌, ◌≤◌, ◌+◌, ◌++◌, true, length, map, take};
 ghost use Rattle.std.specs.Int.{w32, cast_unsigned};
-ghost use Rattle.netlink_packet_core.specs.AttributeViews.{IsAttribute};
+ghost use Rattle.netlink_packet_core.specs.AttributeViews.{BeginsWithAttribute};
 ghost use Rattle.netlink_packet_core.specs.Families.{Gives, accepts, may_allocate};
 ghost use Rattle.netlink_packet_core.specs.NlaBuffers.{storage};
 ghost use Rattle.attribute_tables_grammar.specs.LookUps.{table_row};
@@ -155,7 +155,7 @@ impl Reader for AfSpecInetReader {
 }
 
 impl<'a> Parseable<NlaBuffer<&'a [u8]>> for AfSpecInet {
-    ghost can_parse = { λ b. IsAttribute (storage b).now };
+    ghost can_parse = { λ b. BeginsWithAttribute (storage b).now };
 
     ghost accepts = { λ b. accepts inet (storage b).now };
 

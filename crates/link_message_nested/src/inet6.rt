@@ -1,7 +1,7 @@
 //! The IPv6 state and settings of a link (if_link.h, IFLA_INET6_*). Numbers are little-endian.
 
 ghost use Rattle.std.specs.Prelude.{◌≡◌, true};
-ghost use Rattle.netlink_packet_core.specs.AttributeViews.{IsAttribute};
+ghost use Rattle.netlink_packet_core.specs.AttributeViews.{BeginsWithAttribute};
 ghost use Rattle.netlink_packet_core.specs.Families.{Gives, accepts, may_allocate};
 ghost use Rattle.netlink_packet_core.specs.NlaBuffers.{storage};
 ghost use Rattle.attribute_tables_grammar.specs.LookUps.{table_row};
@@ -148,7 +148,7 @@ impl Reader for AfSpecInet6Reader {
 }
 
 impl<'a> Parseable<NlaBuffer<&'a [u8]>> for AfSpecInet6 {
-    ghost can_parse = { λ b. IsAttribute (storage b).now };
+    ghost can_parse = { λ b. BeginsWithAttribute (storage b).now };
 
     ghost accepts = { λ b. accepts inet6 (storage b).now };
 

@@ -3,7 +3,7 @@
 ghost use Rattle.std.specs.Prelude.{◌≡◌, ◌<◌, ⊤, true, length, IfErr};
 ghost use Rattle.netlink_packet_core.specs.Families.{family_row, may_allocate};
 ghost use Rattle.attribute_tables_grammar.specs.Lists.{any};
-ghost use Rattle.attribute_tables_grammar.specs.LookUps.{list_of, table_row};
+ghost use Rattle.attribute_tables_grammar.specs.LookUps.{table_list_rule, table_row};
 ghost use Rattle.attribute_tables_grammar.specs.Peers.{bytes_peer};
 ghost use Rattle.attribute_tables_grammar.specs.Tables.{Table.end};
 ghost use Rattle.attribute_tables.specs.Beginnings.{begins_accepted};
@@ -40,8 +40,8 @@ impl Reader for RawReader {
 /// the first attribute is valid.
 #[tactic(auto, using(crate::proofs::RawRules::raw_rules, attribute_tables::proofs::Families::family_lists))]
 pub fn parse_raw(alloc: Global, bytes: &[u8]) -> Result<Vec<DefaultNla>, DecodeError>
-    ensures judged { SucceedsIf result ((list_of bytes_peer any end).accepted bytes.now) }
-    ensures written { ListIsWrittenBy result (λ a. a) (λ _. true) (list_of bytes_peer any end)
+    ensures judged { SucceedsIf result ((table_list_rule bytes_peer any end).accepted bytes.now) }
+    ensures written { ListIsWrittenBy result (λ a. a) (λ _. true) (table_list_rule bytes_peer any end)
         bytes.now }
     ensures not_empty { IfErr result (λ _. 0 < length bytes.now) }
     ensures memory { IfMemory result (begins_accepted (family_row end) bytes.now ≡ true) }

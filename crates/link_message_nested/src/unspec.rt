@@ -3,11 +3,11 @@
 
 ghost use Rattle.std.specs.Prelude.{◌≡◌, ◌<◌, true, length, IfOk, IfErr};
 ghost use Rattle.std.specs.List.{All};
-ghost use Rattle.netlink_packet_core.specs.AttributeViews.{IsAttribute};
+ghost use Rattle.netlink_packet_core.specs.AttributeViews.{BeginsWithAttribute};
 ghost use Rattle.netlink_packet_core.specs.Families.{Gives, accepts, family_row};
 ghost use Rattle.netlink_packet_core.specs.NlaBuffers.{storage};
 ghost use Rattle.attribute_tables_grammar.specs.Lists.{any};
-ghost use Rattle.attribute_tables_grammar.specs.LookUps.{list_of, table_row};
+ghost use Rattle.attribute_tables_grammar.specs.LookUps.{table_list_rule, table_row};
 ghost use Rattle.attribute_tables_grammar.specs.Peers.{bytes_peer};
 ghost use Rattle.attribute_tables.specs.Views.{fits_by};
 ghost use Rattle.attribute_tables.specs.Beginnings.{begins_readable, table_may_allocate};
@@ -115,7 +115,7 @@ impl Reader for AfSpecUnspecReader {
 }
 
 impl<'a> Parseable<NlaBuffer<&'a [u8]>> for AfSpecUnspec {
-    ghost can_parse = { λ b. IsAttribute (storage b).now };
+    ghost can_parse = { λ b. BeginsWithAttribute (storage b).now };
 
     ghost accepts = { λ b. accepts specific (storage b).now };
 
@@ -139,9 +139,9 @@ impl<'a> Parseable<NlaBuffer<&'a [u8]>> for AfSpecUnspec {
 /// allocation fails. This may hide a refusal of a later attribute, but not of the first one.
 #[tactic(auto, using(crate::proofs::FamilyRules::family_rules))]
 pub fn parse_families(alloc: Global, bytes: &[u8]) -> Result<Vec<AfSpecUnspec>, DecodeError>
-    ensures judged { SucceedsIf result ((list_of bytes_peer any specific).accepted bytes.now) }
+    ensures judged { SucceedsIf result ((table_list_rule bytes_peer any specific).accepted bytes.now) }
     ensures written { ListIsWrittenBy result af_spec_unspec_entry af_spec_unspec_fits
-        (list_of bytes_peer any specific) bytes.now }
+        (table_list_rule bytes_peer any specific) bytes.now }
     ensures is_row_variant { IfOk result (λ v. All af_spec_unspec_names_row v.items) }
     ensures not_empty { IfErr result (λ _. 0 < length bytes.now) }
     ensures memory { IfMemory result

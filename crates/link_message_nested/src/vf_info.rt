@@ -2,11 +2,11 @@
 
 ghost use Rattle.std.specs.Prelude.{◌≡◌, ◌&&◌, ◌<◌, true, length, IfOk, IfErr};
 ghost use Rattle.std.specs.List.{All};
-ghost use Rattle.netlink_packet_core.specs.AttributeViews.{viewed_attribute, viewed_payload, IsAttribute};
+ghost use Rattle.netlink_packet_core.specs.AttributeViews.{viewed_attribute, viewed_payload, BeginsWithAttribute};
 ghost use Rattle.netlink_packet_core.specs.Families.{Gives, accepts, family_row};
 ghost use Rattle.netlink_packet_core.specs.NlaBuffers.{storage};
 ghost use Rattle.attribute_tables_grammar.specs.Lists.{is_of_kind_one, of_kind_one};
-ghost use Rattle.attribute_tables_grammar.specs.LookUps.{list_of, table_row};
+ghost use Rattle.attribute_tables_grammar.specs.LookUps.{table_list_rule, table_row};
 ghost use Rattle.attribute_tables_grammar.specs.Peers.{bytes_peer};
 ghost use Rattle.attribute_tables.specs.Views.{fits_by};
 ghost use Rattle.attribute_tables.specs.Beginnings.{table_may_allocate};
@@ -183,7 +183,7 @@ impl Reader for VfInfoReader {
 }
 
 impl<'a> Parseable<NlaBuffer<&'a [u8]>> for VfInfo {
-    ghost can_parse = { λ b. IsAttribute (storage b).now };
+    ghost can_parse = { λ b. BeginsWithAttribute (storage b).now };
 
     ghost accepts = { λ b. accepts vf (storage b).now };
 
@@ -255,9 +255,9 @@ impl EntryReader for LinkVfInfoReader {
 #[tactic(auto, using(crate::proofs::VfRules::vf_rules), unfolding(crate::specs::VfInfos::vf_infos_begin_readable))]
 pub fn parse_vf_infos(alloc: Global, bytes: &[u8]) -> Result<Vec<LinkVfInfo>, DecodeError>
     ensures judged { SucceedsIf result
-        ((list_of bytes_peer of_kind_one vf_infos).accepted bytes.now) }
+        ((table_list_rule bytes_peer of_kind_one vf_infos).accepted bytes.now) }
     ensures written { ListIsWrittenBy result link_vf_info_entry link_vf_info_fits
-        (list_of bytes_peer of_kind_one vf_infos) bytes.now }
+        (table_list_rule bytes_peer of_kind_one vf_infos) bytes.now }
     ensures is_row_variant { IfOk result (λ v. All link_vf_info_names_row v.items) }
     ensures not_empty { IfErr result (λ _. 0 < length bytes.now) }
     ensures memory { IfMemory result (vf_infos_begin_readable bytes.now ≡ true) }
@@ -267,7 +267,7 @@ pub fn parse_vf_infos(alloc: Global, bytes: &[u8]) -> Result<Vec<LinkVfInfo>, De
 }
 
 impl<'a> Parseable<NlaBuffer<&'a [u8]>> for LinkVfInfo {
-    ghost can_parse = { λ b. IsAttribute (storage b).now };
+    ghost can_parse = { λ b. BeginsWithAttribute (storage b).now };
 
     ghost accepts = { λ b. is_vf_info (storage b).now };
 

@@ -1,11 +1,11 @@
 //! Ports of virtual functions (if_link.h, IFLA_PORT_*), each attribute kept unchanged.
 
 ghost use Rattle.std.specs.Prelude.{◌≡◌, ◌&&◌, ◌<◌, ⊤, true, length, refl};
-ghost use Rattle.netlink_packet_core.specs.AttributeViews.{viewed_attribute, viewed_payload, IsAttribute};
+ghost use Rattle.netlink_packet_core.specs.AttributeViews.{viewed_attribute, viewed_payload, BeginsWithAttribute};
 ghost use Rattle.netlink_packet_core.specs.Families.{family_row};
 ghost use Rattle.netlink_packet_core.specs.NlaBuffers.{storage};
 ghost use Rattle.attribute_tables_grammar.specs.Lists.{is_of_kind_one, ports};
-ghost use Rattle.attribute_tables_grammar.specs.LookUps.{list_of};
+ghost use Rattle.attribute_tables_grammar.specs.LookUps.{table_list_rule};
 ghost use Rattle.attribute_tables_grammar.specs.Peers.{bytes_peer};
 ghost use Rattle.attribute_tables_grammar.specs.Tables.{Table.end};
 ghost use Rattle.attribute_tables.specs.Beginnings.{begins_accepted};
@@ -112,9 +112,9 @@ impl EntryReader for LinkVfPortReader {
 /// refusal of a later attribute.
 #[tactic(auto, using(crate::proofs::VfRules::vf_rules), unfolding(crate::specs::VfPorts::vf_ports_begin_readable))]
 pub fn parse_vf_ports(alloc: Global, bytes: &[u8]) -> Result<Vec<LinkVfPort>, DecodeError>
-    ensures judged { SucceedsIf result ((list_of bytes_peer ports vf_ports).accepted bytes.now) }
+    ensures judged { SucceedsIf result ((table_list_rule bytes_peer ports vf_ports).accepted bytes.now) }
     ensures written { ListIsWrittenBy result link_vf_port_entry link_vf_port_fits
-        (list_of bytes_peer ports vf_ports) bytes.now }
+        (table_list_rule bytes_peer ports vf_ports) bytes.now }
     ensures not_empty { IfMemory result (0 < length bytes.now) }
     ensures memory { IfMemory result (vf_ports_begin_readable bytes.now ≡ true) }
 {
@@ -123,7 +123,7 @@ pub fn parse_vf_ports(alloc: Global, bytes: &[u8]) -> Result<Vec<LinkVfPort>, De
 }
 
 impl<'a> Parseable<NlaBuffer<&'a [u8]>> for LinkVfPort {
-    ghost can_parse = { λ b. IsAttribute (storage b).now };
+    ghost can_parse = { λ b. BeginsWithAttribute (storage b).now };
 
     ghost accepts = { λ b. is_vf_port (storage b).now };
 

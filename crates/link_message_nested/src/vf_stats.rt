@@ -3,7 +3,7 @@
 ghost use Rattle.std.specs.Prelude.{refl, IfNone, IfSome, ◌≡◌};
 ghost use Rattle.netlink_packet_core.specs.Families.{attribute};
 ghost use Rattle.netlink_packet_core.specs.Numbers.{le8};
-ghost use Rattle.attribute_tables_grammar.specs.LookUps.{has_no_row};
+ghost use Rattle.attribute_tables_grammar.specs.LookUps.{HasNoRow};
 ghost use Rattle.link_message_grammar.specs.NestedTables.{vf_stats};
 ghost use Rattle.link_message_nested.specs.VfStatistics.{vf_stats_entry, vf_stats_names_row};
 
@@ -75,7 +75,7 @@ impl VfStats {
     fn of_u64(kind: u16, number: u64) -> Option<Self>
         ensures value { IfSome result (λ v. vf_stats_entry v ≡ attribute kind (le8 number)) }
         ensures is_row_variant { IfSome result (λ v. vf_stats_names_row v) }
-        ensures none { IfNone result (has_no_row vf_stats kind) }
+        ensures none { IfNone result (HasNoRow vf_stats kind) }
     {
         match kind {
             IFLA_VF_STATS_RX_PACKETS => Some(Self::RxPackets(number)),

@@ -1,7 +1,7 @@
 //! VLANs of virtual functions (if_link.h, IFLA_VF_VLAN_*).
 
 ghost use Rattle.std.specs.Prelude.{◌≡◌, true};
-ghost use Rattle.netlink_packet_core.specs.AttributeViews.{IsAttribute};
+ghost use Rattle.netlink_packet_core.specs.AttributeViews.{BeginsWithAttribute};
 ghost use Rattle.netlink_packet_core.specs.NlaBuffers.{storage};
 ghost use Rattle.netlink_packet_core.specs.Families.{Gives, accepts, may_allocate};
 ghost use Rattle.attribute_tables_grammar.specs.LookUps.{table_row};
@@ -79,7 +79,7 @@ impl Reader for VfVlanReader {
 }
 
 impl<'a> Parseable<NlaBuffer<&'a [u8]>> for VfVlan {
-    ghost can_parse = { λ b. IsAttribute (storage b).now };
+    ghost can_parse = { λ b. BeginsWithAttribute (storage b).now };
 
     ghost accepts = { λ b. accepts vf_vlans (storage b).now };
 

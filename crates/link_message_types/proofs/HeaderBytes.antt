@@ -6,7 +6,7 @@ use Rattle.std.proofs.lemmas.List.{drop-drop}
 use Rattle.std.specs.Prelude.{cond, slice_index}
 use Rattle.netlink_packet_core_grammar.specs.Numbers.{u16_at, le2, le4}
 use Rattle.netlink_packet_core_grammar.proofs.Numbers.{u16_at-bytes, u16_at-le2}
-use Rattle.link_message_grammar.specs.Body.{is_listed, header_text, layer_type_text}
+use Rattle.link_message_grammar.specs.Body.{has_layer_type_name, header_text, layer_type_text}
 use Rattle.link_message_types.specs.AddressFamilies.{address_family_number}
 use Rattle.link_message_types.specs.LinkFlagTypes.{link_flags_bits}
 use Rattle.link_message_types.specs.LinkLayerTypes.{link_layer_type_number, link_layer_type_of}
@@ -32,14 +32,14 @@ header_is x h = absurd (omega arith)
 pub number_of : (n : ℕ) (p : List ℕ) → n < 2 ^ 16 → le2 n ≡ p → n ≡ u16_at 0 p
 number_of n p h e = sym (u16_at-le2 n []) ∙ ap (λ x. u16_at 0 x) (append-nil (le2 n) ∙ e)
 
-layer_by : (n k l : ℕ) (t : Bool) → is_listed n ≡ t → n ≡ k + 256 * l → le2 n ≡ k ∷ l ∷ [] → le2 (cond (is_listed n) n 65535) ≡ layer_type_text k l
+layer_by : (n k l : ℕ) (t : Bool) → has_layer_type_name n ≡ t → n ≡ k + 256 * l → le2 n ≡ k ∷ l ∷ [] → le2 (cond (has_layer_type_name n) n 65535) ≡ layer_type_text k l
 unfolding le2
-layer_by n k l true p e q = ap (λ s. le2 (cond s n 65535)) p ∙ q ∙ sym (ap (λ s. cond s (k ∷ l ∷ []) (255 ∷ 255 ∷ [])) (ap is_listed (sym e) ∙ p))
-layer_by n k l false p e q = ap (λ s. le2 (cond s n 65535)) p ∙ sym (ap (λ s. cond s (k ∷ l ∷ []) (255 ∷ 255 ∷ [])) (ap is_listed (sym e) ∙ p))
+layer_by n k l true p e q = ap (λ s. le2 (cond s n 65535)) p ∙ q ∙ sym (ap (λ s. cond s (k ∷ l ∷ []) (255 ∷ 255 ∷ [])) (ap has_layer_type_name (sym e) ∙ p))
+layer_by n k l false p e q = ap (λ s. le2 (cond s n 65535)) p ∙ sym (ap (λ s. cond s (k ∷ l ∷ []) (255 ∷ 255 ∷ [])) (ap has_layer_type_name (sym e) ∙ p))
 
 -- The bytes of a layer type are those of the grammar.
 pub layer_bytes : (n : ℕ) (b : List ℕ) → n < 2 ^ 16 → 4 ≤ length b → le2 n ≡ take 2 (drop 2 b) → le2 (link_layer_type_number (link_layer_type_of n)) ≡ layer_type_text (slice_index b 2) (slice_index b 3)
-layer_bytes n (f ∷ x ∷ k ∷ l ∷ rest) h s e = ap le2 (layer_type_numbered n) ∙ layer_by n k l (is_listed n) refl (number_of n (k ∷ l ∷ []) h e ∙ u16_at-bytes k l []) e
+layer_bytes n (f ∷ x ∷ k ∷ l ∷ rest) h s e = ap le2 (layer_type_numbered n) ∙ layer_by n k l (has_layer_type_name n) refl (number_of n (k ∷ l ∷ []) h e ∙ u16_at-bytes k l []) e
 layer_bytes n x h s e = absurd (omega arith)
 
 -- A header of these numbers has the text of the bytes.

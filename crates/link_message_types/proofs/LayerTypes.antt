@@ -5,7 +5,7 @@ use Rattle.std.specs.List.{list_any}
 use Rattle.std.proofs.lemmas.Bool.{eqb-true}
 use Rattle.std.proofs.lemmas.Bool.Decides.{nat_tests}
 use Rattle.netlink_packet_core.specs.Named.{numbered_by}
-use Rattle.link_message_grammar.specs.Body.{is_listed}
+use Rattle.link_message_grammar.specs.Body.{has_layer_type_name}
 use Rattle.link_message_types.specs.LinkLayerTypes.{link_layer_type_number, link_layer_type_of, listed_link_layer_types}
 use Rattle.link_message_types.specs.declared.link_layer_type.LinkLayerType.{LinkLayerType}
 
@@ -20,8 +20,8 @@ numbered number (v ∷ vs) w n = by_test (number v == n) (n == number v) refl re
     by_test true false p q more = absurd (grind (arith, nat_tests))
     by_test false true p q more = absurd (grind (arith, nat_tests))
 
-pub layer_type_numbered : (n : ℕ) → link_layer_type_number (link_layer_type_of n) ≡ cond (is_listed n) n 65535
-unfolding link_layer_type_of is_listed
+pub layer_type_numbered : (n : ℕ) → link_layer_type_number (link_layer_type_of n) ≡ cond (has_layer_type_name n) n 65535
+unfolding link_layer_type_of has_layer_type_name
 layer_type_numbered n = numbered link_layer_type_number listed_link_layer_types LinkLayerType.Void n
 
 pub ruleset listed_types = (layer_type_numbered)

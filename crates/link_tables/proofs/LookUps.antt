@@ -1,5 +1,5 @@
 -- The row that is found is the entry of the table that the rows build.
-use Rattle.std.proofs.Common.{◌≡◌, ℕ, zero, suc, ◌+◌, ◌-◌, ◌<◌, ◌≤◌, Bool, true, List, [], ◌∷◌, length, get_or, None, refl, sym, ap, ◌∙◌, arith}
+use Rattle.std.proofs.Common.{◌≡◌, ℕ, zero, suc, ◌+◌, ◌<◌, ◌≤◌, Bool, true, List, [], ◌∷◌, length, get_or, None, refl, sym, ap, ◌∙◌, arith}
 use Rattle.std.specs.Prelude.{◌&&◌, ◌==◌}
 use Rattle.std.specs.List.{list_all}
 use Rattle.std.proofs.lemmas.Bool.{and_parts, eqb-true, eq-eqb, ne_eqb}
@@ -26,10 +26,8 @@ kind_at (r ∷ rs) n (suc j) d h l =
     let i : kind_of (get_or rs j d) ≡ suc n + j = kind_at rs (suc n) j d a.1 (omega arith) in
     omega (arith, i)
 
-pub kind_at_index : (rs : List Row) (d other : Row) (n k : ℕ) → n ≡ kind_of (get_or rs 0 d) → are_dense rs ≡ true → n ≤ k → k - n < length rs → kind_of (get_or rs (k - n) other) ≡ k
-kind_at_index rs d other n k e h m l =
-    let i : kind_of (get_or rs (k - n) other) ≡ n + (k - n) = kind_at rs n (k - n) other (from_first rs d n e h) l in
-    omega (arith, i)
+pub kind_at_index : (rs : List Row) (d other : Row) (n j k : ℕ) → n ≡ kind_of (get_or rs 0 d) → are_dense rs ≡ true → k ≡ n + j → j < length rs → kind_of (get_or rs j other) ≡ k
+kind_at_index rs d other n j k e h m l = kind_at rs n j other (from_first rs d n e h) l ∙ sym m
 
 module _ (tables : ℕ → Table) (info : Payload) where
   -- removing the first of consecutive rows doesn't change the entries of other kinds
@@ -64,8 +62,8 @@ module _ (tables : ℕ → Table) (info : Payload) where
   pub line_outside : (rs : List Row) (d : Row) (n k : ℕ) → n ≡ kind_of (get_or rs 0 d) → are_dense rs ≡ true → (n ≤ k → n + length rs ≤ k) → None ≡ line_at (build tables info rs) k
   line_outside rs d n k e h l = outside rs n k (from_first rs d n e h) l
 
-  pub line_at_index : (rs : List Row) (d other : Row) (n k : ℕ) → n ≡ kind_of (get_or rs 0 d) → are_dense rs ≡ true → n ≤ k → k - n < length rs → line_of tables info (get_or rs (k - n) other) ≡ line_at (build tables info rs) k
-  line_at_index rs d other n k e h m l = at_index rs n (k - n) k other (from_first rs d n e h) l (omega arith)
+  pub line_at_index : (rs : List Row) (d other : Row) (n j k : ℕ) → n ≡ kind_of (get_or rs 0 d) → are_dense rs ≡ true → k ≡ n + j → j < length rs → line_of tables info (get_or rs j other) ≡ line_at (build tables info rs) k
+  line_at_index rs d other n j k e h m l = at_index rs n j k other (from_first rs d n e h) l m
 
 -- a property of each list, and of the empty one, is one of the list at any index
 pub all_at : {A : Type 0} (f : A → Bool) (xs : List A) (n : ℕ) (d : A) → list_all f xs ≡ true → f d ≡ true → f (get_or xs n d) ≡ true

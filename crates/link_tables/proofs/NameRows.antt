@@ -7,13 +7,13 @@ use Rattle.link_tables.specs.declared.rows.Held.{Held}
 use Rattle.link_tables.specs.declared.rows.Held.TheVariants.{Plain}
 use Rattle.link_tables.specs.declared.rows.Shape.TheVariants.{Raw}
 use Rattle.attribute_tables_grammar.specs.LookUps.{payload_rule, payload_at, rule_or_raw}
-use Rattle.attribute_tables_grammar.specs.Peers.{Peer}
+use Rattle.attribute_tables_grammar.specs.Peers.{RuleOfPeers}
 use Rattle.attribute_tables_grammar.specs.Tables.{Payload, Table}
 use Rattle.link_tables.specs.declared.names.NameRow.{NameRow}
 use Rattle.link_tables.specs.Rows.{payload_of}
 use Rattle.link_tables.specs.Names.{names_of, held_by_name}
 
-module _ (p : Peer) (tables : ℕ → Table) (info : Payload) where
+module _ (p : RuleOfPeers) (tables : ℕ → Table) (info : Payload) where
   pub found_name : (rs : List NameRow) (n : List ℕ) → payload_rule p (payload_of tables info (held_by_name rs n)) ≡ rule_or_raw p (payload_at (names_of tables info rs) n)
   found_name [] n = refl
   found_name (r ∷ rs) n =

@@ -1,5 +1,5 @@
 -- The payloads of the attributes of link info, by the kinds in force.
-use Rattle.std.specs.Prelude.{ℕ, zero, suc, List, Option, Some, None, option_map}
+use Rattle.std.specs.Prelude.{ℕ, ◌==◌, cond, List, Option, Some, None, option_map}
 use Rattle.attribute_tables_grammar.specs.Lists.{Context}
 use Rattle.link_tables.specs.Names.{held_by_name}
 use Rattle.link_tables.specs.declared.info.InForce.{InForce}
@@ -33,9 +33,9 @@ statistics_under (Some n) = Some (Plain Raw)
 
 -- The payload of an attribute whose kind has no flag bits; None if it depends on a kind, and none is in force.
 abbrev pub held_in_force : Context → ℕ → Option Held
-held_in_force c (suc zero) = Some (Plain Text)
-held_in_force c (suc (suc zero)) = data_under c.kind
-held_in_force c (suc (suc (suc zero))) = statistics_under c.kind
-held_in_force c (suc (suc (suc (suc zero)))) = Some (Plain Text)
-held_in_force c (suc (suc (suc (suc (suc zero))))) = port_data_under c.port_kind
-held_in_force c k = Some (Plain Raw)
+held_in_force c k =
+    cond (k == 1) (Some (Plain Text))  -- IFLA_INFO_KIND
+    (cond (k == 4) (Some (Plain Text))  -- IFLA_INFO_SLAVE_KIND
+    (cond (k == 5) (port_data_under c.port_kind)  -- IFLA_INFO_SLAVE_DATA
+    (cond (k == 2) (data_under c.kind)  -- IFLA_INFO_DATA
+    (cond (k == 3) (statistics_under c.kind) (Some (Plain Raw))))))  -- IFLA_INFO_XSTATS

@@ -7,7 +7,7 @@ use Rattle.attribute_tables_grammar.specs.LookUps.{Line}
 use Rattle.attribute_tables_grammar.specs.Tables.{Payload, Payload.plain, Payload.peer, Payload.list, Table, Table.end}
 use Rattle.attribute_tables_grammar.specs.Tables.{Table.row}
 use Rattle.link_tables.specs.declared.rows.Shape.{Shape}
-use Rattle.link_tables.specs.declared.rows.Shape.TheVariants.{Exact, Either, AtMost, NonzeroByte, OneByte}
+use Rattle.link_tables.specs.declared.rows.Shape.TheVariants.{Exact, Either, AtMost, BooleanIfNonzero, BooleanIfOne}
 use Rattle.link_tables.specs.declared.rows.Shape.TheVariants.{BooleanOfFour, Presence, Text, Raw, Never, FixedRecord}
 use Rattle.link_tables.specs.declared.rows.Shape.TheVariants.{IdAndBoolean, Resized}
 use Rattle.link_tables.specs.declared.rows.Form.{Form}
@@ -23,8 +23,8 @@ abbrev pub shape_of : Shape → shapes.Shape
 shape_of (Exact n) = shapes.exact n
 shape_of (Either m n) = shapes.either m n
 shape_of (AtMost n) = shapes.at_most n
-shape_of NonzeroByte = shapes.nonzero_byte
-shape_of OneByte = shapes.one_byte
+shape_of BooleanIfNonzero = shapes.boolean_if_nonzero
+shape_of BooleanIfOne = shapes.boolean_if_one
 shape_of BooleanOfFour = shapes.boolean_of_four
 shape_of Presence = shapes.presence
 shape_of Text = shapes.text

@@ -1,7 +1,7 @@
 -- The tables of the grammar, at the index of their constants in code.
 use Rattle.std.specs.Prelude.{◌≡◌, ℕ, ◌==◌, Bool, cond, List, [], ◌∷◌, get_or}
 use Rattle.attribute_tables_grammar.specs.LookUps.{payload_rule}
-use Rattle.attribute_tables_grammar.specs.Peers.{Peer}
+use Rattle.attribute_tables_grammar.specs.Peers.{RuleOfPeers}
 use Rattle.attribute_tables_grammar.specs.Rules.{Rule}
 use Rattle.attribute_tables_grammar.specs.Shapes.{exact}
 use Rattle.attribute_tables_grammar.specs.Tables.{Payload, Table, Table.end}
@@ -42,7 +42,7 @@ abbrev pub held_payload : Held → Payload
 held_payload held = payload_of table_of info_payload held
 
 -- The rule of a payload in code, under a rule of peers.
-abbrev pub held_rule : Peer → Held → Rule
+abbrev pub held_rule : RuleOfPeers → Held → Rule
 held_rule p held = payload_rule p (held_payload held)
 
 -- These are the rows of the table.

@@ -2,11 +2,11 @@
 //! port data (if_link.h, IFLA_INFO_*).
 
 ghost use Rattle.std.specs.Prelude.{◌≡◌, IfSome, IfNone};
-ghost use Rattle.attribute_tables_grammar.specs.Peers.{Peer};
+ghost use Rattle.attribute_tables_grammar.specs.Peers.{RuleOfPeers};
 ghost use Rattle.attribute_tables_grammar.specs.Rules.{shape_rule};
 ghost use Rattle.attribute_tables_grammar.specs.Shapes.{never};
 ghost use Rattle.attribute_tables_grammar.specs.Tables.{info_next};
-ghost use Rattle.link_info_grammar.specs.LinkInfo.{link_info_row_under};
+ghost use Rattle.link_info_grammar.specs.LinkInfo.{link_info_row};
 ghost use Rattle.link_tables.specs.InForce.{held_in_force, in_force};
 ghost use Rattle.link_tables.specs.Tables.{held_rule};
 
@@ -70,9 +70,9 @@ pub fn next_force<'a>(force: InForce<'a>, kind: u16, payload: &'a [u8]) -> InFor
 #[tactic(auto, unfolding(crate::specs::InForce::data_under, crate::specs::InForce::port_data_under))]
 pub fn info_held(force: InForce<'_>, kind: u16) -> Option<Held>
     ensures is { result ≡ held_in_force (in_force force.entry) kind }
-    ensures some { (p : Peer) → IfSome result (λ held. held_rule p held
-        ≡ (link_info_row_under p (in_force force.entry) kind).rule) }
-    ensures none { (p : Peer) → IfNone result ((link_info_row_under p (in_force force.entry) kind).rule
+    ensures some { (p : RuleOfPeers) → IfSome result (λ held. held_rule p held
+        ≡ (link_info_row p (in_force force.entry) kind).rule) }
+    ensures none { (p : RuleOfPeers) → IfNone result ((link_info_row p (in_force force.entry) kind).rule
         ≡ shape_rule never) }
 {
     names_are_looked_up();

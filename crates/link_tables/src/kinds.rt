@@ -8,7 +8,7 @@
 
 ghost use Rattle.std.specs.Prelude.{◌≡◌};
 ghost use Rattle.attribute_tables_grammar.specs.LookUps.{payload_at, rule_or_raw};
-ghost use Rattle.attribute_tables_grammar.specs.Peers.{Peer};
+ghost use Rattle.attribute_tables_grammar.specs.Peers.{RuleOfPeers};
 ghost use Rattle.link_info_grammar.specs.Families.{kinds, port_kinds};
 ghost use Rattle.link_tables.specs.Names.{held_by_name};
 ghost use Rattle.link_tables.specs.Tables.{held_rule};
@@ -144,11 +144,11 @@ macro_rules! geneve {
             5, b"IFLA_GENEVE_PORT", Exact(2), BigEndian(PLAIN);
             6, b"IFLA_GENEVE_COLLECT_METADATA", Presence, Presence;
             7, b"IFLA_GENEVE_REMOTE6", Exact(16), Address;
-            8, b"IFLA_GENEVE_UDP_CSUM", NonzeroByte, Boolean;
-            9, b"IFLA_GENEVE_UDP_ZERO_CSUM6_TX", NonzeroByte, Boolean;
-            10, b"IFLA_GENEVE_UDP_ZERO_CSUM6_RX", NonzeroByte, Boolean;
+            8, b"IFLA_GENEVE_UDP_CSUM", BooleanIfNonzero, Boolean;
+            9, b"IFLA_GENEVE_UDP_ZERO_CSUM6_TX", BooleanIfNonzero, Boolean;
+            10, b"IFLA_GENEVE_UDP_ZERO_CSUM6_RX", BooleanIfNonzero, Boolean;
             11, b"IFLA_GENEVE_LABEL", Exact(4), BigEndian(PLAIN);
-            12, b"IFLA_GENEVE_TTL_INHERIT", NonzeroByte, Boolean;
+            12, b"IFLA_GENEVE_TTL_INHERIT", BooleanIfNonzero, Boolean;
             13, b"IFLA_GENEVE_DF", Exact(1), Number(GENEVE_DF);
             14, b"IFLA_GENEVE_INNER_PROTO_INHERIT", Presence, Presence;
             15;
@@ -173,7 +173,7 @@ macro_rules! gre {
             7, b"IFLA_GRE_REMOTE", Exact(4), Address;
             8, b"IFLA_GRE_TTL", Exact(1), Number(PLAIN);
             9, b"IFLA_GRE_TOS", Exact(1), Number(PLAIN);
-            10, b"IFLA_GRE_PMTUDISC", OneByte, Boolean;
+            10, b"IFLA_GRE_PMTUDISC", BooleanIfOne, Boolean;
             11;
             12;
             13;
@@ -234,7 +234,7 @@ macro_rules! gtp {
             2, b"IFLA_GTP_FD1", Exact(4), Number(PLAIN);
             3, b"IFLA_GTP_PDP_HASHSIZE", Exact(4), Number(PLAIN);
             4, b"IFLA_GTP_ROLE", Exact(4), Number(GTP_ROLE);
-            5, b"IFLA_GTP_CREATE_SOCKETS", NonzeroByte, Boolean;
+            5, b"IFLA_GTP_CREATE_SOCKETS", BooleanIfNonzero, Boolean;
             6, b"IFLA_GTP_RESTART_COUNT", Exact(1), Number(PLAIN);
             7, b"IFLA_GTP_LOCAL", Exact(4), Address;
             8, b"IFLA_GTP_LOCAL6", Exact(16), Address;
@@ -279,7 +279,7 @@ macro_rules! ip_tunnel {
             7, b"IFLA_IPTUN_FLOWINFO", Exact(4), BigEndian(PLAIN);
             8, b"IFLA_IPTUN_FLAGS", $flags, Flags;
             9, b"IFLA_IPTUN_PROTO", Exact(1), Number(PLAIN);
-            10, b"IFLA_IPTUN_PMTUDISC", NonzeroByte, Boolean;
+            10, b"IFLA_IPTUN_PMTUDISC", BooleanIfNonzero, Boolean;
             11, b"IFLA_IPTUN_6RD_PREFIX", Exact(16), Address;
             12, b"IFLA_IPTUN_6RD_RELAY_PREFIX", Exact(4), Address;
             13, b"IFLA_IPTUN_6RD_PREFIXLEN", Exact(2), Number(PLAIN);
@@ -376,7 +376,7 @@ macro_rules! netkit {
     ($write:ident) => {
         $write! {
             1 -> b"IFLA_NETKIT_PEER_INFO", Peer;
-            2, b"IFLA_NETKIT_PRIMARY", NonzeroByte, Boolean;
+            2, b"IFLA_NETKIT_PRIMARY", BooleanIfNonzero, Boolean;
             3, b"IFLA_NETKIT_POLICY", Exact(4), Number(NETKIT_POLICY);
             4, b"IFLA_NETKIT_PEER_POLICY", Exact(4), Number(NETKIT_POLICY);
             5, b"IFLA_NETKIT_MODE", Exact(4), Number(NETKIT_MODE);
@@ -466,34 +466,34 @@ macro_rules! vxlan {
             4, b"IFLA_VXLAN_LOCAL", Exact(4), Address;
             5, b"IFLA_VXLAN_TTL", Exact(1), Number(PLAIN);
             6, b"IFLA_VXLAN_TOS", Exact(1), Number(PLAIN);
-            7, b"IFLA_VXLAN_LEARNING", NonzeroByte, Boolean;
+            7, b"IFLA_VXLAN_LEARNING", BooleanIfNonzero, Boolean;
             8, b"IFLA_VXLAN_AGEING", Exact(4), Number(PLAIN);
             9, b"IFLA_VXLAN_LIMIT", Exact(4), Number(PLAIN);
             10, b"IFLA_VXLAN_PORT_RANGE", Exact(4), PortRange;
-            11, b"IFLA_VXLAN_PROXY", NonzeroByte, Boolean;
-            12, b"IFLA_VXLAN_RSC", NonzeroByte, Boolean;
-            13, b"IFLA_VXLAN_L2MISS", NonzeroByte, Boolean;
-            14, b"IFLA_VXLAN_L3MISS", NonzeroByte, Boolean;
+            11, b"IFLA_VXLAN_PROXY", BooleanIfNonzero, Boolean;
+            12, b"IFLA_VXLAN_RSC", BooleanIfNonzero, Boolean;
+            13, b"IFLA_VXLAN_L2MISS", BooleanIfNonzero, Boolean;
+            14, b"IFLA_VXLAN_L3MISS", BooleanIfNonzero, Boolean;
             15, b"IFLA_VXLAN_PORT", Exact(2), BigEndian(PLAIN);
             16, b"IFLA_VXLAN_GROUP6", Exact(16), Address;
             17, b"IFLA_VXLAN_LOCAL6", Exact(16), Address;
-            18, b"IFLA_VXLAN_UDP_CSUM", NonzeroByte, Boolean;
-            19, b"IFLA_VXLAN_UDP_ZERO_CSUM6_TX", NonzeroByte, Boolean;
-            20, b"IFLA_VXLAN_UDP_ZERO_CSUM6_RX", NonzeroByte, Boolean;
-            21, b"IFLA_VXLAN_REMCSUM_TX", NonzeroByte, Boolean;
-            22, b"IFLA_VXLAN_REMCSUM_RX", NonzeroByte, Boolean;
+            18, b"IFLA_VXLAN_UDP_CSUM", BooleanIfNonzero, Boolean;
+            19, b"IFLA_VXLAN_UDP_ZERO_CSUM6_TX", BooleanIfNonzero, Boolean;
+            20, b"IFLA_VXLAN_UDP_ZERO_CSUM6_RX", BooleanIfNonzero, Boolean;
+            21, b"IFLA_VXLAN_REMCSUM_TX", BooleanIfNonzero, Boolean;
+            22, b"IFLA_VXLAN_REMCSUM_RX", BooleanIfNonzero, Boolean;
             23, b"IFLA_VXLAN_GBP", Presence, Presence;
             24, b"IFLA_VXLAN_REMCSUM_NOPARTIAL", Presence, Presence;
-            25, b"IFLA_VXLAN_COLLECT_METADATA", NonzeroByte, Boolean;
+            25, b"IFLA_VXLAN_COLLECT_METADATA", BooleanIfNonzero, Boolean;
             26, b"IFLA_VXLAN_LABEL", Exact(4), BigEndian(PLAIN);
             27, b"IFLA_VXLAN_GPE", Presence, Presence;
             28, b"IFLA_VXLAN_TTL_INHERIT", AtMost(1), OptionalByte;
             29, b"IFLA_VXLAN_DF", Exact(1), Number(VXLAN_DF);
-            30, b"IFLA_VXLAN_VNIFILTER", NonzeroByte, Boolean;
-            31, b"IFLA_VXLAN_LOCALBYPASS", NonzeroByte, Boolean;
+            30, b"IFLA_VXLAN_VNIFILTER", BooleanIfNonzero, Boolean;
+            31, b"IFLA_VXLAN_LOCALBYPASS", BooleanIfNonzero, Boolean;
             32, b"IFLA_VXLAN_LABEL_POLICY", Exact(4), Number(PLAIN);
             33, b"IFLA_VXLAN_RESERVED_BITS", Exact(8), BigEndian(PLAIN);
-            34, b"IFLA_VXLAN_MC_ROUTE", NonzeroByte, Boolean;
+            34, b"IFLA_VXLAN_MC_ROUTE", BooleanIfNonzero, Boolean;
         }
     };
 }
@@ -595,7 +595,7 @@ pub const PORT_KINDS: [NameRow; 4] = [
 /// Returns the payload of the data under a kind's name.
 pub fn data_held(name: &[u8]) -> Held
     ensures is { result ≡ held_by_name KINDS name.now }
-    ensures rule { (p : Peer) → held_rule p result ≡ rule_or_raw p (payload_at kinds name.now) }
+    ensures rule { (p : RuleOfPeers) → held_rule p result ≡ rule_or_raw p (payload_at kinds name.now) }
 {
     held_by_name(&KINDS, name)
 }
@@ -603,7 +603,7 @@ pub fn data_held(name: &[u8]) -> Held
 /// Returns the payload of the port data under a port kind's name.
 pub fn port_held(name: &[u8]) -> Held
     ensures is { result ≡ held_by_name PORT_KINDS name.now }
-    ensures rule { (p : Peer) → held_rule p result ≡ rule_or_raw p (payload_at port_kinds name.now) }
+    ensures rule { (p : RuleOfPeers) → held_rule p result ≡ rule_or_raw p (payload_at port_kinds name.now) }
 {
     held_by_name(&PORT_KINDS, name)
 }

@@ -2,7 +2,7 @@
 
 ghost use Rattle.std.specs.Prelude.{◌≡◌, ◌≤◌, ℕ, true, bytes_eq, take};
 ghost use Rattle.attribute_tables_grammar.specs.LookUps.{payload_rule, payload_at, rule_or_raw};
-ghost use Rattle.attribute_tables_grammar.specs.Peers.{Peer};
+ghost use Rattle.attribute_tables_grammar.specs.Peers.{RuleOfPeers};
 ghost use Rattle.attribute_tables_grammar.specs.Tables.{Payload, Table};
 ghost use Rattle.link_tables.specs.Names.{names_of, held_by_name, names_fit};
 ghost use Rattle.link_tables.specs.Rows.{payload_of};
@@ -39,7 +39,7 @@ fn find_name(rows: &[NameRow], name: &[u8]) -> Held
 pub fn held_by_name(rows: &[NameRow], name: &[u8]) -> Held
     requires { names_fit rows.now ≡ true }
     ensures held { result ≡ held_by_name rows.now name.now }
-    ensures rule { (p : Peer) (tables : ℕ → Table) (info : Payload)
+    ensures rule { (p : RuleOfPeers) (tables : ℕ → Table) (info : Payload)
         → payload_rule p (payload_of tables info result)
         ≡ rule_or_raw p (payload_at (names_of tables info rows.now) name.now) }
 {

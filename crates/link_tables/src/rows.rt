@@ -17,9 +17,9 @@ pub enum Shape {
     /// At most that many bytes.
     AtMost(u16),
     /// A boolean of one byte: false if and only if it is 0.
-    NonzeroByte,
+    BooleanIfNonzero,
     /// A boolean of one byte: true if and only if it is 1.
-    OneByte,
+    BooleanIfOne,
     /// A boolean of 4 bytes: false if and only if the number is 0.
     BooleanOfFour,
     /// A flag that is set by being present, whatever its bytes.
@@ -83,7 +83,7 @@ impl Row {
 /// The rows of a table, without a gap between their kinds, and the kind of the first one.
 #[derive(Clone, Copy)]
 pub struct TableRows<'a> {
-    first: usize,
+    first: u16,
     rows: &'a [Row],
 }
 
@@ -94,11 +94,7 @@ impl<'a> TableRows<'a> {
         ensures indexed { IsIndexed result }
         ensures rows { rows_in result ≡ rows.now }
     {
-        let first = if rows.is_empty() {
-            0
-        } else {
-            rows[0].kind() as usize
-        };
+        let first = if rows.is_empty() { 0 } else { rows[0].kind() };
         TableRows { first, rows }
     }
 
@@ -109,11 +105,7 @@ impl<'a> TableRows<'a> {
             → line_of tables info result ≡ line_at (build tables info (rows_in self.entry)) kind }
         ensures kind { IsIndexed self.entry → kind_of result ≡ kind }
     {
-        let position = kind as usize;
-        if position < self.first {
-            return Row::Unlisted(kind);
-        }
-        let index = position - self.first;
+        let index = (kind as usize).wrapping_sub(self.first as usize);
         if index < self.rows.len() {
             self.rows[index]
         } else {

@@ -7,8 +7,8 @@ use crate::rows::Held::{LinkInfo, List, Peer, Plain};
 use crate::rows::Row;
 use crate::rows::Row::{Listed, Unlisted};
 use crate::rows::Shape::{
-    AtMost, BooleanOfFour, Either, Exact, FixedRecord, IdAndBoolean, NonzeroByte, OneByte,
-    Presence, Raw, Resized, Text,
+    AtMost, BooleanIfNonzero, BooleanIfOne, BooleanOfFour, Either, Exact, FixedRecord,
+    IdAndBoolean, Presence, Raw, Resized, Text,
 };
 use crate::table::{
     BRIDGE_PORT, BRIDGE_SPECIFIC, DEVLINK_PORT, DPLL_PIN, INET, INET6, INET6_PROTOCOL, MCTP, PORT,

@@ -2,7 +2,7 @@
 use Rattle.std.proofs.Common.{◌≡◌, ℕ, ◌+◌, List, ◌++◌, length, drop, take, Some, refl, sym, ap, ◌∙◌, arith}
 use Rattle.std.specs.Prelude.{min, replicate}
 use Rattle.std.proofs.lemmas.List.{drop-drop, drop-replicate, drop_at, take_at, take_min}
-use Rattle.netlink_packet_core_grammar.specs.Frames.{IsFrame}
+use Rattle.netlink_packet_core_grammar.specs.Frames.{BeginsWithFrame}
 use Rattle.link_capture_attributes.specs.AttributeLaws.{AttributesAreWhereTheySay}
 use Rattle.link_capture_attributes.specs.Attributes.{Found, first_from, frame_attributes}
 use Rattle.linkcap_c.specs.Attributes.{IsNextAttribute, attribute_of, padded}
@@ -19,7 +19,7 @@ at_start n front e =
     ∙ ap (λ x. take 63 n ++ x) (drop-replicate (length (take 63 n)) 64 0)
 
 -- A payload in the capture.
-pub next_attribute : AttributesAreWhereTheySay → (c : List ℕ) (message position : ℕ) (f : Found) (a : LinkcapAttribute) → IsFrame (drop message c) → first_from position (frame_attributes message (drop message c)) ≡ Some f → a ≡ attribute_of f → IsNextAttribute c message position a
+pub next_attribute : AttributesAreWhereTheySay → (c : List ℕ) (message position : ℕ) (f : Found) (a : LinkcapAttribute) → BeginsWithFrame (drop message c) → first_from position (frame_attributes message (drop message c)) ≡ Some f → a ≡ attribute_of f → IsNextAttribute c message position a
 next_attribute law c message position f a i first is = record { found = f; first = first; is = is; payload = by (law message position (drop message c) f i first).1 }
   where
     by : (before : List ℕ) × (rest : List ℕ) × (drop message c ≡ before ++ (f.attribute.payload ++ rest)) × (message + length before ≡ f.offset + 4) → take a.length (drop a.payload c) ≡ f.attribute.payload

@@ -7,10 +7,10 @@ use Rattle.link_capture_grammar.specs.Body.{link_body}
 use Rattle.link_capture_grammar.specs.declared.fault.CaptureFault.{CaptureFault}
 use Rattle.link_capture_grammar.specs.declared.fault.FaultKind.{FaultKind}
 use Rattle.link_capture_grammar.specs.declared.fault.FaultKind.TheVariants.{Cut}
-use Rattle.link_capture_grammar.specs.Captures.{first_frame, first_frame_under, first_fault, shifted}
+use Rattle.link_capture_grammar.specs.Captures.{first_frame, first_fault, shifted}
 use Rattle.link_capture_grammar.specs.Laws.{CapturesAreCounted, CapturesUnfoldByFrames, JoinedFaults, JoinedTexts}
 use Rattle.link_lines.specs.MessageLaws.{MessagesUnfold}
-use Rattle.link_lines.specs.MessageLines.{Selection, messages_lines}
+use Rattle.link_lines.specs.MessageLines.{Selection, lines_of_messages}
 use Rattle.link_lines.specs.Messages.{last_fault}
 use Rattle.link_lines.specs.Pieces.{PiecesAreJoined, goes_past}
 use Rattle.linkcap_c.specs.Forms.{Form, Form.Text, Form.Lines, keeps_going, stop_at, written_at}
@@ -43,7 +43,7 @@ pub record IsForm (f : Form) (limit : ℕ) : Type 0 where
       written_at f limit offset (a ++ b) ≡ written_at f limit offset a ++ written_at f limit (offset + length a) b
   pub stops : (offset : ℕ) (a b : List ℕ) → stop_at f limit offset a ≡ None → length a % 4 ≡ 0 →
       stop_at f limit offset (a ++ b) ≡ stop_at f limit (offset + length a) b
-  pub stopped : (offset : ℕ) (c : List ℕ) (kind : FaultKind) → 0 < length c → first_frame limit c ≡ Err kind →
+  pub stopped : (offset : ℕ) (c : List ℕ) (kind : FaultKind) → 0 < length c → first_frame link_body limit c ≡ Err kind →
       goes_past (keeps_going f) kind ≡ false →
       (stop_at f limit offset c ≡ Some (record { kind = kind; offset = offset })) × (written_at f limit offset c ≡ [])
 
@@ -51,23 +51,23 @@ pub text_is_form : CapturesAreCounted link_body → CapturesUnfoldByFrames link_
 text_is_form counted go faults joins limit = record {
   none = λ offset. counted.no_text limit;
   no_stop = λ offset. ap (shifted offset) (counted.no_fault limit);
-  joined = λ offset a b h p. joins limit a b (shifted_none offset (first_fault limit a) h) p;
-  stops = λ offset a b h p. ap (shifted offset) (faults limit a b (shifted_none offset (first_fault limit a) h) p) ∙ shifted_twice offset (length a) (first_fault limit b);
+  joined = λ offset a b h p. joins limit a b (shifted_none offset (first_fault link_body limit a) h) p;
+  stops = λ offset a b h p. ap (shifted offset) (faults limit a b (shifted_none offset (first_fault link_body limit a) h) p) ∙ shifted_twice offset (length a) (first_fault link_body limit b);
   stopped = λ offset c kind some e past.
       let at : offset + 0 ≡ offset = omega arith in
       (ap (shifted offset) (go.first_frame_fault limit c kind some e) ∙ ap (λ n. Some (record { kind = kind; offset = n })) at, go.first_frame_texts limit c kind e);
 }
 
 lines_are_form : MessagesUnfold → PiecesAreJoined → (limit : ℕ) (o : Selection) → IsForm (Lines o) limit
-unfolding messages_lines
+unfolding lines_of_messages
 lines_are_form go pieces limit o = record {
-  none = λ offset. ap (messages_lines o) (go.none o.keep_going limit offset);
+  none = λ offset. ap (lines_of_messages o) (go.none o.keep_going limit offset);
   no_stop = λ offset. ap last_fault (go.none o.keep_going limit offset);
   joined = λ offset a b h p. pieces.lines o limit offset a b h p;
   stops = λ offset a b h p. pieces.last o.keep_going limit offset a b h p;
   stopped = λ offset c kind some e past.
       let end = pieces.stopped o.keep_going limit offset c kind some e past in
-      (ap last_fault end.1, ap (messages_lines o) end.1);
+      (ap last_fault end.1, ap (lines_of_messages o) end.1);
 }
 
 pub is_form : CapturesAreCounted link_body → CapturesUnfoldByFrames link_body → JoinedFaults link_body → JoinedTexts link_body → MessagesUnfold → PiecesAreJoined → (limit : ℕ) (f : Form) → IsForm f limit
@@ -76,8 +76,8 @@ is_form counted go faults joins messages pieces limit (Lines o) = lines_are_form
 
 -- ---- buffers
 
-pub cut_nil : (limit : ℕ) → first_frame limit [] ≡ Err Cut
-unfolding first_frame_under
+pub cut_nil : (limit : ℕ) → first_frame link_body limit [] ≡ Err Cut
+unfolding first_frame
 cut_nil limit = refl
 
 pub length_front : (used : ℕ) (c : List ℕ) → used ≤ length c → length (take used c) ≡ used

@@ -10,6 +10,7 @@ use Rattle.link_capture_quirks.specs.declared.quirk_at.QuirkAt.{QuirkAt}
 use Rattle.link_capture_quirks.specs.CaptureQuirks.{QuirksLeft, items_left, capture_quirks, quirks_then_fault}
 use Rattle.linkcap_c.specs.declared.findings.LinkcapFinding.{LinkcapFinding}
 use Rattle.linkcap_c.specs.Findings.{quirk_of, found_quirks}
+use Rattle.link_capture_grammar.specs.Body.{link_body}
 
 abbrev pub Yielded : Type 0
 Yielded = List (Result QuirkAt CaptureFault)
@@ -44,9 +45,9 @@ most = 2 ^ 64 - 1
 pub record Counted (limit : ℕ) (c : List ℕ) (left : Yielded) (count : ℕ) : Type 0 where
   pub fits : count ≤ most
   pub all : min (count + length (found left)) most ≡ min (length (found_quirks limit c)) most
-  pub fault : ending left ≡ first_fault limit c
+  pub fault : ending left ≡ first_fault link_body limit c
 
-pub counted_none : (limit : ℕ) (c : List ℕ) (s : QuirksLeft) → s.quirks_left ≡ capture_quirks limit c → s.fault ≡ first_fault limit c → Counted limit c (items_left s) 0
+pub counted_none : (limit : ℕ) (c : List ℕ) (s : QuirksLeft) → s.quirks_left ≡ capture_quirks limit c → s.fault ≡ first_fault link_body limit c → Counted limit c (items_left s) 0
 counted_none limit c s e f = record {
   fits = omega arith;
   all = ap (λ n. min n most) (zero-add (length (found (items_left s))) ∙ ap length (found_then s.quirks_left s.fault ∙ e) ∙ sym (length-map (capture_quirks limit c) quirk_of));
@@ -62,12 +63,12 @@ counted_one limit c left rest x count next w e n =
       fault = sym (ap ending e) ∙ w.fault;
     }
 
-pub counted_fault : (limit : ℕ) (c : List ℕ) (left rest : Yielded) (fault : CaptureFault) (count : ℕ) → Counted limit c left count → left ≡ Err fault ∷ rest → (count ≡ min (length (found_quirks limit c)) most) × (Some fault ≡ first_fault limit c)
+pub counted_fault : (limit : ℕ) (c : List ℕ) (left rest : Yielded) (fault : CaptureFault) (count : ℕ) → Counted limit c left count → left ≡ Err fault ∷ rest → (count ≡ min (length (found_quirks limit c)) most) × (Some fault ≡ first_fault link_body limit c)
 counted_fault limit c left rest fault count w e =
     let size : length (found left) ≡ 0 = ap (λ z. length (found z)) e in
     (omega (arith, w.all, size, w.fits), sym (ap ending e) ∙ w.fault)
 
-pub counted_all : (limit : ℕ) (c : List ℕ) (left : Yielded) (count : ℕ) → Counted limit c left count → left ≡ [] → (count ≡ min (length (found_quirks limit c)) most) × (None ≡ first_fault limit c)
+pub counted_all : (limit : ℕ) (c : List ℕ) (left : Yielded) (count : ℕ) → Counted limit c left count → left ≡ [] → (count ≡ min (length (found_quirks limit c)) most) × (None ≡ first_fault link_body limit c)
 counted_all limit c left count w e =
     let size : length (found left) ≡ 0 = ap (λ z. length (found z)) e in
     (omega (arith, w.all, size, w.fits), sym (ap ending e) ∙ w.fault)

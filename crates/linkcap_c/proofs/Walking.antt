@@ -12,7 +12,7 @@ use Rattle.link_capture_grammar.specs.declared.fault.FaultKind.{FaultKind}
 use Rattle.link_capture_grammar.specs.declared.fault.FaultKind.TheVariants.{Cut}
 use Rattle.link_capture_grammar.specs.Captures.{first_frame, first_fault, texts, shifted}
 use Rattle.link_capture_grammar.specs.Laws.{CapturesUnfoldByFrames, FramesAreIndependent}
-use Rattle.link_lines.specs.MessageLines.{message_lines, messages_lines}
+use Rattle.link_lines.specs.MessageLines.{message_lines, lines_of_messages}
 use Rattle.link_lines.specs.Messages.{Message, Message.Accepted, Message.Faulty, frame_of, is_of_body, last_fault}
 use Rattle.link_lines.specs.Outcomes.{IsAccepted, IsToBeShown}
 use Rattle.link_lines.specs.Pieces.{PiecesAreJoined, first_message, goes_past}
@@ -88,23 +88,23 @@ module _ (f : Form) (limit offset : ℕ) (form : IsForm f limit) (last : Bool) (
 
 -- ---- legal bytes: their texts are written
 
-as_texts : (limit offset : ℕ) (last : Bool) (c : List ℕ) (at : ℕ) → IsLegalTo limit last c at → IsWrittenTo Text limit offset last c at (length (texts limit (take at c)))
+as_texts : (limit offset : ℕ) (last : Bool) (c : List ℕ) (at : ℕ) → IsLegalTo limit last c at → IsWrittenTo Text limit offset last c at (length (texts link_body limit (take at c)))
 as_texts limit offset last c at l = record { inside = l.inside; padded = l.padded; goes_on = ap (shifted offset) l.legal; written = refl }
 
 pub legal_none : (limit : ℕ) (last : Bool) (c : List ℕ) → IsForm Text limit → IsLegalTo limit last c 0
-legal_none limit last c form = record { inside = omega arith; legal = shifted_none 0 (first_fault limit []) (form.no_stop 0); padded = inl refl }
+legal_none limit last c form = record { inside = omega arith; legal = shifted_none 0 (first_fault link_body limit []) (form.no_stop 0); padded = inl refl }
 
-accepted_text : CapturesUnfoldByFrames link_body → FramesAreIndependent link_body → (limit : ℕ) (c : List ℕ) (frame : ℕ × List ℕ) → first_frame limit c ≡ Ok frame → (first_fault limit (first_message c) ≡ None) × (texts limit (first_message c) ≡ frame.1)
+accepted_text : CapturesUnfoldByFrames link_body → FramesAreIndependent link_body → (limit : ℕ) (c : List ℕ) (frame : ℕ × List ℕ) → first_frame link_body limit c ≡ Ok frame → (first_fault link_body limit (first_message c) ≡ None) × (texts link_body limit (first_message c) ≡ frame.1)
 accepted_text go frames limit c frame h =
     let e : first_message c ≡ take (nla_align frame.0) c = ap (λ n. take (nla_align n) c) (frames.accepted limit c frame h).is in
-    (ap (first_fault limit) e ∙ go.one_legal limit c frame h, ap (texts limit) e ∙ go.one_frame_text limit c frame h)
+    (ap (first_fault link_body limit) e ∙ go.one_legal limit c frame h, ap (texts link_body limit) e ∙ go.one_frame_text limit c frame h)
 
 pub legal_one : CapturesUnfoldByFrames link_body → FramesAreIndependent link_body → (limit : ℕ) → IsForm Text limit → (last : Bool) (c rest : List ℕ) (used read : ℕ) → IsLegalTo limit last c used → used < length c → rest ≡ drop used c → IsAccepted limit rest → read ≡ length (first_message rest) → (last ≡ false → read ≡ nla_align (frame_length rest)) → IsLegalTo limit last c (used + read)
 legal_one go frames limit form last c rest used read l inside r accepted size padded =
-    let first = accepted_text go frames limit (drop used c) accepted.0 (ap (first_frame limit) (sym r) ∙ accepted.1) in
-    let wrote = length (texts limit (first_message (drop used c))) in
-    let u = written_one Text limit 0 form last c used (length (texts limit (take used c))) (as_texts limit 0 last c used l) read wrote inside (size ∙ ap (λ x. length (first_message x)) r) (ap (shifted (0 + used)) first.0) refl (λ f. padded f ∙ ap (λ x. nla_align (frame_length x)) r) in
-    record { inside = u.inside; legal = shifted_none 0 (first_fault limit (take (used + read) c)) u.goes_on; padded = u.padded }
+    let first = accepted_text go frames limit (drop used c) accepted.0 (ap (first_frame link_body limit) (sym r) ∙ accepted.1) in
+    let wrote = length (texts link_body limit (first_message (drop used c))) in
+    let u = written_one Text limit 0 form last c used (length (texts link_body limit (take used c))) (as_texts limit 0 last c used l) read wrote inside (size ∙ ap (λ x. length (first_message x)) r) (ap (shifted (0 + used)) first.0) refl (λ f. padded f ∙ ap (λ x. nla_align (frame_length x)) r) in
+    record { inside = u.inside; legal = shifted_none 0 (first_fault link_body limit (take (used + read) c)) u.goes_on; padded = u.padded }
 
 -- ---- one message
 
@@ -118,8 +118,8 @@ pub record IsFirst (f : Form) (limit offset : ℕ) (c text : List ℕ) (n : ℕ)
   pub is_shown : IsToBeShown (keeps_going f) limit c
   pub has_fault : HasFault (keeps_going f) limit c fault
 
-lines_of_one : (o : _) (m : Message) → messages_lines o (m ∷ []) ≡ message_lines o m
-unfolding messages_lines
+lines_of_one : (o : _) (m : Message) → lines_of_messages o (m ∷ []) ≡ message_lines o m
+unfolding lines_of_messages
 lines_of_one o m = append-nil (message_lines o m)
 
 -- What was appended to a buffer that was empty.
@@ -149,7 +149,7 @@ module _ (go : CapturesUnfoldByFrames link_body) (frames : FramesAreIndependent 
         inside = accepted.whole;
         low = accepted.low;
         goes_on = ap last_fault only;
-        written = ap (messages_lines o) only ∙ lines_of_one o (Accepted offset text) ∙ sym (in_empty slice items old (message_lines o (Accepted offset text)) same empty pushed.2);
+        written = ap (lines_of_messages o) only ∙ lines_of_one o (Accepted offset text) ∙ sym (in_empty slice items old (message_lines o (Accepted offset text)) same empty pushed.2);
         is_shown = inl ((n, text), pushed.1);
         has_fault = ((n, text), pushed.1);
       }
@@ -165,7 +165,7 @@ module _ (go : CapturesUnfoldByFrames link_body) (frames : FramesAreIndependent 
         inside = omega (arith, pushed.4, frame.within);
         low = omega (arith, pushed.4, frame.covers_header);
         goes_on = ap last_fault only;
-        written = ap (messages_lines o) only ∙ lines_of_one o (Faulty offset kind (frame_of c)) ∙ sym (in_empty slice items old (message_lines o (Faulty offset kind (frame_of c))) same empty pushed.5);
+        written = ap (lines_of_messages o) only ∙ lines_of_one o (Faulty offset kind (frame_of c)) ∙ sym (in_empty slice items old (message_lines o (Faulty offset kind (frame_of c))) same empty pushed.5);
         is_shown = inr (pushed.0, (kind, pushed.1, pushed.2));
         has_fault = (pushed.1, past);
       }
@@ -175,7 +175,7 @@ never_past true = refl
 never_past false = refl
 
 -- Writing stops at the first message.
-pub stopped_first : (f : Form) (limit offset : ℕ) (c old new : List ℕ) (kind : FaultKind) → IsPushed f limit offset c old new (Outcome.Stopped kind) → (first_frame limit c ≡ Err kind) × (goes_past (keeps_going f) kind ≡ false)
+pub stopped_first : (f : Form) (limit offset : ℕ) (c old new : List ℕ) (kind : FaultKind) → IsPushed f limit offset c old new (Outcome.Stopped kind) → (first_frame link_body limit c ≡ Err kind) × (goes_past (keeps_going f) kind ≡ false)
 stopped_first Text limit offset c old new kind pushed = (pushed.0, never_past (is_of_body kind))
 stopped_first (Lines o) limit offset c old new kind pushed = (pushed.0.0, stays (is_of_body kind) (λ e. (pushed.0.1 e).0))
   where
@@ -265,7 +265,7 @@ module _ (f : Form) (limit offset : ℕ) (form : IsForm f limit) (last : Bool) (
 -- nothing is left
 pub ended : (k : Bool) (limit : ℕ) (last : Bool) (c : List ℕ) (used : ℕ) → length c ≤ used → IsEnded k limit last (drop used c)
 ended k limit true c used h = drop_all used c h
-ended k limit false c used h = inl (ap (first_frame limit) (drop_all used c h) ∙ cut_nil limit)
+ended k limit false c used h = inl (ap (first_frame link_body limit) (drop_all used c h) ∙ cut_nil limit)
 
 stops_at : (f : Form) (limit offset : ℕ) (last : Bool) (c : List ℕ) (used room : ℕ) (stop : Stop) → Stops f limit (offset + used) last (drop used c) room stop → StopsAfter f limit offset last c used used room stop
 stops_at f limit offset last c used room Why.Ended h = (refl, h)
@@ -288,15 +288,15 @@ past_is_of_body k kind p e = let bad : false ≡ true = sym (ap (goes_past k) e)
 pub stops_behind : (f : Form) (limit offset : ℕ) (last : Bool) (c rest : List ℕ) (used read room : ℕ) (fault : Option FaultKind) (kind : FaultKind) → fault ≡ Some kind → used < length c → rest ≡ drop used c → HasFault (keeps_going f) limit rest fault → read ≡ length (first_message rest) → StopsAfter f limit offset last c (used + read) used room (Why.Fault kind)
 stops_behind f limit offset last c rest used read room fault kind is l r has e =
     let h = subst (HasFault (keeps_going f) limit rest) is has in (
-      record { more = omega (arith, l, length-drop used c); is = ap (first_frame limit) (sym r) ∙ h.0; for_good = λ _. past_is_of_body (keeps_going f) kind h.1 },
+      record { more = omega (arith, l, length-drop used c); is = ap (first_frame link_body limit) (sym r) ∙ h.0; for_good = λ _. past_is_of_body (keeps_going f) kind h.1 },
       ap (λ n. used + n) (e ∙ ap (λ x. length (first_message x)) r) ∙ sym (ap (λ b. cond b (used + length (first_message (drop used c))) used) h.1),
     )
 
 -- ---- the whole capture
 
 -- the message that has a fault, whatever follows
-there : FramesAreIndependent link_body → (limit : ℕ) (last : Bool) (rest more : List ℕ) (kind : FaultKind) → (last ≡ true → more ≡ []) → IsFaulty limit last rest kind → first_frame limit (rest ++ more) ≡ Err kind
-there frames limit true rest more kind m bad = ap (first_frame limit) (ap (λ x. rest ++ x) (m refl) ∙ append-nil rest) ∙ bad.is
+there : FramesAreIndependent link_body → (limit : ℕ) (last : Bool) (rest more : List ℕ) (kind : FaultKind) → (last ≡ true → more ≡ []) → IsFaulty limit last rest kind → first_frame link_body limit (rest ++ more) ≡ Err kind
+there frames limit true rest more kind m bad = ap (first_frame link_body limit) (ap (λ x. rest ++ x) (m refl) ∙ append-nil rest) ∙ bad.is
 there frames limit false rest more kind m bad =
     frames.unchanged_by_more limit rest more (λ e. bad.for_good refl (let z : Err kind ≡ Err Cut = sym bad.is ∙ e in cc)) ∙ bad.is
 
@@ -351,10 +351,10 @@ module _ (f : Form) (limit offset : ℕ) (form : IsForm f limit) (last : Bool) (
       }
 
 -- the first fault
-pub first_of_whole : FramesAreIndependent link_body → (limit offset : ℕ) → IsForm Text limit → (last : Bool) (c : List ℕ) (at : ℕ) (before more : List ℕ) (kind : FaultKind) → IsLegalTo limit last c at → IsBefore Text limit offset before → (last ≡ true → more ≡ []) → IsFaulty limit last (drop at c) kind → first_fault limit (before ++ (c ++ more)) ≡ Some (record { kind = kind; offset = offset + at })
+pub first_of_whole : FramesAreIndependent link_body → (limit offset : ℕ) → IsForm Text limit → (last : Bool) (c : List ℕ) (at : ℕ) (before more : List ℕ) (kind : FaultKind) → IsLegalTo limit last c at → IsBefore Text limit offset before → (last ≡ true → more ≡ []) → IsFaulty limit last (drop at c) kind → first_fault link_body limit (before ++ (c ++ more)) ≡ Some (record { kind = kind; offset = offset + at })
 first_of_whole frames limit offset form last c at before more kind l b m bad =
-    unshifted (first_fault limit (before ++ (c ++ more))) (Some (record { kind = kind; offset = offset + at }))
-    (stops_whole Text limit offset form last c at (length (texts limit (take at c))) (as_texts limit offset last c at l) before b frames more kind m bad (never_past (is_of_body kind))).fault
+    unshifted (first_fault link_body limit (before ++ (c ++ more))) (Some (record { kind = kind; offset = offset + at }))
+    (stops_whole Text limit offset form last c at (length (texts link_body limit (take at c))) (as_texts limit offset last c at l) before b frames more kind m bad (never_past (is_of_body kind))).fault
 
 -- ---- results
 

@@ -16,6 +16,7 @@ use Rattle.link_capture_quirks.specs.declared.quirk_at.Quirk.TheVariants.{Unexpe
 use Rattle.link_capture_quirks.specs.declared.quirk_at.QuirkAt.{QuirkAt}
 use Rattle.link_capture_quirks.specs.CaptureQuirks.{capture_quirks}
 use Rattle.linkcap_c.specs.declared.findings.LinkcapFinding.{LinkcapFinding}
+use Rattle.link_capture_grammar.specs.Body.{link_body}
 
 -- the number of a kind of faults
 abbrev pub kind_number : FaultKind → ℕ
@@ -73,7 +74,7 @@ words_of_side second fault = side_text (record { second = second; fault = fault 
 
 -- This is the first fault of a capture, with this number of its side.
 abbrev pub ReportsFault : ℕ → ℕ → List ℕ → LinkcapFinding → Type 0
-ReportsFault side limit c fault = option_map (fault_of side) (first_fault limit c) ≡ Some fault
+ReportsFault side limit c fault = option_map (fault_of side) (first_fault link_body limit c) ≡ Some fault
 
 -- the quirks of a capture before its first fault, in the order of its bytes
 abbrev pub found_quirks : ℕ → List ℕ → List LinkcapFinding

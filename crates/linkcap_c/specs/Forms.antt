@@ -5,6 +5,7 @@ use Rattle.link_capture_grammar.specs.Captures.{first_fault, shifted, texts}
 use Rattle.link_lines.specs.MessageLines.{Selection}
 use Rattle.link_lines.specs.Messages.{last_fault, messages_at}
 use Rattle.link_lines.specs.Pieces.{shown_at}
+use Rattle.link_capture_grammar.specs.Body.{link_body}
 
 -- The texts of messages, or lines of them.
 pub data Form : Type 0 where
@@ -18,10 +19,10 @@ keeps_going (Lines o) = o.keep_going
 
 -- What is written of bytes at an offset of a capture.
 abbrev pub written_at : Form → ℕ → ℕ → List ℕ → List ℕ
-written_at Text limit offset c = texts limit c
+written_at Text limit offset c = texts link_body limit c
 written_at (Lines o) limit offset c = shown_at o limit offset c
 
 -- The fault at which writing stops in bytes at an offset of a capture, with its offset there.
 abbrev pub stop_at : Form → ℕ → ℕ → List ℕ → Option CaptureFault
-stop_at Text limit offset c = shifted offset (first_fault limit c)
+stop_at Text limit offset c = shifted offset (first_fault link_body limit c)
 stop_at (Lines o) limit offset c = last_fault (messages_at o.keep_going limit offset c)

@@ -6,7 +6,7 @@ use Rattle.link_lines.specs.Options.{selection_of}
 use Rattle.link_lines.specs.Types.{TakesType}
 use Rattle.link_lines.specs.Remaining.{Omitted, nothing_omitted}
 use Rattle.link_lines.specs.Without.{TakesWord}
-use Rattle.link_lines.specs.Words.{Reads, Step, WordFault, parts}
+use Rattle.link_lines.specs.Words.{Reads, WordStep, WordFault, parts}
 use Rattle.linkcap_c.specs.Forms.{Form, Form.Text, Form.Lines}
 use Rattle.linkcap_c.specs.declared.options.LinkcapOptions.{LinkcapOptions}
 use Rattle.linkcap_c.specs.declared.options.Output.{Output}
@@ -17,7 +17,7 @@ use Rattle.linkcap_c.specs.declared.words.ListError.TheVariants as Errors
 -- ---- lists of words
 
 -- A list of words is read: UTF-8, with commas between the words, or empty, which stands for this.
-abbrev pub ReadsList : {A : Type 0} → Step A → A → List ℕ → Result A WordFault → Type 0
+abbrev pub ReadsList : {A : Type 0} → WordStep A → A → List ℕ → Result A WordFault → Type 0
 ReadsList Takes none [] r = r ≡ Ok none
 ReadsList Takes none (c ∷ w) r = IsUtf8 (c ∷ w) × Reads Takes none (parts (c ∷ w)) r
 
@@ -30,11 +30,11 @@ abbrev pub ReadsNames : List ℕ → Result Omitted WordFault → Type 0
 ReadsNames w r = ReadsList TakesWord nothing_omitted w r
 
 -- A list isn't UTF-8, or has too many words.
-abbrev pub IsInvalidList : {A : Type 0} → Step A → A → List ℕ → Type 0
+abbrev pub IsInvalidList : {A : Type 0} → WordStep A → A → List ℕ → Type 0
 IsInvalidList Takes none w = (IsUtf8 w → ⊥) ⊎ ReadsList Takes none w (Err WordFault.TooMany)
 
 -- Why a list of words isn't read.
-abbrev pub IsListError : {A : Type 0} → Step A → A → List ℕ → ListError → Type 0
+abbrev pub IsListError : {A : Type 0} → WordStep A → A → List ℕ → ListError → Type 0
 IsListError Takes none w (Errors.Unknown word) = ReadsList Takes none w (Err (WordFault.Unknown word.now))
 IsListError Takes none w Errors.Invalid = IsInvalidList Takes none w
 

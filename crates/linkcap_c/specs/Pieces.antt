@@ -19,6 +19,7 @@ use Rattle.linkcap_c.specs.declared.pieces.Stop.TheVariants as Why
 use Rattle.linkcap_c.specs.declared.pieces.Written.{Written}
 use Rattle.linkcap_c.specs.declared.writing.LinkcapPiece.{LinkcapPiece}
 use Rattle.linkcap_c.specs.declared.writing.LinkcapProgress.{LinkcapProgress}
+use Rattle.link_capture_grammar.specs.Body.{link_body}
 
 -- ---- one message
 
@@ -27,14 +28,14 @@ use Rattle.linkcap_c.specs.declared.writing.LinkcapProgress.{LinkcapProgress}
 abbrev pub IsPushed : Form → ℕ → ℕ → List ℕ → List ℕ → List ℕ → ShownMessage → Type 0
 IsPushed (Lines o) limit offset c old new shown = IsShownAs o limit offset c old new shown
 IsPushed Text limit offset c old new (Outcome.Accepted n) =
-    (text : List ℕ) × (first_frame limit c ≡ Ok (n, text)) × (new ≡ old ++ text)
+    (text : List ℕ) × (first_frame link_body limit c ≡ Ok (n, text)) × (new ≡ old ++ text)
 IsPushed Text limit offset c old new (Outcome.Faulty kind n) = ⊥
-IsPushed Text limit offset c old new (Outcome.Stopped kind) = (first_frame limit c ≡ Err kind) × (new ≡ old)
+IsPushed Text limit offset c old new (Outcome.Stopped kind) = (first_frame link_body limit c ≡ Err kind) × (new ≡ old)
 
 -- The first message of c is accepted, or has this fault, and those after it are written too.
 abbrev pub HasFault : Bool → ℕ → List ℕ → Option FaultKind → Type 0
 HasFault keep_going limit c None = IsAccepted limit c
-HasFault keep_going limit c (Some kind) = (first_frame limit c ≡ Err kind) × (goes_past keep_going kind ≡ true)
+HasFault keep_going limit c (Some kind) = (first_frame link_body limit c ≡ Err kind) × (goes_past keep_going kind ≡ true)
 
 -- The first message of c, which is at an offset of a capture, is written to the start of a buffer.
 pub record WritesMessage (f : Form) (limit offset : ℕ) (last : Bool) (c old new : List ℕ) (w : Written) : Type 0 where
@@ -62,12 +63,12 @@ LacksPadding keep_going limit rest = IsToBeShown keep_going limit rest × (lengt
 -- The last piece is used up; or these bytes don't begin with a whole message and its padding.
 abbrev pub IsEnded : Bool → ℕ → Bool → List ℕ → Type 0
 IsEnded keep_going limit true rest = rest ≡ []
-IsEnded keep_going limit false rest = (first_frame limit rest ≡ Err Cut) ⊎ LacksPadding keep_going limit rest
+IsEnded keep_going limit false rest = (first_frame link_body limit rest ≡ Err Cut) ⊎ LacksPadding keep_going limit rest
 
 -- The first message has this fault, and more bytes can't mend it.
 pub record IsFaulty (limit : ℕ) (last : Bool) (rest : List ℕ) (kind : FaultKind) : Type 0 where
   pub more : 0 < length rest
-  pub is : first_frame limit rest ≡ Err kind
+  pub is : first_frame link_body limit rest ≡ Err kind
   pub for_good : last ≡ false → kind ≢ Cut
 
 -- What is written of the first message of these bytes, at an offset of a capture, has `wanted` bytes.
@@ -99,7 +100,7 @@ StopsAfter f limit offset last c used at room stop =
 -- The bytes of c before the offset `at` are legal, and a message starts there.
 pub record IsLegalTo (limit : ℕ) (last : Bool) (c : List ℕ) (at : ℕ) : Type 0 where
   pub inside : at ≤ length c
-  pub legal : IsLegal limit (take at c)
+  pub legal : IsLegal link_body limit (take at c)
   pub padded : (at % 4 ≡ 0) ⊎ ((last ≡ true) × (at ≡ length c))
 
 -- ---- the whole capture
@@ -146,7 +147,7 @@ pub record WritesPiece (f : Form) (limit offset : ℕ) (last : Bool) (piece : Li
     (progress : LinkcapProgress) (found : LinkcapFinding) (old new : List ℕ) : Type 0 where
   pub used : IsWrittenTo f limit offset last piece progress.used progress.written
   pub written : Holds (written_at f limit offset (take progress.used piece)) progress.written old new
-  pub legal : status ≢ 2 → IsLegal limit (take progress.used piece)
+  pub legal : status ≢ 2 → IsLegal link_body limit (take progress.used piece)
   pub ended : status ≡ 0 → IsEnded (keeps_going f) limit last (drop progress.used piece)
   pub fault : status ≡ 2 → ReportsFirst f limit offset last piece progress.used found
   pub room : status ≡ 4 → (length old < progress.written + progress.wanted) ×

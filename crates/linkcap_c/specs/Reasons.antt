@@ -6,6 +6,7 @@ use Rattle.link_capture_grammar.specs.declared.fault.FaultKind.{FaultKind}
 use Rattle.link_capture_grammar.specs.declared.fault.FaultKind.TheVariants.{Refused}
 use Rattle.link_capture_refusals.specs.Refusals.{Found, frame_refusal}
 use Rattle.linkcap_c.specs.declared.writing.LinkcapPiece.{LinkcapPiece}
+use Rattle.link_capture_grammar.specs.Body.{link_body}
 
 -- The refusal of the message at an offset of c, which is at `start`, if its fault is a refused body.
 abbrev pub message_refusal : ℕ → List ℕ → ℕ → FaultKind → Option Found
@@ -19,4 +20,4 @@ refusal_in start c (Some fault) = message_refusal start c fault.offset fault.kin
 
 -- The refusal of a piece, if its first fault is a refused body.
 abbrev pub refusal_of : ℕ → LinkcapPiece → Option Found
-refusal_of limit piece = refusal_in piece.offset piece.bytes.now (first_fault limit piece.bytes.now)
+refusal_of limit piece = refusal_in piece.offset piece.bytes.now (first_fault link_body limit piece.bytes.now)

@@ -9,6 +9,7 @@ ghost use Rattle.linkcap_c.specs.Findings.{fault_of};
 ghost use Rattle.linkcap_c.specs.Messages.{IsMessage};
 ghost use Rattle.linkcap_c.specs.Options.{AreInvalid, AreValid, limit_of};
 ghost use Rattle.linkcap_c.specs.Statuses.{KeepsFault};
+ghost use Rattle.link_capture_grammar.specs.Body.{link_body};
 
 use crate::findings::{LinkcapFinding, of_one};
 use crate::options::{LinkcapOptions, read_limit};
@@ -105,7 +106,7 @@ pub extern "C" fn linkcap_next_attribute(
         ⊎ HasNoneFrom (limit_of options.now) capture.now message position }
     ensures fault { result ≡ 2 → (kind : FaultKind)
         × (fault.new ≡ fault_of 0 (record { kind = kind; offset = message }))
-        × (first_frame (limit_of options.now) (drop message capture.now) ≡ Err kind) }
+        × (first_frame link_body (limit_of options.now) (drop message capture.now) ≡ Err kind) }
     ensures wrong { result ≡ 3 → AreInvalid options.now }
     ensures valid { result ≢ 3 → AreValid options.now }
     ensures kept { KeepsFault result fault.old fault.new }

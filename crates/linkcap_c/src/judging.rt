@@ -2,9 +2,10 @@
 
 ghost use Rattle.std.specs.Prelude.{◌≡◌, ◌≢◌, ◌+◌, ◌*◌, ◌^◌, ◌⊎◌, length};
 ghost use Rattle.link_capture_grammar.specs.Captures.{texts};
-ghost use Rattle.link_capture_grammar.specs.Numbers.{attributes, frames};
+ghost use Rattle.link_capture_grammar.specs.Numbers.{attribute_count, frame_count};
 ghost use Rattle.linkcap_c.specs.Options.{AreInvalid, AreValid, limit_of};
 ghost use Rattle.linkcap_c.specs.Statuses.{Judges, KeepsFault};
+ghost use Rattle.link_capture_grammar.specs.Body.{link_body};
 
 use crate::findings::{LinkcapFinding, of_one};
 use crate::options::{LinkcapOptions, read_limit};
@@ -35,10 +36,10 @@ pub extern "C" fn linkcap_check(
     fault: &mut LinkcapFinding,
 ) -> u32
     ensures judged { Judges (limit_of options.now) capture.now result fault.new }
-    ensures frames { result ≡ 0 → sizes.new.frames ≡ frames (limit_of options.now) capture.now }
-    ensures attributes { result ≡ 0 → sizes.new.attributes ≡ attributes (limit_of options.now) capture.now }
+    ensures frames { result ≡ 0 → sizes.new.frames ≡ frame_count link_body (limit_of options.now) capture.now }
+    ensures attributes { result ≡ 0 → sizes.new.attributes ≡ attribute_count link_body (limit_of options.now) capture.now }
     ensures text { result ≡ 0 → sizes.new.text_low + 2 ^ 64 * sizes.new.text_high
-        ≡ length (texts (limit_of options.now) capture.now) }
+        ≡ length (texts link_body (limit_of options.now) capture.now) }
     ensures unmeasured { result ≢ 0 → sizes.new ≡ sizes.old }
     ensures kept { KeepsFault result fault.old fault.new }
     ensures wrong { result ≡ 3 → AreInvalid options.now }

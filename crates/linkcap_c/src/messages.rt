@@ -8,6 +8,7 @@ ghost use Rattle.linkcap_c.specs.Statuses.{KeepsFault};
 ghost use Rattle.linkcap_c.specs.Messages.{IsFollowed, IsMessage};
 ghost use Rattle.linkcap_c.specs.Findings.{fault_of};
 ghost use Rattle.linkcap_c.specs.Options.{AreInvalid, AreValid, limit_of};
+ghost use Rattle.link_capture_grammar.specs.Body.{link_body};
 
 use crate::findings::{LinkcapFinding, of_one};
 use crate::options::{LinkcapOptions, read_limit};
@@ -44,7 +45,7 @@ pub extern "C" fn linkcap_next_message(
     ensures inside { (result ≡ 0) ⊎ (result ≡ 2) → offset < length capture.now }
     ensures fault { result ≡ 2 → (kind : FaultKind)
         × (fault.new ≡ fault_of 0 (record { kind = kind; offset = offset }))
-        × (first_frame (limit_of options.now) (drop offset capture.now) ≡ Err kind) }
+        × (first_frame link_body (limit_of options.now) (drop offset capture.now) ≡ Err kind) }
     ensures ended { result ≡ 6 → length capture.now ≤ offset }
     ensures wrong { result ≡ 3 → AreInvalid options.now }
     ensures valid { result ≢ 3 → AreValid options.now }
@@ -55,7 +56,7 @@ pub extern "C" fn linkcap_next_message(
     ensures continues { result ≡ 0 → IsFollowed (limit_of options.now) capture.now offset message.new.next }
     // A fault is the first one from here on.
     ensures fails { result ≡ 2 → (kind : FaultKind) × (fault.new ≡ fault_of 0 (record { kind = kind; offset = offset }))
-        × (first_fault (limit_of options.now) (drop offset capture.now) ≡ Some (record { kind = kind; offset = 0 })) }
+        × (first_fault link_body (limit_of options.now) (drop offset capture.now) ≡ Some (record { kind = kind; offset = 0 })) }
 {
     captures_are_counted();
     captures_unfold_by_frames();

@@ -2,13 +2,14 @@
 
 ghost use Rattle.std.specs.Prelude.{◌≡◌, ◌≤◌, ◌↔◌, true, length, drop, bytes_eq};
 ghost use Rattle.netlink_packet_core_grammar.specs.Attributes.{nla_align};
-ghost use Rattle.netlink_packet_core.specs.Frames.{IsFrame, frame_length};
+ghost use Rattle.netlink_packet_core.specs.Frames.{BeginsWithFrame, frame_length};
 ghost use Rattle.link_capture_grammar.specs.Bodies.{is_link_type};
 ghost use Rattle.link_capture_grammar.specs.Captures.{IsLegal};
 ghost use Rattle.link_capture_grammar.specs.Laws.{LegalFrame};
 ghost use Rattle.link_capture_grammar.specs.Same.{done_body, same_body, SameFrame};
 ghost use Rattle.link_capture_numbers.specs.Cleared.{numbers_cleared};
 ghost use Rattle.linkcap_c.specs.Apart.{body_without_numbers, error_cleared, SameButNumbers};
+ghost use Rattle.link_capture_grammar.specs.Body.{link_body};
 
 use link_capture_checks::frame_body;
 use link_capture_grammar::laws::sameness_unfolds_by_frames;
@@ -46,7 +47,7 @@ fn same_error(left: &[u8], right: &[u8]) -> bool
 fn same_body(message_type: u16, left: &[u8], right: &[u8]) -> bool
     requires left { is_link_type message_type ≡ true → 16 ≤ length left.now }
     requires right { is_link_type message_type ≡ true → 16 ≤ length right.now }
-    ensures { result ≡ same_body message_type (body_without_numbers message_type left.now)
+    ensures { result ≡ same_body link_body message_type (body_without_numbers message_type left.now)
         (body_without_numbers message_type right.now) }
 {
     match message_type {
@@ -60,9 +61,9 @@ fn same_body(message_type: u16, left: &[u8], right: &[u8]) -> bool
 
 /// Whether two legal frames mean the same but for these numbers.
 fn same_frame(left: &[u8], right: &[u8], limit: u32) -> bool
-    requires left { LegalFrame limit left.now }
-    requires right { LegalFrame limit right.now }
-    ensures { (result ≡ true) ↔ SameFrame (numbers_cleared left.now) (numbers_cleared right.now) }
+    requires left { LegalFrame link_body limit left.now }
+    requires right { LegalFrame link_body limit right.now }
+    ensures { (result ≡ true) ↔ SameFrame link_body (numbers_cleared left.now) (numbers_cleared right.now) }
 {
     let message_type = NetlinkBuffer::new(left).message_type();
     &left[4..8] == &right[4..8] && same_body(message_type, frame_body(left), frame_body(right))
@@ -70,7 +71,7 @@ fn same_frame(left: &[u8], right: &[u8], limit: u32) -> bool
 
 /// The bytes after the first frame and its padding.
 fn rest_after_frame(bytes: &[u8]) -> &[u8]
-    requires { IsFrame bytes.now }
+    requires { BeginsWithFrame bytes.now }
     ensures { result.now ≡ drop (nla_align (frame_length bytes.now)) bytes.now }
 {
     let len = nla_align(NetlinkBuffer::new(bytes).length() as usize);
@@ -80,8 +81,8 @@ fn rest_after_frame(bytes: &[u8]) -> &[u8]
 /// Whether two legal captures mean the same after zeroing their sequence numbers and netlink port IDs. Allocates
 /// nothing.
 pub(crate) fn same_but_numbers(left: &[u8], right: &[u8], limit: u32) -> bool
-    requires left { IsLegal limit left.now }
-    requires right { IsLegal limit right.now }
+    requires left { IsLegal link_body limit left.now }
+    requires right { IsLegal link_body limit right.now }
     ensures { (result ≡ true) ↔ SameButNumbers limit left.now right.now }
 {
     cleared_captures_have_cleared_texts();

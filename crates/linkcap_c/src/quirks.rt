@@ -5,6 +5,7 @@ ghost use Rattle.link_capture_grammar.specs.Captures.{first_fault};
 ghost use Rattle.linkcap_c.specs.Findings.{found_quirks};
 ghost use Rattle.linkcap_c.specs.Options.{AreInvalid, AreValid, limit_of};
 ghost use Rattle.linkcap_c.specs.Statuses.{Judges, KeepsFault};
+ghost use Rattle.link_capture_grammar.specs.Body.{link_body};
 
 use crate::findings::{LinkcapFinding, of_one, of_quirk};
 use crate::options::{LinkcapOptions, read_limit};
@@ -15,7 +16,7 @@ use link_capture_quirks::quirks;
 /// How many quirks a capture has before its first fault, at most 2^64 - 1, and that fault.
 fn count_quirks(capture: &[u8], limit: u32) -> (u64, Option<CaptureFault>)
     ensures count { result.0 ≡ min (length (found_quirks limit capture.now)) (2 ^ 64 - 1) }
-    ensures fault { result.1 ≡ first_fault limit capture.now }
+    ensures fault { result.1 ≡ first_fault link_body limit capture.now }
 {
     let mut left = quirks(capture, limit);
     let mut count = 0u64;

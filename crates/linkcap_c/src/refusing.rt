@@ -9,6 +9,7 @@ ghost use Rattle.linkcap_c.specs.Buffers.{Holds, Lacks};
 ghost use Rattle.linkcap_c.specs.Findings.{offset_number};
 ghost use Rattle.linkcap_c.specs.Options.{AreInvalid, AreValid, limit_of};
 ghost use Rattle.linkcap_c.specs.Reasons.{refusal_in, refusal_of};
+ghost use Rattle.link_capture_grammar.specs.Body.{link_body};
 
 use crate::buffers::copy_text;
 use crate::options::{LinkcapOptions, read_limit};
@@ -45,7 +46,7 @@ fn following(bytes: &[u8], skipped: u64) -> &[u8]
 /// Why the first fault of bytes at an offset of a capture is a refused body, if it is one.
 fn why_in(bytes: &[u8], offset: u64, limit: u32) -> Option<Refusal>
     requires { offset + length bytes.now < 2 ^ 63 }
-    ensures { all_found result ≡ refusal_in offset bytes.now (first_fault limit bytes.now) }
+    ensures { all_found result ≡ refusal_in offset bytes.now (first_fault link_body limit bytes.now) }
 {
     faults_are_at_frames();
     refused_frames_are_whole();

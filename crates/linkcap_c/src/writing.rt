@@ -4,7 +4,7 @@ ghost use Rattle.std.specs.Prelude.{◌≡◌, ◌≢◌, ◌+◌, ◌-◌, ◌^
 ghost use Rattle.std.specs.Prelude.{ℕ, length, take, drop, Some};
 ghost use Rattle.link_capture_grammar.specs.Captures.{first_fault};
 ghost use Rattle.link_capture_grammar.specs.declared.fault.FaultKind.{FaultKind};
-ghost use Rattle.link_capture_reader.specs.NormalTexts.{HasNormalText};
+ghost use Rattle.link_capture_reader.specs.NormalTexts.{HasLawfulTexts};
 ghost use Rattle.link_lines.specs.Captures.{Choice, lines};
 ghost use Rattle.link_lines.specs.MessageLaws.{plain};
 ghost use Rattle.link_lines.specs.MessageLines.{shown};
@@ -16,6 +16,7 @@ ghost use Rattle.linkcap_c.specs.Options.{AreInvalid, AreValid, Asks, ChooseOfTe
 ghost use Rattle.linkcap_c.specs.Pieces.{Continues, IsBefore, IsFaulty, IsInvalid, IsLegalTo, IsValid};
 ghost use Rattle.linkcap_c.specs.Pieces.{IsWrittenTo, StopsAfter, StopsWhole, WritesPiece, is_last};
 ghost use Rattle.linkcap_c.specs.Statuses.{KeepsFault};
+ghost use Rattle.link_capture_grammar.specs.Body.{link_body};
 
 use crate::findings::{LinkcapFinding, of_one};
 use crate::options::{LinkcapOptions, Output, limit_of, output_by, read_options};
@@ -25,7 +26,7 @@ use link_capture_grammar::fault::{CaptureFault, FaultKind};
 use link_capture_grammar::laws::{
     captures_are_counted, captures_unfold_by_frames, frames_are_independent,
     joined_captures_are_legal, joined_captures_have_joined_texts,
-    joined_captures_have_the_faults_of_the_second, texts_are_legal, texts_are_normal,
+    joined_captures_have_the_faults_of_the_second, texts_are_canonical, texts_are_legal,
     texts_are_small, texts_mean_the_same,
 };
 use link_lines::message_laws::{
@@ -84,7 +85,7 @@ fn write_piece(
     ensures first { (before more : List ℕ) (kind : FaultKind) → IsBefore Form.Text limit piece.now.offset before
         → (is_last piece.now ≡ true → more ≡ [])
         → IsFaulty limit (is_last piece.now) (drop result.at piece.now.bytes.now) kind
-        → first_fault limit (before ++ (piece.now.bytes.now ++ more))
+        → first_fault link_body limit (before ++ (piece.now.bytes.now ++ more))
         ≡ Some (record { kind = kind; offset = piece.now.offset + result.at }) }
     // And where writing stops, the whole writes no more.
     ensures ends { (before more : List ℕ) (kind : FaultKind)
@@ -158,7 +159,7 @@ fn write_some(
 
 /// The laws of the text and the lines of a capture.
 fn text_is_normal(capture: &[u8], limit: u32)
-    ensures text { HasNormalText limit capture.now }
+    ensures text { HasLawfulTexts limit capture.now }
     ensures plain { (choice : Choice) → shown (plain choice) limit capture.now ≡ lines choice limit capture.now }
     ensures meaning { (choice : Choice) → DependsOnMeaning choice limit capture.now }
 {
@@ -167,7 +168,7 @@ fn text_is_normal(capture: &[u8], limit: u32)
     lines_depend_on_meaning();
     lines_of_messages_are_of_texts();
     texts_are_legal();
-    texts_are_normal();
+    texts_are_canonical();
     texts_are_small();
     texts_mean_the_same();
 }
@@ -201,7 +202,7 @@ pub extern "C" fn linkcap_write(
     ensures unwritten { result ≡ 3 → (out.new ≡ out.old) × (progress.new ≡ progress.old) }
     ensures status { (result ≡ 0) ⊎ ((2 ≤ result) × (result ≤ 5)) }
     // The normal text is legal, canonical, equivalent, and at most 77 times as long.
-    ensures text { result ≢ 3 → HasNormalText (limit_of options.now) piece.now.bytes.now }
+    ensures text { result ≢ 3 → HasLawfulTexts (limit_of options.now) piece.now.bytes.now }
     // Without other options, the lines are those of the texts, and depend only on the capture's meaning.
     ensures plain { result ≢ 3 → (choice : Choice) → shown (plain choice) (limit_of options.now) piece.now.bytes.now
         ≡ lines choice (limit_of options.now) piece.now.bytes.now }

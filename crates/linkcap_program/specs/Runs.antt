@@ -6,30 +6,29 @@ use Rattle.link_capture_grammar.specs.declared.fault.FaultKind.TheVariants.{Writ
 use Rattle.link_capture_grammar.specs.Faults.{fault_text}
 use Rattle.link_capture_checks.specs.declared.sameness.SideFault.{SideFault}
 use Rattle.link_capture_checks.specs.Sides.{side_text}
-use Rattle.link_capture_commands.specs.Commands.{IsCommand, status_of, status_of_same}
-use Rattle.link_capture_reader.specs.Devices.{Rises, ReportsItsEnd}
+use Rattle.link_capture_commands.specs.Commands.{AsksForCommand, status_of_norm, status_of_same}
 use Rattle.link_capture_reader.specs.Outcomes.{Normalizes}
-use Rattle.link_capture_reader.specs.States.{IsReported, SinkState, SourceState, IsReportedOrCut}
+use Rattle.link_capture_reader.specs.States.{IsReported, SinkState, SourceState, IsReportedUnlessSinkFails}
 use Rattle.link_capture_commands.specs.declared.command.Command.{Command}
 use Rattle.link_capture_commands.specs.declared.command.Command.TheVariants.{Norm, Same}
 
 -- One run: the states of the source, of the sink for output, and of the sink for error messages, before and after it.
 pub record Run : Type 0 where
-  pub from : SourceState
-  pub left : SourceState
-  pub held : SinkState
-  pub holds : SinkState
+  pub source_before : SourceState
+  pub source_after : SourceState
+  pub output_before : SinkState
+  pub output_after : SinkState
   pub errors_before : SinkState
   pub errors_after : SinkState
 
 -- The states of a run, by the devices before and after it.
 abbrev pub run_of : {S K E : Type 0} → (S → SourceState) → (K → SinkState) → (E → SinkState) → S → S → K → K → E → E →
     Run
-run_of source sink errors from left held holds errors_before errors_after = record {
-  from = source from;
-  left = source left;
-  held = sink held;
-  holds = sink holds;
+run_of source sink errors source_before source_after output_before output_after errors_before errors_after = record {
+  source_before = source source_before;
+  source_after = source source_after;
+  output_before = sink output_before;
+  output_after = sink output_after;
   errors_before = errors errors_before;
   errors_after = errors errors_after;
 }
@@ -37,22 +36,20 @@ run_of source sink errors from left held holds errors_before errors_after = reco
 -- A run with a usage error: the usage line is reported, with status 3.
 abbrev pub UsageRun : SinkState → SinkState → ℕ → Type 0
 UsageRun errors_before errors_after status =
-    IsReportedOrCut errors_before errors_after (codes "usage: linkcap norm [LIMIT] or linkcap same FILE FILE [LIMIT]" ++
+    IsReportedUnlessSinkFails errors_before errors_after (codes "usage: linkcap norm [LIMIT] or linkcap same FILE FILE [LIMIT]" ++
     10 ∷ []) × (status ≡ 3)
 
 -- The error message for a normalised capture: a line with the fault, or nothing.
-abbrev pub norm_line : Result ⊤ CaptureFault → List ℕ
-norm_line (Ok x) = []
-norm_line (Err fault) = fault_text fault ++ 10 ∷ []
+abbrev pub norm_error : Result ⊤ CaptureFault → List ℕ
+norm_error (Ok x) = []
+norm_error (Err fault) = fault_text fault ++ 10 ∷ []
 
 -- A run of `norm`: the source's capture was normalised to the sink, and the fault is reported, with this status.
 abbrev pub NormRun : Run → ℕ → ℕ → Type 0
 NormRun r limit status =
     (outcome : Result ⊤ CaptureFault)
-    × Normalizes r.from.to_come r.left.to_come r.held.holds r.holds.holds
-    (ReportsItsEnd r.from.ends_reported r.left.ends_reported r.left.to_come)
-    (Rises r.from.failures r.left.failures) (Rises r.held.failures r.holds.failures) limit outcome
-    × IsReportedOrCut r.errors_before r.errors_after (norm_line outcome) × (status ≡ status_of outcome)
+    × Normalizes r.source_before r.source_after r.output_before r.output_after limit outcome
+    × IsReportedUnlessSinkFails r.errors_before r.errors_after (norm_error outcome) × (status ≡ status_of_norm outcome)
 
 -- The output for two captures: a line that says whether they mean the same, or nothing after a fault.
 abbrev pub same_line : Result Bool SideFault → List ℕ
@@ -72,7 +69,7 @@ same_error false (Ok is_same) = fault_text (record { kind = Write; offset = 0 })
 abbrev pub SameReported : SinkState → SinkState → SinkState → SinkState → Result Bool SideFault → ℕ → Type 0
 SameReported held holds errors_before errors_after outcome status =
     (printed : Bool) × IsReported held holds (same_line outcome) printed ×
-    IsReportedOrCut errors_before errors_after (same_error printed outcome) ×
+    IsReportedUnlessSinkFails errors_before errors_after (same_error printed outcome) ×
     (status ≡ cond printed (status_of_same outcome) 2)
 
 -- A run of `same`: two captures were compared, and the result is printed or reported, with this status.
@@ -82,8 +79,8 @@ SameRun Compared held holds errors_before errors_after status = (outcome : Resul
 
 -- The arguments ask for this command, or for none.
 abbrev pub AsksFor : List (List ℕ) → Option Command → Type 0
-AsksFor arguments None = (command : Command) → IsCommand arguments command → ⊥
-AsksFor arguments (Some command) = IsCommand arguments command
+AsksFor arguments None = (command : Command) → AsksForCommand arguments command → ⊥
+AsksFor arguments (Some command) = AsksForCommand arguments command
 
 -- What holds after a run of this command. Without a command nothing is opened, read or printed; for a normal text no
 -- file is opened; and when two files are compared, the source isn't read.
@@ -93,9 +90,9 @@ RunsCommand unopened unread unwritten r Compared status None = unopened × unrea
     UsageRun r.errors_before r.errors_after status
 RunsCommand unopened unread unwritten r Compared status (Some (Norm limit)) = unopened × NormRun r limit status
 RunsCommand unopened unread unwritten r Compared status (Some (Same first second limit)) =
-    unread × SameRun (Compared first.now second.now limit) r.held r.holds r.errors_before r.errors_after status
+    unread × SameRun (Compared first.now second.now limit) r.output_before r.output_after r.errors_before r.errors_after status
 
--- What holds after a run with these arguments: they ask for a command, and a run of it was done.
+-- The arguments ask for `asked`, a command or none, and `RunsCommand` holds of it.
 abbrev pub RunsAsAsked : List (List ℕ) → Type 0 → Type 0 → Type 0 → Run →
     (List ℕ → List ℕ → ℕ → Result Bool SideFault → Type 0) → ℕ → Type 0
 RunsAsAsked arguments unopened unread unwritten r Compared status =

@@ -2,10 +2,10 @@
 
 ghost use Rattle.std.specs.Prelude.{◌≡◌, ◌⊎◌, ℕ, List, true, false, Ok, Err};
 ghost use Rattle.std.specs.Process.{exit_status};
-ghost use Rattle.link_capture_comparing.specs.Comparisons.{IsReadWhole, IsUnread};
+ghost use Rattle.link_capture_comparing.specs.Comparisons.{IsReadWhole, IsReadUpTo};
 ghost use Rattle.link_capture_reader.specs.Files.{files_of};
 ghost use Rattle.link_capture_reader.specs.States.{sink_state, source_state};
-ghost use Rattle.linkcap_program.specs.Comparisons.{Compares, FailsAt, IsUnopened};
+ghost use Rattle.linkcap_program.specs.Comparisons.{Compares, FailsAt, IsOpenFault};
 ghost use Rattle.linkcap_program.specs.Runs.{SameRun, SameReported, same_line};
 
 use super::lines::line;
@@ -35,8 +35,8 @@ fn fault_of(second: bool, fault: CaptureFault) -> SideFault
 fn unopened_second<S: Source>(first: &mut S) -> SideFault
     ensures { (read : List ℕ) × ((IsReadWhole (source_state S.to_come S.failures S.ends_reported first.old)
         (source_state S.to_come S.failures S.ends_reported first.new) read
-        × FailsAt true IsUnopened (Err result))
-        ⊎ FailsAt false (IsUnread (source_state S.to_come S.failures S.ends_reported first.old)
+        × FailsAt true IsOpenFault (Err result))
+        ⊎ FailsAt false (IsReadUpTo (source_state S.to_come S.failures S.ends_reported first.old)
         (source_state S.to_come S.failures S.ends_reported first.new) read) (Err result)) }
 {
     match read_to_end(first) {

@@ -2,9 +2,9 @@
 
 ghost use Rattle.std.specs.Prelude.{◌≡◌, ◌≤◌};
 ghost use Rattle.std.specs.Process.{exit_status};
-ghost use Rattle.link_capture_commands.specs.Commands.{status_of};
-ghost use Rattle.link_capture_reader.specs.States.{IsReportedOrCut, sink_state, source_state};
-ghost use Rattle.linkcap_program.specs.Runs.{NormRun, norm_line, run_of};
+ghost use Rattle.link_capture_commands.specs.Commands.{status_of_norm};
+ghost use Rattle.link_capture_reader.specs.States.{IsReportedUnlessSinkFails, sink_state, source_state};
+ghost use Rattle.linkcap_program.specs.Runs.{NormRun, norm_error, run_of};
 
 use super::lines::line;
 use link_capture_commands::status_norm;
@@ -15,9 +15,9 @@ use std::process::ExitCode;
 
 /// Reports a fault in a line, and writes nothing if there is none. Returns the exit status.
 fn report<E: Sink>(errors: &mut E, outcome: Result<(), CaptureFault>) -> ExitCode
-    ensures status { exit_status result ≡ status_of outcome }
-    ensures fault_reported { IsReportedOrCut (sink_state E.holds E.failures errors.old)
-        (sink_state E.holds E.failures errors.new) (norm_line outcome) }
+    ensures status { exit_status result ≡ status_of_norm outcome }
+    ensures fault_reported { IsReportedUnlessSinkFails (sink_state E.holds E.failures errors.old)
+        (sink_state E.holds E.failures errors.new) (norm_error outcome) }
 {
     match outcome {
         Ok(()) => ExitCode::from(status_norm(&outcome)),

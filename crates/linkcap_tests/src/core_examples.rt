@@ -2,7 +2,7 @@
 
 ghost use Rattle.std.specs.Prelude.{◌≡◌, true, IfOk};
 ghost use Rattle.netlink_packet_core.specs.Attributes.{attribute_text};
-ghost use Rattle.netlink_packet_core.specs.Frames.{IsFrame};
+ghost use Rattle.netlink_packet_core.specs.Frames.{BeginsWithFrame};
 ghost use Rattle.netlink_packet_core.specs.Numbers.{le4, u32_at};
 
 use netlink_packet_core::laws::numbers_have_sizes;
@@ -50,7 +50,7 @@ fn mtu_attribute(mtu: u32) -> [u8; 8]
 
 /// Returns the sequence number of the first message, if the bytes have it whole.
 fn sequence_number(bytes: &[u8]) -> Result<u32, DecodeError>
-    ensures ok { IfOk result (λ number. IsFrame bytes.now × (number ≡ u32_at 8 bytes.now)) }
+    ensures ok { IfOk result (λ number. BeginsWithFrame bytes.now × (number ≡ u32_at 8 bytes.now)) }
 {
     let message = NetlinkBuffer::new_checked(bytes)?;
     Ok(message.sequence_number())

@@ -1,7 +1,7 @@
 -- The notes that remain during a walk over encoding quirks.
 use Rattle.std.proofs.Common.{◌≡◌, ℕ, Bool, List, [], ◌∷◌, ◌++◌, true, false, Option, Some, None, Result, Ok, Err, refl, sym, ap, subst, ◌∙◌}
 use Rattle.link_capture_grammar.specs.declared.fault.CaptureFault.{CaptureFault}
-use Rattle.link_capture_reader.specs.States.{IsReported, SinkState, IsReportedOrCut}
+use Rattle.link_capture_reader.specs.States.{IsReported, SinkState, IsReportedUnlessSinkFails}
 use Rattle.link_capture_quirks.specs.declared.quirk_at.QuirkAt.{QuirkAt}
 use Rattle.link_capture_quirks.specs.CaptureQuirks.{quirks_then_fault}
 use Rattle.linkshow_program.specs.Runs.{note_text, notes_text}
@@ -32,9 +32,9 @@ pub noted-more : (before now next : SinkState) (left more : List (Result QuirkAt
 noted-more before now next left more text line x r n e l b i = come_more before now next (notes_of left) line (notes_of more) text r n (one-less left more line x e l) b i
 
 -- No note remains.
-pub noted-all : (before now : SinkState) (left : List (Result QuirkAt CaptureFault)) (text : List ℕ) → Noted before now left text → notes_of left ≡ [] → IsReportedOrCut before now text
+pub noted-all : (before now : SinkState) (left : List (Result QuirkAt CaptureFault)) (text : List ℕ) → Noted before now left text → notes_of left ≡ [] → IsReportedUnlessSinkFails before now text
 noted-all before now left text n e = (true, come_all before now (notes_of left) text n e)
 
 -- The sink failed inside a note.
-pub noted-failed : (before now next : SinkState) (left more : List (Result QuirkAt CaptureFault)) (text line : List ℕ) (x : QuirkAt) (r : Bool) → Noted before now left text → left ≡ Ok x ∷ more → line ≡ note_text x → r ≡ false → IsReported now next line r → IsReportedOrCut before next text
+pub noted-failed : (before now next : SinkState) (left more : List (Result QuirkAt CaptureFault)) (text line : List ℕ) (x : QuirkAt) (r : Bool) → Noted before now left text → left ≡ Ok x ∷ more → line ≡ note_text x → r ≡ false → IsReported now next line r → IsReportedUnlessSinkFails before next text
 noted-failed before now next left more text line x r n e l b i = (false, come_failed before now next (notes_of left) line (notes_of more) text r n (one-less left more line x e l) b i)

@@ -7,7 +7,7 @@ use Rattle.link_capture_grammar.specs.declared.fault.CaptureFault.{CaptureFault}
 use Rattle.link_capture_grammar.specs.declared.fault.FaultKind.{FaultKind}
 use Rattle.link_capture_grammar.specs.declared.fault.FaultKind.TheVariants.{Read, Write}
 use Rattle.link_capture_grammar.specs.Faults.{fault_text}
-use Rattle.link_capture_reader.specs.Devices.{Rises, ReportsItsEnd}
+use Rattle.link_capture_reader.specs.Devices.{ReportsItsEnd}
 use Rattle.link_capture_reader.specs.Files.{Files, opening, then_opened}
 use Rattle.link_capture_reader.specs.Outcomes.{ReadFault}
 use Rattle.link_capture_quirks.specs.declared.quirk_at.QuirkAt.{QuirkAt}
@@ -24,7 +24,7 @@ use Rattle.linkshow_program.specs.declared.arguments.Asked.TheVariants.{Help, Ve
 use Rattle.linkshow_program.specs.declared.arguments.UsageError.{UsageError}
 use Rattle.linkshow_program.specs.Arguments.{Asks, UsageFault, usage_fault}
 use Rattle.linkshow_program.specs.Texts.{cause, advice, help_text, usage_text, version_text}
-use Rattle.link_capture_reader.specs.States.{IsReported, SinkState, SourceState, IsReportedOrCut}
+use Rattle.link_capture_reader.specs.States.{IsReported, SinkState, SourceState, IsReportedUnlessSinkFails}
 use Rattle.linkshow_program.specs.Devices.{Run}
 use Rattle.linkshow_program.specs.Reporting.{ReportsBoth}
 
@@ -74,10 +74,8 @@ chosen o = selection_of o.show
 abbrev pub ShowRun : Selection → Run → Option (List ℕ) → ℕ → ℕ → Type 0
 ShowRun ch r file limit status =
     (outcome : Result Bool ShowFault) × (first : List ℕ)
-    × ShowsKeeping first ch r.from.to_come r.left.to_come r.held.holds r.holds.holds
-    (ReportsItsEnd r.from.ends_reported r.left.ends_reported r.left.to_come)
-    (Rises r.from.failures r.left.failures) (Rises r.held.failures r.holds.failures) limit outcome
-    × IsReportedOrCut r.reported r.reported_after (report_of file first outcome) × (status ≡ status_of outcome)
+    × ShowsKeeping first ch r.source_before r.source_after r.output_before r.output_after limit outcome
+    × IsReportedUnlessSinkFails r.reported r.reported_after (report_of file first outcome) × (status ≡ status_of outcome)
 
 -- ---- with notes
 
@@ -94,21 +92,21 @@ notes_text (x ∷ xs) = note_text x ++ notes_text xs
 abbrev pub ShowsWhole : Selection → List ℕ → SinkState → SinkState → ℕ → Result Bool ShowFault → Type 0
 ShowsWhole ch s held holds limit outcome =
     (left : Option (List ℕ)) × (old new : ℕ) ×
-    Shows ch (Some s) left held.holds holds.holds (ReportsItsEnd old new left) (Rises 0 0)
-    (Rises held.failures holds.failures) limit outcome
+    Shows ch (record { to_come = Some s; failures = 0; ends_reported = old })
+    (record { to_come = left; failures = 0; ends_reported = new }) held holds limit outcome
 
 -- All was read, noted and then shown; or reading failed, only this was reported, and nothing was written to the sink of
 -- the lines.
 abbrev pub NotesRun : Selection → Run → Type 0 → Option (List ℕ) → ℕ → ℕ → Type 0
 NotesRun ch r unwritten file limit status =
-    (s : List ℕ) × Consumes r.from.to_come r.left.to_come s × (
-    (ReportsItsEnd r.from.ends_reported r.left.ends_reported r.left.to_come ×
-    ((outcome : Result Bool ShowFault) × ShowsWhole ch s r.held r.holds limit outcome
+    (s : List ℕ) × Consumes r.source_before.to_come r.source_after.to_come s × (
+    (ReportsItsEnd r.source_before.ends_reported r.source_after.ends_reported r.source_after.to_come ×
+    ((outcome : Result Bool ShowFault) × ShowsWhole ch s r.output_before r.output_after limit outcome
     × ReportsBoth r.reported r.reported_after (notes_text (capture_quirks limit s)) (report_of file (take 4 s) outcome)
     × (status ≡ status_of outcome)))
-    ⊎ ((fault : CaptureFault) × ReadFault r.from.failures r.left.failures s fault.kind × (fault.offset ≡ length s) ×
+    ⊎ ((fault : CaptureFault) × ReadFault r.source_before.failures r.source_after.failures s fault.kind × (fault.offset ≡ length s) ×
     unwritten
-    × IsReportedOrCut r.reported r.reported_after (report_of file (take 4 s) (Err (record {
+    × IsReportedUnlessSinkFails r.reported r.reported_after (report_of file (take 4 s) (Err (record {
       fault = fault;
       refusal =
           None;
@@ -127,13 +125,13 @@ CaptureRun false ch r unwritten file limit status = ShowRun ch r file limit stat
 abbrev pub FileRun : {File : Type 0} → (File → SourceState) → Option (List ℕ) → Result File ErrorKind → List ℕ →
     SinkState → SinkState → SinkState → SinkState → Type 0 → Bool → Selection → ℕ → ℕ → Type 0
 FileRun state known (Err kind) name held holds reported reported_after unwritten kernels ch limit status =
-    unwritten × IsReportedOrCut reported reported_after (unopened name kind) × (status ≡ 2)
+    unwritten × IsReportedUnlessSinkFails reported reported_after (unopened name kind) × (status ≡ 2)
 FileRun {File} state known (Ok file) name held holds reported reported_after unwritten kernels ch limit status =
     ((state file).to_come ≡ known) × ((closed : File) × CaptureRun kernels ch (record {
-      from = state file;
-      left = state closed;
-      held = held;
-      holds = holds;
+      source_before = state file;
+      source_after = state closed;
+      output_before = held;
+      output_after = holds;
       reported = reported;
       reported_after = reported_after;
     }) unwritten (Some name) limit status)
@@ -147,12 +145,12 @@ OpensOne {File} files name Then = (outcome : Result File ErrorKind) ×
 abbrev pub PrintRun : SinkState → SinkState → SinkState → SinkState → List ℕ → ℕ → Type 0
 PrintRun held holds reported reported_after text status =
     (printed : Bool) × IsReported held holds text printed
-    × IsReportedOrCut reported reported_after (cond printed [] (fault_text (record { kind = Write; offset = 0 }) ++
+    × IsReportedUnlessSinkFails reported reported_after (cond printed [] (fault_text (record { kind = Write; offset = 0 }) ++
     10 ∷ [])) × (status ≡ cond printed 0 2)
 
 -- A usage error was reported, and this is the status.
 abbrev pub UsageRun : SinkState → SinkState → UsageFault → ℕ → Type 0
-UsageRun reported reported_after fault status = IsReportedOrCut reported reported_after (usage_text fault) ×
+UsageRun reported reported_after fault status = IsReportedUnlessSinkFails reported reported_after (usage_text fault) ×
     (status ≡ 3)
 
 -- A capture is shown from standard input, or from a file.
@@ -166,13 +164,13 @@ abbrev pub Does : {File : Type 0} → Type 0 → Type 0 → Type 0 → Run → F
 Does unopened unread unwritten r files status (Err e) = unopened × unread × unwritten ×
     UsageRun r.reported r.reported_after (usage_fault e) status
 Does unopened unread unwritten r files status (Ok Help) = unopened × unread ×
-    PrintRun r.held r.holds r.reported r.reported_after help_text status
+    PrintRun r.output_before r.output_after r.reported r.reported_after help_text status
 Does unopened unread unwritten r files status (Ok Version) = unopened × unread ×
-    PrintRun r.held r.holds r.reported r.reported_after version_text status
+    PrintRun r.output_before r.output_after r.reported r.reported_after version_text status
 Does unopened unread unwritten r files status (Ok (Show options)) =
     ShowsFrom (unopened × CaptureRun options.kernels (chosen options) r unwritten None options.limit status)
     (λ name. unread × OpensOne files name
-    (λ outcome. FileRun files.state (files.contents name) outcome name r.held r.holds r.reported r.reported_after
+    (λ outcome. FileRun files.state (files.contents name) outcome name r.output_before r.output_after r.reported r.reported_after
     unwritten options.kernels (chosen options) options.limit status))
     (option_map (λ name. name.now) options.file)
 

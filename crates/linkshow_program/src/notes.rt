@@ -3,7 +3,7 @@
 ghost use Rattle.std.specs.Prelude.{◌≡◌, ◌≤◌, option_map};
 ghost use Rattle.std.specs.Process.{exit_status};
 ghost use Rattle.link_capture_quirks.specs.CaptureQuirks.{capture_quirks};
-ghost use Rattle.link_capture_reader.specs.States.{IsReportedOrCut, sink_state, source_state};
+ghost use Rattle.link_capture_reader.specs.States.{IsReportedUnlessSinkFails, sink_state, source_state};
 ghost use Rattle.linkshow_program.specs.Devices.{run_of};
 ghost use Rattle.linkshow_program.specs.Runs.{chosen, notes_text, NotesRun};
 
@@ -21,7 +21,7 @@ use std::process::ExitCode;
 /// Writes a note for each encoding quirk of a capture, up to the first fault. After a failure of
 /// the sink the rest isn't written.
 fn report_notes<E: Sink>(errors: &mut E, bytes: &[u8], limit: u32)
-    ensures { IsReportedOrCut (sink_state E.holds E.failures errors.old)
+    ensures { IsReportedUnlessSinkFails (sink_state E.holds E.failures errors.old)
         (sink_state E.holds E.failures errors.new)
         (notes_text (capture_quirks limit bytes.now)) }
 {

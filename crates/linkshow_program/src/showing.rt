@@ -2,7 +2,7 @@
 
 ghost use Rattle.std.specs.Prelude.{◌≡◌, ◌≤◌, ◌++◌, option_map};
 ghost use Rattle.std.specs.Process.{exit_status};
-ghost use Rattle.link_capture_reader.specs.States.{IsReported, IsReportedOrCut, sink_state, source_state};
+ghost use Rattle.link_capture_reader.specs.States.{IsReported, IsReportedUnlessSinkFails, sink_state, source_state};
 ghost use Rattle.linkshow_program.specs.Devices.{run_of};
 ghost use Rattle.linkshow_program.specs.Runs.{chosen, fault_report, is_unread, name_report};
 ghost use Rattle.linkshow_program.specs.Runs.{nothing_shown, report_of, ShowRun, status_of, unopened};
@@ -89,7 +89,7 @@ pub(crate) fn report<E: Sink>(
     outcome: Result<bool, ShowFault>,
 ) -> ExitCode
     ensures status { exit_status result ≡ status_of outcome }
-    ensures reported { IsReportedOrCut (sink_state E.holds E.failures errors.old)
+    ensures reported { IsReportedUnlessSinkFails (sink_state E.holds E.failures errors.old)
         (sink_state E.holds E.failures errors.new)
         (report_of (option_map (λ name. name.now) file.entry) first.now outcome) }
 {

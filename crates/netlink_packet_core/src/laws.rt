@@ -8,8 +8,8 @@ pub use netlink_packet_core_attributes::laws::{
     typed_rows_write_the_kind, walks_are_short, walks_are_the_relation,
 };
 pub use netlink_packet_core_grammar::laws::{
-    attributes_are_cut_in_one_way, attributes_are_the_relation, first_attributes_are_viewed,
-    lists_are_joined, texts_are_cut,
+    attributes_are_split_in_one_way, attributes_are_the_relation, encodings_are_split,
+    first_attributes_are_viewed, lists_are_joined,
 };
 pub use netlink_packet_core_messages::laws::{
     bodies_end_with_their_frame, bytes_past_a_frame_change_nothing, canonical_frames_are_stable,

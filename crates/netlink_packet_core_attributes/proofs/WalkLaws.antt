@@ -1,8 +1,8 @@
 -- The laws of walks and of written attributes.
 use Rattle.std.proofs.Common.{◌≡◌, ℕ, zero, suc, ◌+◌, ◌*◌, ◌<◌, ◌≤◌, List, [], ◌∷◌, ◌++◌, length, map, Option, Some, None, refl, sym, ap, subst, ◌∙◌, arith, append_assoc}
 use Rattle.netlink_packet_core_grammar.specs.Attributes.{Attribute, attribute_text, list_text, first_attribute, attributes_of, IsAttributeList}
-use Rattle.netlink_packet_core_grammar.specs.AttributeViews.{viewed_length, viewed_attribute, IsAttribute, after_first}
-use Rattle.netlink_packet_core_grammar.specs.Laws.{AttributesAreCut, FirstIsViewed, FirstIsWithin, WrittenIsFirst}
+use Rattle.netlink_packet_core_grammar.specs.AttributeViews.{viewed_length, viewed_attribute, BeginsWithAttribute, after_first}
+use Rattle.netlink_packet_core_grammar.specs.Laws.{SplittingIsTheRelation, FirstIsViewed, FirstIsWithin, WrittenIsFirst}
 use Rattle.netlink_packet_core_grammar.proofs.Attributes.{got, got_is}
 use Rattle.netlink_packet_core_attributes.specs.Walks.{IsWalk, attribute_walk}
 use Rattle.netlink_packet_core_attributes.specs.Laws.{WalkIsTheRelation, ListsAreWalked, OthersEndInAFault, TextsAreWalked, TextsAreReadBack, WalksAreShort}
@@ -42,13 +42,13 @@ EndsInAFault : List ℕ → Type 0
 EndsInAFault bytes = (es : List Attribute) × (attribute_walk bytes ≡ map (λ e. Some e) es ++ None ∷ [])
 
 module _ (within : FirstIsWithin) where
-  pub lists_are_walked : AttributesAreCut → ListsAreWalked
+  pub lists_are_walked : SplittingIsTheRelation → ListsAreWalked
   lists_are_walked cut bytes es = (
     λ h. is_walk within bytes (map (λ e. Some e) es) (list_walk bytes es ((cut bytes es).0 h)),
     λ h. (cut bytes es).1 (walk_list bytes es ((walk_is_the_relation within bytes (map (λ e. Some e) es)).0 h)),
   )
 
-  module _ (cut : AttributesAreCut) where
+  module _ (cut : SplittingIsTheRelation) where
     none_after : (bytes : List ℕ) (e : Attribute) (rest : List ℕ) → first_attribute bytes ≡ Some (e, rest) → attributes_of bytes ≡ None → (o : Option (List Attribute)) → attributes_of rest ≡ o → o ≡ None
     none_after bytes e rest f n None a = refl
     none_after bytes e rest f n (Some es) a = let k : got (e ∷ es) ≡ None = sym ((cut bytes (e ∷ es)).1 (rest, f, (cut rest es).0 a)) ∙ n in absurd cc
@@ -81,13 +81,13 @@ module _ (within : FirstIsWithin) where
       ∙ walk-step within (attribute_text e ++ (list_text es ++ bytes)) e (list_text es ++ bytes) (prefix e (list_text es ++ bytes))
       ∙ ap (λ items. Some e ∷ items) (texts_are_walked prefix es bytes)
 
-is_none : FirstIsViewed → (bytes : List ℕ) (x : Attribute × List ℕ) → first_attribute bytes ≡ Some x → (IsAttribute bytes → ⊥) → ⊥
+is_none : FirstIsViewed → (bytes : List ℕ) (x : Attribute × List ℕ) → first_attribute bytes ≡ Some x → (BeginsWithAttribute bytes → ⊥) → ⊥
 is_none law bytes x h n = let e : got x ≡ None = sym h ∙ law.none bytes n in cc
 
 not_less : (m n : ℕ) → (m < n → ⊥) → n ≤ m
 not_less m n h = omega (arith, h)
 
-whole : FirstIsViewed → (bytes : List ℕ) (x : Attribute × List ℕ) → first_attribute bytes ≡ Some x → IsAttribute bytes
+whole : FirstIsViewed → (bytes : List ℕ) (x : Attribute × List ℕ) → first_attribute bytes ≡ Some x → BeginsWithAttribute bytes
 whole law bytes x h = record {
   has_header = not_less _ _ (λ s. is_none law bytes x h (λ i. let k = i.has_header in omega arith));
   covers_header = not_less _ _ (λ s. is_none law bytes x h (λ i. let k = i.covers_header in omega arith));

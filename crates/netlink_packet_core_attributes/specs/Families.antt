@@ -2,8 +2,8 @@
 use Rattle.std.specs.Prelude.{◌≡◌, ◌&&◌, ℕ, Bool, List, length, nat_lt}
 use Rattle.netlink_packet_core_grammar.specs.Attributes.{Attribute, proper_kind}
 use Rattle.netlink_packet_core_grammar.specs.AttributeViews.{viewed_attribute, viewed_kind, viewed_payload}
-use Rattle.attribute_tables_grammar.specs.Lists.{Row, rewrite, row_at}
-use Rattle.attribute_tables_grammar.specs.LookUps.{table_row, row_holds_bytes}
+use Rattle.attribute_tables_grammar.specs.Lists.{Row, canonical_form, row_at}
+use Rattle.attribute_tables_grammar.specs.LookUps.{table_row, row_allocates}
 use Rattle.attribute_tables_grammar.specs.Peers.{bytes_peer}
 use Rattle.attribute_tables_grammar.specs.Tables.{Table}
 
@@ -22,10 +22,10 @@ accepts t b = (row_at (family_row t) (viewed_attribute b)).rule.accepted (viewed
 -- Reading the attribute may run out of memory: its row holds bytes or text, the payload isn't empty, and the row
 -- accepts it.
 abbrev pub may_allocate : Table → List ℕ → Bool
-may_allocate t b = (row_holds_bytes t (proper_kind (viewed_kind b)) && nat_lt 0 (length (viewed_payload b))) &&
+may_allocate t b = (row_allocates t (proper_kind (viewed_kind b)) && nat_lt 0 (length (viewed_payload b))) &&
     accepts t b
 
 -- The attribute e is the canonical form of the one at the start of the bytes: with its row's kind, and its canonical
 -- payload.
 abbrev pub Gives : Table → List ℕ → Attribute → Type 0
-Gives t b e = e ≡ rewrite (row_at (family_row t) (viewed_attribute b)) (viewed_attribute b)
+Gives t b e = e ≡ canonical_form (row_at (family_row t) (viewed_attribute b)) (viewed_attribute b)

@@ -3,8 +3,8 @@ use Rattle.std.specs.Prelude.{true, ◌≡◌, ◌↔◌, ◌<◌, ◌≤◌, �
 use Rattle.std.specs.Prelude.{None}
 use Rattle.netlink_packet_core_grammar.specs.Attributes.{Attribute, proper_kind, attribute_text, list_text}
 use Rattle.netlink_packet_core_grammar.specs.Attributes.{attributes_of}
-use Rattle.attribute_tables_grammar.specs.Lists.{Row, rewrite}
-use Rattle.netlink_packet_core_grammar.specs.AttributeViews.{viewed_attribute, IsAttribute, after_first}
+use Rattle.attribute_tables_grammar.specs.Lists.{Row, canonical_form}
+use Rattle.netlink_packet_core_grammar.specs.AttributeViews.{viewed_attribute, BeginsWithAttribute, after_first}
 use Rattle.netlink_packet_core_attributes.specs.Walks.{IsWalk, attribute_walk}
 
 -- The function `attribute_walk` computes the relation `IsWalk`.
@@ -30,7 +30,7 @@ TextsAreWalked = (es : List Attribute) (bytes : List ℕ) →
 -- A written attribute is read back with its kind and payload.
 abbrev pub TextsAreReadBack : Type 0
 TextsAreReadBack = (e : Attribute) (bytes : List ℕ) →
-    IsAttribute (attribute_text e ++ bytes) × (viewed_attribute (attribute_text e ++ bytes) ≡ e)
+    BeginsWithAttribute (attribute_text e ++ bytes) × (viewed_attribute (attribute_text e ++ bytes) ≡ e)
 
 -- A walk yields at most one item for every 4 bytes begun.
 abbrev pub WalksAreShort : Type 0
@@ -40,11 +40,11 @@ WalksAreShort = (bytes : List ℕ) → 4 * length (attribute_walk bytes) ≤ len
 -- and continues after it; otherwise it yields a fault and ends.
 pub record WalksUnfold : Type 0 where
   pub empty : (bytes : List ℕ) → length bytes ≡ 0 → attribute_walk bytes ≡ []
-  pub attribute : (bytes : List ℕ) → IsAttribute bytes →
+  pub attribute : (bytes : List ℕ) → BeginsWithAttribute bytes →
       attribute_walk bytes ≡ Some (viewed_attribute bytes) ∷ attribute_walk (after_first bytes)
-  pub fault : (bytes : List ℕ) → 0 < length bytes → (IsAttribute bytes → ⊥) → attribute_walk bytes ≡ None ∷ []
+  pub fault : (bytes : List ℕ) → 0 < length bytes → (BeginsWithAttribute bytes → ⊥) → attribute_walk bytes ≡ None ∷ []
 
 -- A typed row writes an attribute in the same way whatever flag bits its kind has.
 abbrev pub TypedRowsWriteTheKind : Type 0
 TypedRowsWriteTheKind = (r : Row) (e : Attribute) → r.is_typed ≡ true →
-    rewrite r (record { kind = proper_kind e.kind; payload = e.payload }) ≡ rewrite r e
+    canonical_form r (record { kind = proper_kind e.kind; payload = e.payload }) ≡ canonical_form r e

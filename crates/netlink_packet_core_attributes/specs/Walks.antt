@@ -5,7 +5,7 @@ use Rattle.std.specs.Prelude.{IfSome, IfOk, IfErr}
 use Rattle.std.specs.Borrow.{Bor}
 use Rattle.std.specs.Iterator.{YieldsFirstBy}
 use Rattle.netlink_packet_core_grammar.specs.Attributes.{Attribute, first_attribute}
-use Rattle.netlink_packet_core_grammar.specs.AttributeViews.{viewed_attribute, IsAttribute}
+use Rattle.netlink_packet_core_grammar.specs.AttributeViews.{viewed_attribute, BeginsWithAttribute}
 use Rattle.netlink_packet_core_numbers.specs.declared.error.DecodeError.{DecodeError}
 use Rattle.netlink_packet_core_numbers.specs.Errors.{is_memory}
 use Rattle.netlink_packet_core_attributes.specs.declared.nla_buffer.NlaBuffer.{NlaBuffer}
@@ -43,5 +43,5 @@ pub record StepsOnWalk (old : Bor (List ℕ)) (item : Option (Result (NlaBuffer 
     (new : Bor (List ℕ)) : Type 0 where
   pub first : YieldsFirstBy item_of (λ s. attribute_walk s.now) old item new
   pub view : IfSome item (λ r. IfOk r (λ view. (storage view).now ≡ old.now))
-  pub whole : IfSome item (λ r. IfOk r (λ view. IsAttribute (storage view).now))
+  pub whole : IfSome item (λ r. IfOk r (λ view. BeginsWithAttribute (storage view).now))
   pub fault : IfSome item (λ r. IfErr r (λ e. is_memory e ≡ false))

@@ -2,14 +2,14 @@
 
 ghost use Rattle.std.specs.Prelude.{◌≡◌, ◌<◌, true, length, IsTrue, IfOk, IfErr, IfSome, IfNone, OnOk};
 ghost use Rattle.netlink_packet_core_grammar.specs.Attributes.{Attribute, proper_kind};
-ghost use Rattle.netlink_packet_core_grammar.specs.AttributeViews.{viewed_kind, viewed_payload, IsAttribute};
+ghost use Rattle.netlink_packet_core_grammar.specs.AttributeViews.{viewed_kind, viewed_payload, BeginsWithAttribute};
 ghost use Rattle.netlink_packet_core_grammar.specs.Numbers.{as_usize};
 ghost use Rattle.netlink_packet_core_numbers.specs.Errors.{is_memory};
 ghost use Rattle.netlink_packet_core_attributes.specs.NlaBuffers.{storage};
 ghost use Rattle.netlink_packet_core_attributes.specs.Fields.{field_bytes};
 ghost use Rattle.netlink_packet_core_attributes.specs.Families.{Gives, accepts, attribute, family_row, may_allocate};
-ghost use Rattle.attribute_tables_grammar.specs.Lists.{rewrite};
-ghost use Rattle.attribute_tables_grammar.specs.LookUps.{has_no_row, holds_no_lists, row_holds_bytes};
+ghost use Rattle.attribute_tables_grammar.specs.Lists.{canonical_form};
+ghost use Rattle.attribute_tables_grammar.specs.LookUps.{HasNoRow, holds_no_lists, row_allocates};
 ghost use Rattle.attribute_tables_grammar.specs.Tables.{Table};
 
 use super::nla::{DefaultNla, Nla};
@@ -68,23 +68,23 @@ pub trait Family: FieldNla + Sized {
     /// any other [`DecodeError`] if and only if the row doesn't accept it.
     fn read_row(alloc: Global, kind: u16, payload: &[u8]) -> Result<Option<Self>, DecodeError>
         ensures ok { OnOk result (IsTrue ((family_row rows kind).rule.accepted payload.now)) }
-        ensures none { IfOk result (λ o. IfNone o (has_no_row rows kind)) }
+        ensures none { IfOk result (λ o. IfNone o (HasNoRow rows kind)) }
         ensures typed { IfOk result (λ o. IfSome o (λ _. (family_row rows kind).is_typed ≡ true)) }
         ensures value { IfOk result
             (λ o. IfSome o
             (λ v. Self.field_entry v
-            ≡ rewrite (family_row rows kind) (attribute kind payload.now))) }
+            ≡ canonical_form (family_row rows kind) (attribute kind payload.now))) }
         ensures is_row_variant { IfOk result (λ o. IfSome o (λ v. is_row_variant v)) }
         ensures err { IfErr result
             (λ e. (family_row rows kind).rule.accepted payload.now ≡ is_memory e) }
         ensures memory { IfErr result
-            (λ e. is_memory e ≡ true → row_holds_bytes rows kind ≡ true) }
+            (λ e. is_memory e ≡ true → row_allocates rows kind ≡ true) }
         ensures not_empty { IfErr result (λ e. is_memory e ≡ true → 0 < length payload.now) };
 
     /// Returns the variant of an attribute whose kind has no row.
     fn other(nla: DefaultNla) -> Self
         ensures entry { Self.field_entry result ≡ nla }
-        ensures is_row_variant { has_no_row rows (proper_kind nla.kind) → is_row_variant result };
+        ensures is_row_variant { HasNoRow rows (proper_kind nla.kind) → is_row_variant result };
 
     /// No row holds attributes.
     ghost plain: { holds_no_lists rows ≡ true };
@@ -98,14 +98,14 @@ pub trait Family: FieldNla + Sized {
 /// other [`DecodeError`] if and only if the row doesn't accept it.
 #[tactic(auto, using(crate::proofs::Families::families))]
 pub fn read_attribute<F: Family>(alloc: Global, buf: &NlaBuffer<&[u8]>) -> Result<F, DecodeError>
-    requires { IsAttribute (storage buf.now).now }
+    requires { BeginsWithAttribute (storage buf.now).now }
     ensures ok { OnOk result (IsTrue (accepts F.rows (storage buf.now).now)) }
     ensures value { IfOk result (λ v. Gives F.rows (storage buf.now).now (F.field_entry v)) }
     ensures is_row_variant { IfOk result (λ v. F.is_row_variant v) }
     ensures err { IfErr result (λ e. accepts F.rows (storage buf.now).now ≡ is_memory e) }
     ensures memory { IfErr result
         (λ e. is_memory e ≡ true
-        → row_holds_bytes F.rows (proper_kind (viewed_kind (storage buf.now).now)) ≡ true) }
+        → row_allocates F.rows (proper_kind (viewed_kind (storage buf.now).now)) ≡ true) }
     ensures not_empty { IfErr result
         (λ e. is_memory e ≡ true → 0 < length (viewed_payload (storage buf.now).now)) }
 {
@@ -117,7 +117,7 @@ pub fn read_attribute<F: Family>(alloc: Global, buf: &NlaBuffer<&[u8]>) -> Resul
 }
 
 impl<'a, F: Family> Parseable<NlaBuffer<&'a [u8]>> for F {
-    ghost can_parse = { λ b. IsAttribute (storage b).now };
+    ghost can_parse = { λ b. BeginsWithAttribute (storage b).now };
 
     ghost accepts = { λ b. accepts F.rows (storage b).now };
 

@@ -1,7 +1,7 @@
 ghost use Rattle.std.specs.Prelude.{◌≡◌, ◌↔◌, ◌-◌, ◌≤◌, length, false, IfOk, IfErr, IsOk};
 ghost use Rattle.std.specs.Borrow.{Lends, Array, sem, u8};
 ghost use Rattle.netlink_packet_core_grammar.specs.Attributes.{proper_kind};
-ghost use Rattle.netlink_packet_core_grammar.specs.AttributeViews.{viewed_length, viewed_kind, viewed_payload, IsAttribute};
+ghost use Rattle.netlink_packet_core_grammar.specs.AttributeViews.{viewed_length, viewed_kind, viewed_payload, BeginsWithAttribute};
 ghost use Rattle.netlink_packet_core_grammar.specs.Bytes.{put_at};
 ghost use Rattle.netlink_packet_core_grammar.specs.Numbers.{le2};
 ghost use Rattle.netlink_packet_core_numbers.specs.Errors.{is_memory};
@@ -64,7 +64,7 @@ impl<T: ByteView> NlaBuffer<T> {
     pub fn new_checked(buffer: T) -> Result<Self, DecodeError>
     where
         T: Drop,
-        ensures whole { IsOk result ↔ IsAttribute (T.bytes buffer) }
+        ensures whole { IsOk result ↔ BeginsWithAttribute (T.bytes buffer) }
         ensures ok { IfOk result (λ view. storage view ≡ buffer) }
         ensures err { IfErr result (λ e. is_memory e ≡ false) }
     {
@@ -82,7 +82,7 @@ impl<T: ByteView> NlaBuffer<T> {
     /// [`DecodeError::nla_length_mismatch`] if the length exceeds the storage;
     /// [`DecodeError::nla_invalid_length`] if it is under 4. Allocates nothing.
     pub fn check_buffer_length(&self) -> Result<(), DecodeError>
-        ensures whole { IsOk result ↔ IsAttribute (T.bytes (storage self.now)) }
+        ensures whole { IsOk result ↔ BeginsWithAttribute (T.bytes (storage self.now)) }
         ensures err { IfErr result (λ e. is_memory e ≡ false) }
     {
         let bytes = self.buffer.as_bytes();
@@ -110,7 +110,7 @@ impl<T: ByteView> NlaBuffer<T> {
 
     /// Returns the length of the payload.
     pub fn value_length(&self) -> usize
-        requires { IsAttribute (T.bytes (storage self.now)) }
+        requires { BeginsWithAttribute (T.bytes (storage self.now)) }
         ensures { result ≡ viewed_length (T.bytes (storage self.now)) - 4 }
     {
         self.length() as usize - NLA_HEADER_SIZE
@@ -153,7 +153,7 @@ impl<T: ByteView> NlaBuffer<T> {
 impl<'a> NlaBuffer<&'a [u8]> {
     /// Returns the payload, for as long as the storage lives.
     pub fn value(&self) -> &'a [u8]
-        requires { IsAttribute (storage self.now).now }
+        requires { BeginsWithAttribute (storage self.now).now }
         ensures { result.now ≡ viewed_payload (storage self.now).now }
     {
         let buffer = self.buffer;
@@ -164,7 +164,7 @@ impl<'a> NlaBuffer<&'a [u8]> {
 impl<'a> NlaBuffer<&'a mut [u8]> {
     /// Returns the payload.
     pub fn value(&self) -> &[u8]
-        requires { IsAttribute (storage self.now).now }
+        requires { BeginsWithAttribute (storage self.now).now }
         ensures { result.now ≡ viewed_payload (storage self.now).now }
     {
         &self.buffer[NLA_HEADER_SIZE..self.length() as usize]
@@ -174,7 +174,7 @@ impl<'a> NlaBuffer<&'a mut [u8]> {
 impl NlaBuffer<Vec<u8>> {
     /// Returns the payload.
     pub fn value(&self) -> &[u8]
-        requires { IsAttribute (storage self.now).items }
+        requires { BeginsWithAttribute (storage self.now).items }
         ensures { result.now ≡ viewed_payload (storage self.now).items }
     {
         &self.buffer.as_slice()[NLA_HEADER_SIZE..self.length() as usize]
@@ -233,7 +233,7 @@ impl<T: ByteLend> NlaBuffer<T> {
 
     /// Borrows the payload, for writing.
     pub fn value_mut(&mut self) -> &mut [u8]
-        requires { IsAttribute (T.ByteView.bytes (storage self.old)) }
+        requires { BeginsWithAttribute (T.ByteView.bytes (storage self.old)) }
         ensures* writes_back { sem 𝓛 (Lends (the_row T.row) (Array u8 0) self.entry result
             (with_value T.with_part self.old)) }
         ensures value { result.now ≡ viewed_payload (T.ByteView.bytes (storage self.old)) }

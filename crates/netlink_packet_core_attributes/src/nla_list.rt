@@ -1,6 +1,6 @@
 ghost use Rattle.std.specs.Prelude.{◌≡◌, ◌≤◌, ◌++◌, true, length, drop};
 ghost use Rattle.std.specs.Iterator.{item_count};
-ghost use Rattle.netlink_packet_core_grammar.specs.AttributeViews.{IsAttribute, after_first};
+ghost use Rattle.netlink_packet_core_grammar.specs.AttributeViews.{BeginsWithAttribute, after_first};
 ghost use Rattle.netlink_packet_core_grammar.specs.Numbers.{as_usize};
 ghost use Rattle.netlink_packet_core_attributes.specs.Lists.{text_by, size_by, all_fit_by};
 ghost use Rattle.netlink_packet_core_attributes.specs.Walks.{attribute_walk, StepsOnWalk};
@@ -64,7 +64,7 @@ impl<'a> Iterator for NlasIterator<&'a [u8]> {
 
 /// Returns the bytes after the first attribute and its padding.
 pub fn skip_first(bytes: &[u8]) -> &[u8]
-    requires { IsAttribute bytes.now }
+    requires { BeginsWithAttribute bytes.now }
     ensures { result.now ≡ after_first bytes.now }
 {
     let end = nla_align(read_u16(bytes, 0) as usize);

@@ -4,7 +4,7 @@ use Rattle.std.specs.Prelude.{◌&&◌, nat_le, option_map}
 use Rattle.std.proofs.lemmas.Bool.{and_parts, and_from, le-leb, leb-true}
 use Rattle.std.proofs.lemmas.Option.{cond_some}
 use Rattle.std.proofs.lemmas.List.{take_at, drop_at, length-replicate, take-append-le, drop-append-le, length-take-le}
-use Rattle.netlink_packet_core_grammar.specs.Attributes.{nla_align, Attribute, attribute_length, zeros, attribute_text, list_text, cut_attribute, first_attribute, if_some, IsAttributeList, attributes_within, attributes_of}
+use Rattle.netlink_packet_core_grammar.specs.Attributes.{nla_align, Attribute, attribute_length, zeros, attribute_text, list_text, attribute_of_size, first_attribute, if_some, IsAttributeList, attributes_within, attributes_of}
 
 pub record IsCut (size kind : ℕ) (bytes : List ℕ) (e : Attribute) (rest : List ℕ) : Type 0 where
   pub small : 4 ≤ size
@@ -13,7 +13,7 @@ pub record IsCut (size kind : ℕ) (bytes : List ℕ) (e : Attribute) (rest : Li
   pub payload_is : take (size - 4) bytes ≡ e.payload
   pub rest_is : drop (nla_align size - 4) bytes ≡ rest
 
-pub cut_is : (size kind : ℕ) (bytes : List ℕ) (e : Attribute) (rest : List ℕ) → cut_attribute size kind bytes ≡ Some (e, rest) → IsCut size kind bytes e rest
+pub cut_is : (size kind : ℕ) (bytes : List ℕ) (e : Attribute) (rest : List ℕ) → attribute_of_size size kind bytes ≡ Some (e, rest) → IsCut size kind bytes e rest
 cut_is size kind bytes e rest h =
     let g = cond_some (nat_le 4 size && nat_le size (4 + length bytes)) (record { kind = kind; payload = take (size - 4) bytes }, drop (nla_align size - 4) bytes) (e, rest) h in
     let b = and_parts (nat_le 4 size) (nat_le size (4 + length bytes)) g.0 in
@@ -25,7 +25,7 @@ cut_is size kind bytes e rest h =
       rest_is = ap (λ (x : Attribute × List ℕ). x.1) g.1;
     }
 
-pub cut_from : (size kind : ℕ) (bytes : List ℕ) (e : Attribute) (rest : List ℕ) → IsCut size kind bytes e rest → cut_attribute size kind bytes ≡ Some (e, rest)
+pub cut_from : (size kind : ℕ) (bytes : List ℕ) (e : Attribute) (rest : List ℕ) → IsCut size kind bytes e rest → attribute_of_size size kind bytes ≡ Some (e, rest)
 cut_from size kind bytes e rest f =
     let b : (nat_le 4 size && nat_le size (4 + length bytes)) ≡ true = and_from _ _ (le-leb _ _ f.small) (le-leb _ _ f.large) in
     rw (b, f.kind_is, f.payload_is, f.rest_is) refl

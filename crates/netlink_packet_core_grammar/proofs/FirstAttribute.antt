@@ -3,9 +3,9 @@ use Rattle.std.proofs.Common.{◌≡◌, ℕ, ◌+◌, ◌-◌, ◌*◌, ◌<◌
 use Rattle.std.specs.Prelude.{◌&&◌, nat_le, option_map, slice_index}
 use Rattle.std.proofs.lemmas.Bool.{and_left, and_right, lt-leb, cases_lt}
 use Rattle.std.proofs.lemmas.List.{drop-drop}
-use Rattle.netlink_packet_core_grammar.specs.Attributes.{nla_align, Attribute, cut_attribute, first_attribute, attributes_of, IsAttributeList}
+use Rattle.netlink_packet_core_grammar.specs.Attributes.{nla_align, Attribute, attribute_of_size, first_attribute, attributes_of, IsAttributeList}
 use Rattle.netlink_packet_core_grammar.specs.Numbers.{u16_at}
-use Rattle.netlink_packet_core_grammar.specs.AttributeViews.{viewed_length, viewed_kind, viewed_attribute, IsAttribute, after_first}
+use Rattle.netlink_packet_core_grammar.specs.AttributeViews.{viewed_length, viewed_kind, viewed_attribute, BeginsWithAttribute, after_first}
 use Rattle.netlink_packet_core_grammar.proofs.Attributes.{IsCut, cut_from, attributes_cut, cut_attributes, no_first_attribute, got, got_is}
 
 -- the two numbers of a header, as sums
@@ -28,7 +28,7 @@ unfolding first_attribute
 first_attribute_short (a ∷ b ∷ c ∷ d ∷ bytes) h = absurd (omega arith)
 first_attribute_short bytes h = refl
 
-cut_none : (size kind : ℕ) (bytes : List ℕ) → (nat_le 4 size && nat_le size (4 + length bytes)) ≡ false → cut_attribute size kind bytes ≡ None
+cut_none : (size kind : ℕ) (bytes : List ℕ) → (nat_le 4 size && nat_le size (4 + length bytes)) ≡ false → attribute_of_size size kind bytes ≡ None
 cut_none size kind bytes h = rw h refl
 
 first_attribute_small : (bytes : List ℕ) → 4 ≤ length bytes → length_at bytes < 4 → first_attribute bytes ≡ None
@@ -56,7 +56,7 @@ first_attribute_at (a ∷ b ∷ c ∷ d ∷ bytes) rest h s t r =
 first_attribute_at bytes rest h s t r = absurd (omega arith)
 
 -- bytes that begin with a whole attribute have this first attribute
-pub first_attribute_is : (bytes : List ℕ) → IsAttribute bytes → first_attribute bytes ≡ Some (viewed_attribute bytes, after_first bytes)
+pub first_attribute_is : (bytes : List ℕ) → BeginsWithAttribute bytes → first_attribute bytes ≡ Some (viewed_attribute bytes, after_first bytes)
 first_attribute_is bytes a =
     let l = length_sum bytes in
     let k = kind_sum bytes in
@@ -65,7 +65,7 @@ first_attribute_is bytes a =
     ∙ ap (λ n. Some (record { kind = viewed_kind bytes; payload = take (n - 4) (drop 4 bytes) }, after_first bytes)) (sym l)
 
 -- other bytes have no first attribute
-pub first_attribute_none : (bytes : List ℕ) → (IsAttribute bytes → ⊥) → first_attribute bytes ≡ None
+pub first_attribute_none : (bytes : List ℕ) → (BeginsWithAttribute bytes → ⊥) → first_attribute bytes ≡ None
 first_attribute_none bytes n =
     let l = length_sum bytes in
     elim (cases_lt (length bytes) 4) [

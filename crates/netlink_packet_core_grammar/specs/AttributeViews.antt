@@ -20,7 +20,7 @@ abbrev pub viewed_attribute : List ℕ → Attribute
 viewed_attribute b = record { kind = viewed_kind b; payload = viewed_payload b }
 
 -- The byte string begins with a whole attribute.
-pub record IsAttribute (b : List ℕ) : Type 0 where
+pub record BeginsWithAttribute (b : List ℕ) : Type 0 where
   pub has_header : 4 ≤ length b
   pub covers_header : 4 ≤ viewed_length b
   pub within : viewed_length b ≤ length b

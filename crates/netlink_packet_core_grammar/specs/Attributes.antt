@@ -24,7 +24,8 @@ attribute_length e = 4 + length e.payload
 abbrev pub zeros : ℕ → List ℕ
 zeros n = replicate n 0
 
--- The header of an attribute: the length and the kind, each as 2 bytes, little-endian.
+-- The header of an attribute: the length and the kind, each as 2 bytes, little-endian. The second byte of a number from
+-- 65536 on is no byte: such an attribute doesn't fit.
 abbrev pub attribute_header : ℕ → ℕ → List ℕ
 attribute_header size kind = size % 256 ∷ size / 256 ∷ kind % 256 ∷ kind / 256 ∷ []
 
@@ -44,16 +45,18 @@ abbrev pub list_size : List Attribute → ℕ
 list_size [] = 0
 list_size (e ∷ es) = nla_align (attribute_length e) + list_size es
 
--- The attribute of this size and kind whose payload is at the start of the bytes, and the bytes after its padding.
-abbrev pub cut_attribute : ℕ → ℕ → List ℕ → Option (Attribute × List ℕ)
-cut_attribute size kind bytes =
+-- The attribute of this size and kind whose payload is at the start of the bytes, and the bytes after its padding, which
+-- may be missing at the end, and isn't looked at. The size counts the 4 bytes of the header, which the bytes don't have. None
+-- if it is under 4 or over 4 + the number of bytes.
+abbrev pub attribute_of_size : ℕ → ℕ → List ℕ → Option (Attribute × List ℕ)
+attribute_of_size size kind bytes =
     cond (nat_le 4 size && nat_le size (4 + length bytes))
     (Some (record { kind = kind; payload = take (size - 4) bytes }, drop (nla_align size - 4) bytes))
     None
 
 -- The attribute at the start of the bytes, and the bytes after its padding; None if they begin with no whole attribute.
 unfoldable pub first_attribute : List ℕ → Option (Attribute × List ℕ)
-first_attribute (a ∷ b ∷ c ∷ d ∷ bytes) = cut_attribute (a + 256 * b) (c + 256 * d) bytes
+first_attribute (a ∷ b ∷ c ∷ d ∷ bytes) = attribute_of_size (a + 256 * b) (c + 256 * d) bytes
 first_attribute _ = None
 
 -- The bytes are a list of exactly these attributes.
@@ -66,7 +69,7 @@ abbrev pub if_some : {A B : Type 0} → Option A → (A → Option B) → Option
 if_some None f = None
 if_some (Some x) f = f x
 
--- The attributes of which the bytes are a list, found in at most n steps; None if they are no list.
+-- The attributes of which the bytes are a list; None if they aren't a list of at most n attributes.
 unfoldable pub attributes_within : ℕ → List ℕ → Option (List Attribute)
 attributes_within n [] = Some []
 attributes_within zero (b ∷ bytes) = None

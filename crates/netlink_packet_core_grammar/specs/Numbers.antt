@@ -1,7 +1,7 @@
 -- Numbers as bytes, in either byte order, and the number at an offset of a byte string.
 use Rattle.std.specs.Prelude.{ℕ, ℤ, suc, pos, negsuc, ◌+◌, ◌-◌, ◌*◌, ◌/◌, ◌^◌, cond, nat_lt, List, [], ◌∷◌, min}
 use Rattle.std.specs.Prelude.{slice_index}
-use Rattle.std.specs.Int.{w16, w32, w64, w128, byte_at, from_le_bytes, to_le_bytes, to_be_bytes}
+use Rattle.std.specs.Int.{w16, w32, w128, byte_at, from_le_bytes, to_le_bytes, to_be_bytes}
 
 -- A number as 2 bytes, little-endian. In `le2`, `le4` and `le8` the last byte is the rest of the number, unreduced: it
 -- is above 255 if the number is too large for the bytes. So the encoding determines a number of any size, which laws
@@ -44,11 +44,11 @@ unfoldable pub signed_bits : ℤ → ℕ
 signed_bits (pos n) = cond (nat_lt n 2147483648) n (4294967296 + 2 * n)
 signed_bits (negsuc n) = cond (nat_lt n 2147483648) (4294967296 - suc n) (4294967297 + 2 * n)
 
--- The little-endian number of 2 bytes at offset i.
+-- The little-endian number of 2 bytes at offset i. A byte after the end counts as 0.
 unfoldable pub u16_at : ℕ → List ℕ → ℕ
 u16_at i b = from_le_bytes w16 (slice_index b i ∷ slice_index b (i + 1) ∷ [])
 
--- The little-endian number of 4 bytes at offset i.
+-- The little-endian number of 4 bytes at offset i. A byte after the end counts as 0.
 unfoldable pub u32_at : ℕ → List ℕ → ℕ
 u32_at i b = from_le_bytes w32 (slice_index b i ∷ slice_index b (i + 1) ∷ slice_index b (i + 2) ∷
     slice_index b (i + 3) ∷ [])

@@ -1,27 +1,27 @@
 //! Laws of the definitions. No function here makes a call.
 #![tactic(auto, using(crate::proofs::Together::laws))]
 
-ghost use Rattle.netlink_packet_core_grammar.specs.Laws.{OneCut, AttributesAreCut, Joined, TextIsCut, FirstIsViewed};
+ghost use Rattle.netlink_packet_core_grammar.specs.Laws.{SplittingIsUnique, SplittingIsTheRelation, JoinedListsAreSplit, EncodingsAreSplit, FirstIsViewed};
 ghost use Rattle.netlink_packet_core_grammar.specs.Laws.{FirstIsWithin, WrittenIsFirst, NumbersAreIndependent};
 
 /// A byte string is a list of attributes in at most one way.
-pub fn attributes_are_cut_in_one_way()
-    ensures { OneCut }
+pub fn attributes_are_split_in_one_way()
+    ensures { SplittingIsUnique }
 {}
 
 /// The function that cuts bytes into attributes computes the relation.
 pub fn attributes_are_the_relation()
-    ensures { AttributesAreCut }
+    ensures { SplittingIsTheRelation }
 {}
 
 /// Bytes after a list whose size is a multiple of 4 are cut into attributes independently of it.
 pub fn lists_are_joined()
-    ensures { Joined }
+    ensures { JoinedListsAreSplit }
 {}
 
 /// The encoding of attributes is cut into the same attributes, and its length is their size.
-pub fn texts_are_cut()
-    ensures { TextIsCut }
+pub fn encodings_are_split()
+    ensures { EncodingsAreSplit }
 {}
 
 /// The first attribute of a byte string is the one that a view of it shows, and the rest is what

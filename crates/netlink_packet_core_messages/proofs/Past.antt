@@ -2,7 +2,7 @@
 use Rattle.std.proofs.Common.{◌≡◌, ℕ, ◌+◌, ◌-◌, ◌<◌, ◌≤◌, false, List, ◌++◌, length, get_or, take, drop, refl, sym, ap, ◌∙◌, arith, length-append, length-drop, Option, None}
 use Rattle.std.proofs.lemmas.List.{get_or-take, get_or_append_left, drop-append-le, drop-take, take_at, length-take-le}
 use Rattle.netlink_packet_core_grammar.specs.Numbers.{u16_at, u32_at}
-use Rattle.netlink_packet_core_grammar.specs.Frames.{IsFrame, frame_length, frame_type, frame_body, is_frame}
+use Rattle.netlink_packet_core_grammar.specs.Frames.{BeginsWithFrame, frame_length, frame_type, frame_body, begins_with_frame}
 use Rattle.netlink_packet_core_grammar.specs.Laws.{NumbersAreIndependent}
 use Rattle.netlink_packet_core_messages.specs.Headers.{header_of}
 use Rattle.netlink_packet_core_messages.specs.Messages.{read_message}
@@ -26,7 +26,7 @@ type_agrees : (c d : List ℕ) → AgreeOn16 c d → u16_at 4 c ≡ u16_at 4 d
 unfolding header_of
 type_agrees c d a = ap (λ h. h.message_type) (header_agrees c d a)
 
-same_reading : {V : Type 0} (reads : ℕ → List ℕ → Option V) (c d : List ℕ) → is_frame c ≡ is_frame d → frame_type c ≡ frame_type d → frame_body c ≡ frame_body d → header_of c ≡ header_of d → read_message reads c ≡ read_message reads d
+same_reading : {V : Type 0} (reads : ℕ → List ℕ → Option V) (c d : List ℕ) → begins_with_frame c ≡ begins_with_frame d → frame_type c ≡ frame_type d → frame_body c ≡ frame_body d → header_of c ≡ header_of d → read_message reads c ≡ read_message reads d
 same_reading reads c d e1 e2 e3 e4 = rw (e1, e2, e3, e4) refl
 
 cut_agrees : (c rest : List ℕ) (n : ℕ) → 16 ≤ n → n ≤ length c → AgreeOn16 (take n c ++ rest) c
@@ -42,7 +42,7 @@ body_agrees c rest n l m =
     let s = length-take-le (n - 16) (drop 16 c) (omega (arith, length-drop 16 c)) in
     rw d (take_at (take (n - 16) (drop 16 c)) rest (n - 16) s)
 
-pub cut_frame : (c rest : List ℕ) → IsFrame c → IsFrame (take (frame_length c) c ++ rest)
+pub cut_frame : (c rest : List ℕ) → BeginsWithFrame c → BeginsWithFrame (take (frame_length c) c ++ rest)
 cut_frame c rest f =
     let k = length-take-le (frame_length c) c f.within in
     let l = length_agrees _ _ (cut_agrees c rest (frame_length c) f.covers_header f.within) in
@@ -53,12 +53,12 @@ cut_frame c rest f =
       within = omega (arith, l, k, a);
     }
 
-pub past_body : (c rest : List ℕ) → IsFrame c → frame_body (take (frame_length c) c ++ rest) ≡ frame_body c
+pub past_body : (c rest : List ℕ) → BeginsWithFrame c → frame_body (take (frame_length c) c ++ rest) ≡ frame_body c
 past_body c rest f =
     let l = length_agrees _ _ (cut_agrees c rest (frame_length c) f.covers_header f.within) in
     ap (λ n. take (n - 16) (drop 16 (take (frame_length c) c ++ rest))) l ∙ body_agrees c rest (frame_length c) f.covers_header f.within
 
-pub past_frame : {V : Type 0} (reads : ℕ → List ℕ → Option V) (c rest : List ℕ) → IsFrame c → read_message reads (take (frame_length c) c ++ rest) ≡ read_message reads c
+pub past_frame : {V : Type 0} (reads : ℕ → List ℕ → Option V) (c rest : List ℕ) → BeginsWithFrame c → read_message reads (take (frame_length c) c ++ rest) ≡ read_message reads c
 past_frame reads c rest f =
     let g = cut_agrees c rest (frame_length c) f.covers_header f.within in
     same_reading reads (take (frame_length c) c ++ rest) c
@@ -70,16 +70,16 @@ past_frame reads c rest f =
 cut_length : (c : List ℕ) (n : ℕ) → 16 ≤ n → n ≤ length c → u32_at 0 (take n c) ≡ u32_at 0 c
 cut_length c n l m = length_agrees (take n c) c (λ i h. get_or-take n c i 0 (omega arith))
 
-not_whole : (c : List ℕ) (n : ℕ) → IsFrame c → n < frame_length c → IsFrame (take n c) → ⊥
+not_whole : (c : List ℕ) (n : ℕ) → BeginsWithFrame c → n < frame_length c → BeginsWithFrame (take n c) → ⊥
 not_whole c n f h g =
     let k : length (take n c) ≡ n = (let w = f.within in length-take-le n c (omega arith)) in
     let l = cut_length c n (let b = g.has_header in omega arith) (let w = f.within in omega arith) in
     omega arith
 
-none_read : {V : Type 0} (reads : ℕ → List ℕ → Option V) (c : List ℕ) → is_frame c ≡ false → read_message reads c ≡ None
+none_read : {V : Type 0} (reads : ℕ → List ℕ → Option V) (c : List ℕ) → begins_with_frame c ≡ false → read_message reads c ≡ None
 none_read reads c e = rw e refl
 
-pub cut_refused : {V : Type 0} (reads : ℕ → List ℕ → Option V) (c : List ℕ) (n : ℕ) → IsFrame c → n < frame_length c → read_message reads (take n c) ≡ None
+pub cut_refused : {V : Type 0} (reads : ℕ → List ℕ → Option V) (c : List ℕ) (n : ℕ) → BeginsWithFrame c → n < frame_length c → read_message reads (take n c) ≡ None
 cut_refused reads c n f h = none_read reads (take n c) (is_frame-false _ (not_whole c n f h))
 
 pub short_refused : NumbersAreIndependent → {V : Type 0} (reads : ℕ → List ℕ → Option V) (c rest : List ℕ) → 16 ≤ length c → frame_length c < 16 → read_message reads (c ++ rest) ≡ None

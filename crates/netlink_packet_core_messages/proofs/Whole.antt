@@ -2,7 +2,7 @@
 use Rattle.std.proofs.Common.{◌≡◌, ℕ, ◌+◌, ◌-◌, List, ◌++◌, length, refl, ◌∙◌, arith, append_assoc, length-append, Option, Some, true}
 use Rattle.std.proofs.lemmas.List.{take_at, drop_at}
 use Rattle.netlink_packet_core_grammar.specs.Numbers.{u16_at}
-use Rattle.netlink_packet_core_grammar.specs.Frames.{IsFrame, frame_body, is_frame}
+use Rattle.netlink_packet_core_grammar.specs.Frames.{BeginsWithFrame, frame_body, begins_with_frame}
 use Rattle.netlink_packet_core_messages.specs.declared.message.NetlinkMessage.{NetlinkMessage}
 use Rattle.netlink_packet_core_messages.specs.declared.header.NetlinkHeader.{NetlinkHeader}
 use Rattle.netlink_packet_core_messages.specs.Headers.{header_of, header_text}
@@ -14,7 +14,7 @@ use Rattle.netlink_packet_core_messages.proofs.Frames.{is_frame-true}
 use Rattle.netlink_packet_core_messages.proofs.Headers.{length_at, type_at, header_at, length-header_text}
 use Rattle.netlink_packet_core_messages.proofs.Payloads.{payload_reads}
 
-pub whole : (h : NetlinkHeader) (t rest : List ℕ) → h.length ≡ 16 + length t → IsFrame (header_text h ++ (t ++ rest))
+pub whole : (h : NetlinkHeader) (t rest : List ℕ) → h.length ≡ 16 + length t → BeginsWithFrame (header_text h ++ (t ++ rest))
 whole h t rest e =
     let l = length_at h (t ++ rest) in
     let n = length-header_text h in
@@ -30,7 +30,7 @@ body h t rest e =
     let k : length t ≡ h.length - 16 = omega arith in
     rw (length_at h (t ++ rest), d) (take_at t rest (h.length - 16) k)
 
-read_at : {V : Type 0} (reads : ℕ → List ℕ → Option V) (c b : List ℕ) (t : ℕ) (h : NetlinkHeader) (p : NetlinkPayload V) → is_frame c ≡ true → u16_at 4 c ≡ t → frame_body c ≡ b → header_of c ≡ h → read_payload reads t b ≡ Some p → read_message reads c ≡ Some (record { header = h; payload = p })
+read_at : {V : Type 0} (reads : ℕ → List ℕ → Option V) (c b : List ℕ) (t : ℕ) (h : NetlinkHeader) (p : NetlinkPayload V) → begins_with_frame c ≡ true → u16_at 4 c ≡ t → frame_body c ≡ b → header_of c ≡ h → read_payload reads t b ≡ Some p → read_message reads c ≡ Some (record { header = h; payload = p })
 read_at reads c b t h p e1 e2 e3 e4 e5 = rw (e1, e2, e3, e4, e5) refl
 
 pub message_reads : {A V : Type 0} (e : A → TypedBody) (fits : A → Type 0) (reads : ℕ → List ℕ → Option V) (value : A → V) → ((x : A) → fits x → reads (e x).0 (e x).1 ≡ Some (value x)) → ((x : A) → IsInner (e x).0) → (m : NetlinkMessage A) (rest : List ℕ) → HasCode m.payload → OfInner fits m.payload → IsFinalized e m → read_message reads (message_text e m ++ rest) ≡ Some (message_value value m)

@@ -8,7 +8,7 @@ use Rattle.std.proofs.lemmas.Bool.{and_parts, leb-true}
 use Rattle.std.proofs.lemmas.Bool.Decides.{nat_tests}
 use Rattle.std.proofs.lemmas.Int.{of_z-to_z}
 use Rattle.netlink_packet_core_grammar.specs.Numbers.{u32_at, le4}
-use Rattle.netlink_packet_core_grammar.specs.Frames.{frame_length, frame_type, frame_body, frame_text, is_frame}
+use Rattle.netlink_packet_core_grammar.specs.Frames.{frame_length, frame_type, frame_body, frame_text, begins_with_frame}
 use Rattle.netlink_packet_core_grammar.specs.Attributes.{nla_align, zeros}
 use Rattle.netlink_packet_core_messages.specs.Codes.{code_of, code_text, raw_code, nonzero_code}
 use Rattle.netlink_packet_core_messages.specs.declared.message.NetlinkMessage.{NetlinkMessage}
@@ -158,7 +158,7 @@ text_by h c t w x e f g l b =
 
 pub message_written : {A V : Type 0} (reads : ℕ → List ℕ → Option V) (value : A → V) (entry : A → TypedBody) (inner_body c : List ℕ) (m : NetlinkMessage A) → AllBytes c → read_message reads c ≡ Some (message_value value m) → ((x : A) → reads (frame_type c) (frame_body c) ≡ Some (value x) → entry x ≡ (frame_type c, inner_body)) → message_text entry (finalized entry m) ≡ unpadded_text c (written_body inner_body (frame_type c) (frame_body c))
 message_written reads value entry inner_body c m h e k =
-    let r = read_as (is_frame c) (header_of c) (read_payload reads (frame_type c) (frame_body c)) (message_value value m) e in
+    let r = read_as (begins_with_frame c) (header_of c) (read_payload reads (frame_type c) (frame_body c)) (message_value value m) e in
     let b : AllBytes (frame_body c) = AllBytes-take (frame_length c - 16) (drop 16 c) (AllBytes-drop 16 c h) in
     let p = payload_written reads value entry inner_body (frame_type c) (frame_body c) m.payload b r.payload_is k in
     let l : 16 ≤ length c = leb-true _ _ (and_parts _ _ r.is_whole).0 in

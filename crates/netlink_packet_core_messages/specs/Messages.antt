@@ -1,7 +1,7 @@
 -- Whole messages: a header and a payload.
 use Rattle.std.specs.Prelude.{◌≡◌, ℕ, ◌+◌, List, ◌++◌, length, take, drop, Option, None, option_map, cond}
 use Rattle.netlink_packet_core_grammar.specs.Numbers.{le4}
-use Rattle.netlink_packet_core_grammar.specs.Frames.{frame_length, frame_type, frame_body, is_frame}
+use Rattle.netlink_packet_core_grammar.specs.Frames.{frame_length, frame_type, frame_body, begins_with_frame}
 use Rattle.netlink_packet_core_messages.specs.declared.message.NetlinkMessage.{NetlinkMessage}
 use Rattle.netlink_packet_core_messages.specs.Headers.{header_of, header_text}
 use Rattle.netlink_packet_core_messages.specs.Payloads.{payload_value, payload_entry, read_payload}
@@ -14,7 +14,7 @@ message_value value m = record { header = m.header; payload = payload_value valu
 -- The message of the frame at the start of the bytes, if the frame is whole and accepted.
 abbrev pub read_message : {V : Type 0} → (ℕ → List ℕ → Option V) → List ℕ → Option (NetlinkMessage V)
 read_message reads c =
-    cond (is_frame c) (option_map (λ p. record {
+    cond (begins_with_frame c) (option_map (λ p. record {
       header = header_of c;
       payload =
           p;

@@ -2,7 +2,7 @@ ghost use Rattle.std.specs.Prelude.{◌≡◌, ◌↔◌, ◌-◌, ◌≤◌, le
 ghost use Rattle.std.specs.Borrow.{Lends, Array, sem, u8};
 ghost use denote.Param.{number};
 ghost use Rattle.netlink_packet_core_grammar.specs.Bytes.{put_at};
-ghost use Rattle.netlink_packet_core_grammar.specs.Frames.{IsFrame, frame_length, frame_type, frame_body};
+ghost use Rattle.netlink_packet_core_grammar.specs.Frames.{BeginsWithFrame, frame_length, frame_type, frame_body};
 ghost use Rattle.netlink_packet_core_grammar.specs.Numbers.{u16_at, u32_at, le2, le4};
 ghost use Rattle.netlink_packet_core_numbers.specs.Errors.{is_memory};
 ghost use Rattle.netlink_packet_core_messages.specs.NetlinkBuffers.{storage, view_of};
@@ -63,7 +63,7 @@ impl<T: ByteView> NetlinkBuffer<T> {
     pub fn new_checked(buffer: T) -> Result<Self, DecodeError>
     where
         T: Drop,
-        ensures whole { IsOk result ↔ IsFrame (T.bytes buffer) }
+        ensures whole { IsOk result ↔ BeginsWithFrame (T.bytes buffer) }
         ensures ok { IfOk result (λ view. storage view ≡ buffer) }
         ensures err { IfErr result (λ e. is_memory e ≡ false) }
     {
@@ -121,7 +121,7 @@ impl<T: ByteView> NetlinkBuffer<T> {
 
     /// Returns the size of the body in bytes.
     pub fn payload_length(&self) -> usize
-        requires { IsFrame (T.bytes (storage self.now)) }
+        requires { BeginsWithFrame (T.bytes (storage self.now)) }
         ensures { result ≡ frame_length (T.bytes (storage self.now)) - 16 }
     {
         self.length() as usize - NETLINK_HEADER_LEN
@@ -132,7 +132,7 @@ impl<'a> NetlinkBuffer<&'a [u8]> {
     /// Returns the body, the bytes after the header up to the length of the frame, for as long as
     /// the storage lives.
     pub fn payload(&self) -> &'a [u8]
-        requires { IsFrame (storage self.now).now }
+        requires { BeginsWithFrame (storage self.now).now }
         ensures { result.now ≡ frame_body (storage self.now).now }
     {
         let buffer = self.buffer;
@@ -143,7 +143,7 @@ impl<'a> NetlinkBuffer<&'a [u8]> {
 impl<'a> NetlinkBuffer<&'a mut [u8]> {
     /// Returns the body: the bytes after the header, up to the length of the frame.
     pub fn payload(&self) -> &[u8]
-        requires { IsFrame (storage self.now).now }
+        requires { BeginsWithFrame (storage self.now).now }
         ensures { result.now ≡ frame_body (storage self.now).now }
     {
         &self.buffer[NETLINK_HEADER_LEN..self.length() as usize]
@@ -153,7 +153,7 @@ impl<'a> NetlinkBuffer<&'a mut [u8]> {
 impl NetlinkBuffer<Vec<u8>> {
     /// Returns the body: the bytes after the header, up to the length of the frame.
     pub fn payload(&self) -> &[u8]
-        requires { IsFrame (storage self.now).items }
+        requires { BeginsWithFrame (storage self.now).items }
         ensures { result.now ≡ frame_body (storage self.now).items }
     {
         &self.buffer.as_slice()[NETLINK_HEADER_LEN..self.length() as usize]
@@ -217,7 +217,7 @@ impl<T: ByteLend> NetlinkBuffer<T> {
 
     /// Borrows the body, for writing. For a `&mut [u8]` write through `inner_mut` instead.
     pub fn payload_mut(&mut self) -> &mut [u8]
-        requires { IsFrame (T.ByteView.bytes (storage self.old)) }
+        requires { BeginsWithFrame (T.ByteView.bytes (storage self.old)) }
         ensures* writes_back { sem 𝓛 (Lends (the_row T.row (number 16) (number 0)) (Array u8 0)
             self.entry result (λ w. view_of (T.with_part (storage self.old) 16 w))) }
         ensures value { result.now ≡ frame_body (T.ByteView.bytes (storage self.old)) }

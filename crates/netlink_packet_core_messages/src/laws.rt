@@ -4,7 +4,7 @@
 
 ghost use Rattle.std.specs.Prelude.{◌≡◌, ◌↔◌, true, ◌≤◌, ◌<◌, ◌+◌, ◌-◌, ◌++◌, ℕ, List, Some, None, length, take, drop};
 ghost use Rattle.netlink_packet_core_grammar.specs.Attributes.{nla_align, zeros};
-ghost use Rattle.netlink_packet_core_grammar.specs.Frames.{IsFrame, frame_length, frame_type, frame_body, frame_text, is_frame};
+ghost use Rattle.netlink_packet_core_grammar.specs.Frames.{BeginsWithFrame, frame_length, frame_type, frame_body, frame_text, begins_with_frame};
 ghost use Rattle.netlink_packet_core_messages.specs.Headers.{header_of, header_text};
 ghost use Rattle.netlink_packet_core_messages.specs.Payloads.{OfInner, written_body};
 ghost use Rattle.netlink_packet_core_messages.specs.Messages.{message_text, message_size, message_value, read_message};
@@ -26,22 +26,22 @@ pub fn headers_are_written_back(bytes: &[u8])
     ensures { header_text (header_of bytes.now) ≡ take 16 bytes.now }
 {}
 
-/// `is_frame` decides whether bytes begin with a whole frame: there are at least 16, and the length
+/// `begins_with_frame` decides whether bytes begin with a whole frame: there are at least 16, and the length
 /// in the header is at least 16 and within the bytes.
 pub fn frames_are_checked(bytes: &[u8])
-    ensures { (is_frame bytes.now ≡ true) ↔ IsFrame bytes.now }
+    ensures { (begins_with_frame bytes.now ≡ true) ↔ BeginsWithFrame bytes.now }
 {}
 
 /// Bytes past the length of a frame don't change the message that is read from it.
 pub fn bytes_past_a_frame_change_nothing<I: NetlinkDeserializable>(frame: &[u8], rest: &[u8])
-    requires { IsFrame frame.now }
+    requires { BeginsWithFrame frame.now }
     ensures { read_message I.reads (take (frame_length frame.now) frame.now ++ rest.now)
         ≡ read_message I.reads frame.now }
 {}
 
 /// No message is read from bytes that end inside a frame.
 pub fn cut_frames_are_refused<I: NetlinkDeserializable>(frame: &[u8], end: usize)
-    requires whole { IsFrame frame.now }
+    requires whole { BeginsWithFrame frame.now }
     requires inside { end < frame_length frame.now }
     ensures { read_message I.reads (take end frame.now) ≡ None }
 {}
@@ -60,8 +60,8 @@ pub fn short_lengths_are_refused<I: NetlinkDeserializable>(header: &[u8], rest: 
 
 /// The body of a frame is the same whatever follows the frame.
 pub fn bodies_end_with_their_frame(frame: &[u8], rest: &[u8])
-    requires { IsFrame frame.now }
-    ensures whole { IsFrame (take (frame_length frame.now) frame.now ++ rest.now) }
+    requires { BeginsWithFrame frame.now }
+    ensures whole { BeginsWithFrame (take (frame_length frame.now) frame.now ++ rest.now) }
     ensures body { frame_body (take (frame_length frame.now) frame.now ++ rest.now)
         ≡ frame_body frame.now }
 {}
@@ -85,7 +85,7 @@ pub fn messages_read_back<I: NetlinkProtocol>(message: &NetlinkMessage<I>, rest:
 /// number is that of its header and its body.
 pub fn messages_are_frames<I: NetlinkProtocol>(message: &NetlinkMessage<I>, rest: &[u8])
     requires { IsFinalized I.entry message.now }
-    ensures whole { IsFrame (message_text I.entry message.now ++ rest.now) }
+    ensures whole { BeginsWithFrame (message_text I.entry message.now ++ rest.now) }
     ensures length { frame_length (message_text I.entry message.now ++ rest.now)
         ≡ length (message_text I.entry message.now) }
     ensures size { length (message_text I.entry message.now) ≡ message_size I.entry message.now }

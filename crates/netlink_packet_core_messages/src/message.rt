@@ -1,5 +1,5 @@
 ghost use Rattle.std.specs.Prelude.{◌≡◌, ◌≤◌, ◌<◌, ◌^◌, ◌++◌, Some, None, true, false, length, drop, IfOk, IfErr};
-ghost use Rattle.netlink_packet_core_grammar.specs.Frames.{IsFrame, frame_type, frame_body};
+ghost use Rattle.netlink_packet_core_grammar.specs.Frames.{BeginsWithFrame, frame_type, frame_body};
 ghost use Rattle.netlink_packet_core_grammar.specs.Numbers.{as_usize};
 ghost use Rattle.netlink_packet_core_messages.specs.NetlinkBuffers.{storage};
 ghost use Rattle.netlink_packet_core_messages.specs.Payloads.{payload_may_allocate, OfInner};
@@ -67,7 +67,7 @@ impl<I: NetlinkDeserializable> NetlinkMessage<I> {
     /// the protocol rejects the body. Either may be out of memory, and only if the value allocates.
     #[tactic(auto, using(crate::proofs::Frames::frames), unfolding(crate::specs::Headers::header_of))]
     pub fn parse(alloc: Global, buf: &NetlinkBuffer<&[u8]>) -> Result<Self, FrameError<I::Error>>
-        requires { IsFrame (storage buf.now).now }
+        requires { BeginsWithFrame (storage buf.now).now }
         ensures ok { IfOk result (λ m. read_message I.reads (storage buf.now).now
             ≡ Some (message_value I.value m)) }
         ensures err { IfErr result (λ e. is_out_of_memory I.is_memory e ≡ false
@@ -98,9 +98,9 @@ impl<I: NetlinkDeserializable> NetlinkMessage<I> {
         ensures err { IfErr result (λ e. is_out_of_memory I.is_memory e ≡ false
             → read_message I.reads buffer.now ≡ None) }
         ensures reported { IfErr result (λ e. is_out_of_memory I.is_memory e ≡ false
-            → IsFrame buffer.now → Determines I.determines e (frame_type buffer.now)
+            → BeginsWithFrame buffer.now → Determines I.determines e (frame_type buffer.now)
             (frame_body buffer.now)) }
-        ensures memory { IfErr result (λ e. is_out_of_memory I.is_memory e ≡ true → IsFrame buffer.now
+        ensures memory { IfErr result (λ e. is_out_of_memory I.is_memory e ≡ true → BeginsWithFrame buffer.now
             × (payload_may_allocate I.may_allocate (frame_type buffer.now)
             (frame_body buffer.now) ≡ true)) }
     {

@@ -1,6 +1,6 @@
 ghost use Rattle.std.specs.Prelude.{◌≡◌, ◌≤◌, length, slice_set};
 ghost use Rattle.netlink_packet_core.specs.Bytes.{put_at};
-ghost use Rattle.netlink_packet_core.specs.Frames.{IsFrame, frame_length};
+ghost use Rattle.netlink_packet_core.specs.Frames.{BeginsWithFrame, frame_length};
 ghost use Rattle.netlink_packet_core.specs.NetlinkBuffers.{storage};
 ghost use Rattle.netlink_packet_core.specs.Numbers.{le2};
 
@@ -33,7 +33,7 @@ fn set_flags_of(bytes: &mut [u8])
 
 /// Writes a body over a slice through `inner_mut`.
 fn set_first_of_body(bytes: &mut [u8])
-    requires frame { IsFrame bytes.old }
+    requires frame { BeginsWithFrame bytes.old }
     requires more { 17 ≤ frame_length bytes.old }
     ensures { bytes.new ≡ slice_set bytes.old 16 7 }
 {
@@ -46,7 +46,7 @@ fn set_first_of_body(bytes: &mut [u8])
 /// Returns a frame of 18 bytes, in a buffer of 20.
 #[tactic(auto, unfolding(netlink_packet_core_grammar::specs::Numbers::u32_at))]
 fn frame() -> [u8; 20]
-    ensures frame { IsFrame result }
+    ensures frame { BeginsWithFrame result }
     ensures more { 17 ≤ frame_length result }
 {
     [

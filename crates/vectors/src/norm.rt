@@ -4,6 +4,7 @@
 ghost use Rattle.std.specs.Prelude.{◌≡◌, ◌<◌, ◌≤◌, IfOk, string_bytes};
 ghost use Rattle.link_capture_grammar.specs.Captures.{texts};
 ghost use Rattle.vectors.specs.Norm.{expected_line, measure_text};
+ghost use Rattle.link_capture_grammar.specs.Body.{link_body};
 
 use crate::cases::{Case, LEAST_LIMIT, PIECES, read_case};
 use hex::encode;
@@ -37,7 +38,7 @@ fn measure_case(alloc: Global, case: &Case) -> Result<String, AllocError>
 /// Returns the texts of a capture, up to its first fault.
 fn texts_of(alloc: Global, case: &Case) -> Result<Vec<u8>, AllocError>
     requires { 16 ≤ case.now.limit }
-    ensures { IfOk result (λ text. text.items ≡ texts case.now.limit case.now.capture.items) }
+    ensures { IfOk result (λ text. text.items ≡ texts link_body case.now.limit case.now.capture.items) }
 {
     let mut text = Vec::new(alloc);
     let outcome = normalize_bytes(case.capture.as_slice(), case.limit, &mut text);

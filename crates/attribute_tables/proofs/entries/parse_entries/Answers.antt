@@ -3,10 +3,10 @@ use Rattle.std.specs.List.{All}
 use Rattle.std.proofs.lemmas.Grind.{elements}
 use Rattle.std.proofs.lemmas.Bool.Decides.{nat_tests}
 use Rattle.netlink_packet_core_grammar.specs.Attributes.{nla_align}
-use Rattle.netlink_packet_core_grammar.specs.AttributeViews.{IsAttribute, viewed_length, viewed_attribute, viewed_payload, after_first}
+use Rattle.netlink_packet_core_grammar.specs.AttributeViews.{BeginsWithAttribute, viewed_length, viewed_attribute, viewed_payload, after_first}
 use Rattle.netlink_packet_core.specs.Errors.{is_memory}
-use Rattle.attribute_tables_grammar.specs.Lists.{of_kind_one, is_of_kind_one, rewrite}
-use Rattle.attribute_tables_grammar.specs.LookUps.{rows_rule, only_one}
+use Rattle.attribute_tables_grammar.specs.Lists.{of_kind_one, is_of_kind_one, canonical_form}
+use Rattle.attribute_tables_grammar.specs.LookUps.{rows_rule, only_kind_one}
 use Rattle.attribute_tables.specs.Beginnings.{entries_begin_readable}
 use Rattle.attribute_tables.proofs.Beginnings.{entries-accepted, entries-allocating, entries-past}
 use Rattle.attribute_tables.proofs.KeptEntries.{Entries, EntriesDone, entries_start, entries_more, entries_past, entries_refused, entries_stopped, entries_done}
@@ -32,9 +32,9 @@ pub returns-in_err-read-clause-judged : goal.returns-in_err-read-clause-judged
 returns-in_err-read-clause-judged g c =
     let b = c.loop-rest.rest.now in
     let r = g.R.EntryReader.entry_row c.args.reader.now in
-    let h : IsAttribute b = c.in_ok-buf.ensures.whole.0 refl in
+    let h : BeginsWithAttribute b = c.in_ok-buf.ensures.whole.0 refl in
     let one : is_of_kind_one (viewed_attribute b) ≡ true = search rules in
-    let k : is_memory c.in_err-read.field-0.0 ≡ false → (rows_rule of_kind_one (only_one r)).accepted c.args.bytes.now ≡ false =
+    let k : is_memory c.in_err-read.field-0.0 ≡ false → (rows_rule of_kind_one (only_kind_one r)).accepted c.args.bytes.now ≡ false =
     λ m.
     let was : r.rule.accepted (viewed_payload b) ≡ false = rw c.in_ok-buf.ensures.ok at c.in_err-read.ensures.judged m in
     entries_refused c.readings_unfold.ensures r _ _ _ c.readings_determine_rules.ensures _ b h one was c.loop-rest.invariant.so_far in
@@ -45,7 +45,7 @@ returns-in_err-read-clause-memory g c =
     let b = c.loop-rest.rest.now in
     let r = g.R.EntryReader.entry_row c.args.reader.now in
     let may = g.R.EntryReader.may_allocate c.args.reader.now in
-    let h : IsAttribute b = c.in_ok-buf.ensures.whole.0 refl in
+    let h : BeginsWithAttribute b = c.in_ok-buf.ensures.whole.0 refl in
     let one : is_of_kind_one (viewed_attribute b) ≡ true = search rules in
     let k : is_memory c.in_err-read.field-0.0 ≡ true → entries_begin_readable r may c.args.bytes.now ≡ true =
     λ m.
@@ -58,7 +58,7 @@ returns-in_err-push-clause-memory g c =
     let b = c.loop-rest.rest.now in
     let r = g.R.EntryReader.entry_row c.args.reader.now in
     let may = g.R.EntryReader.may_allocate c.args.reader.now in
-    let h : IsAttribute b = c.in_ok-buf.ensures.whole.0 refl in
+    let h : BeginsWithAttribute b = c.in_ok-buf.ensures.whole.0 refl in
     let one : is_of_kind_one (viewed_attribute b) ≡ true = search rules in
     let was : r.rule.accepted (viewed_payload b) ≡ true = rw c.in_ok-buf.ensures.ok at c.in_ok-read.ensures.judged in
     let k = c.loop-rest.invariant.begun (entries-accepted c.first_attributes_are_within.ensures c.first_attributes_are_viewed.ensures r may b h one was) in
@@ -69,7 +69,7 @@ loop-rest-preserved g c =
     let b = c.loop-rest.rest.now in
     let r = g.R.EntryReader.entry_row c.args.reader.now in
     let may = g.R.EntryReader.may_allocate c.args.reader.now in
-    let h : IsAttribute b = c.in_ok-buf.ensures.whole.0 refl in
+    let h : BeginsWithAttribute b = c.in_ok-buf.ensures.whole.0 refl in
     let rest : length c.skip_first-rest.result.now ≡ length (after_first b) = ap length c.skip_first-rest.ensures in
     let within : length c.skip_first-rest.result.now ≤ length c.args.bytes.now = omega (arith, rest, length-drop (nla_align (viewed_length b)) b, c.loop-rest.invariant.within) in
     elim c.if-kind-eq-ENTRY.branch [
@@ -77,7 +77,7 @@ loop-rest-preserved g c =
           let v = w.in_ok-read.field-0 in
           let one : is_of_kind_one (viewed_attribute b) ≡ true = search rules in
           let was : r.rule.accepted (viewed_payload b) ≡ true = rw c.in_ok-buf.ensures.ok at w.in_ok-read.ensures.judged in
-          let entry : g.R.Value.Nla.entry v ≡ rewrite r (viewed_attribute b) = rw c.in_ok-buf.ensures.ok at w.in_ok-read.ensures.written.0 in
+          let entry : g.R.Value.Nla.entry v ≡ canonical_form r (viewed_attribute b) = rw c.in_ok-buf.ensures.ok at w.in_ok-read.ensures.written.0 in
           let inside : g.R.Value.Nla.inside_fits v ≡ r.rule.fits (viewed_payload b) = rw c.in_ok-buf.ensures.ok at w.in_ok-read.ensures.written.1 in
           let s = entries_more c.readings_unfold.ensures r g.R.Value.Nla.entry g.R.Value.Nla.inside_fits c.args.bytes.now c.loop-rest.list.items b v h one was entry inside c.loop-rest.invariant.so_far in
           let items : c.if-kind-eq-ENTRY.list.items ≡ c.loop-rest.list.items ++ v ∷ [] = ap (λ l. l.items) w.list-is ∙ w.in_ok-push.ensures.items in

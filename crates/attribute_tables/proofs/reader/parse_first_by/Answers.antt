@@ -1,5 +1,5 @@
 use Rattle.std.proofs.Common.{◌≡◌, true, false, refl, rules}
-use Rattle.netlink_packet_core_grammar.specs.AttributeViews.{IsAttribute}
+use Rattle.netlink_packet_core_grammar.specs.AttributeViews.{BeginsWithAttribute}
 use Rattle.netlink_packet_core.specs.Errors.{is_memory}
 use Rattle.attribute_tables_grammar.specs.Lists.{first_only}
 use Rattle.attribute_tables_grammar.specs.LookUps.{rows_rule}
@@ -16,7 +16,7 @@ pub returns-in_err-value-clause-judged : goal.returns-in_err-value-clause-judged
 returns-in_err-value-clause-judged g c =
     let rows = g.R.Reader.row_of c.args.reader.now in
     let b = c.args.bytes.now in
-    let h : IsAttribute b = c.in_ok-buf.ensures.whole.0 refl in
+    let h : BeginsWithAttribute b = c.in_ok-buf.ensures.whole.0 refl in
     let k : is_memory c.in_err-value.field-0.0 ≡ false → (rows_rule first_only rows).accepted b ≡ false =
     λ m.
     let was : is_accepted_by rows b ≡ false = rw c.in_ok-buf.ensures.ok at c.in_err-value.ensures.judged m in
@@ -28,7 +28,7 @@ was_first g c =
     let rows = g.R.Reader.row_of c.args.reader.now in
     let b = c.args.bytes.now in
     let v = c.in_ok-value.value in
-    let h : IsAttribute b = c.in_ok-buf.ensures.whole.0 refl in
+    let h : BeginsWithAttribute b = c.in_ok-buf.ensures.whole.0 refl in
     let a : is_accepted_by rows b ≡ true = rw c.in_ok-buf.ensures.ok at c.in_ok-value.ensures.judged in
     let entry : g.R.Value.Nla.entry v ≡ rewritten_by rows b = rw c.in_ok-buf.ensures.ok at c.in_ok-value.ensures.written.0 in
     let inside : g.R.Value.Nla.inside_fits v ≡ fits_by rows b = rw c.in_ok-buf.ensures.ok at c.in_ok-value.ensures.written.1 in

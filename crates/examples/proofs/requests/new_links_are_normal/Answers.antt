@@ -5,4 +5,4 @@ pub returns-clause-normal : goal.returns-clause-normal
 returns-clause-normal c = normal c.frames_are_judged.ensures c.captures_are_counted.ensures
 
 pub returns-clause-aligned : goal.returns-clause-aligned
-returns-clause-aligned c = message_aligned c.headers_are_sixteen_bytes.ensures c.texts_are_cut.ensures
+returns-clause-aligned c = message_aligned c.headers_are_sixteen_bytes.ensures c.encodings_are_split.ensures

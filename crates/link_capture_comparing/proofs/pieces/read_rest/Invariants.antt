@@ -1,6 +1,6 @@
 -- what was read, and not to the end
 use Rattle.std.proofs.Common.{◌-◌, ◌^◌, ℕ, List, false}
-use Rattle.link_capture_reader.specs.Outcomes.{IsPrefix}
+use Rattle.link_capture_reader.specs.Devices.{IsPrefix}
 use Rattle.link_capture_reader.specs.States.{SourceState, source_state}
 use Rattle.link_capture_comparing.specs.Readings.{HasRead}
 use Rattle.link_capture_comparing.proofs.pieces.read_rest.Given as goal

@@ -5,7 +5,8 @@ use Rattle.link_capture_grammar.specs.Captures.{texts}
 use Rattle.link_capture_reader.specs.States.{source_state}
 use Rattle.link_capture_comparing.specs.Comparisons.{sources_of}
 use Rattle.link_capture_comparing.specs.Readings.{HasRead}
-use Rattle.link_capture_comparing.specs.Sides.{SideState, IsAtFrame, StandsAtFrame, state_of, offset_of, rest_of}
+use Rattle.link_capture_comparing.specs.Sides.{SideState, IsAtFrame, HasStoppedOrPassed, state_of, offset_of, rest_of}
+use Rattle.link_capture_grammar.specs.Body.{link_body}
 use Rattle.link_capture_comparing.proofs.Deciding.{Alike, parting_first, parting_second, new_read, new_stands, new_texts, right_has_ended, frames_differ, grown, left_stopped, passes_on}
 use Rattle.link_capture_comparing.proofs.Finding.{at_frame_judged, frame_inside, passes_offset, stopped_judged}
 use Rattle.link_capture_comparing.proofs.Together.{Laws}
@@ -63,7 +64,7 @@ returns-in_default-clause-parted g c =
     let h = c.in-Ok-frame.ensures.found q.right_before z.1 z.3 z.5 in
     let before : Alike c.args.limit (state_of c.frames.left) (state_of c.frames.right) z.0 z.1 = record { fits = c.ranges.limit.fits; left_limit = c.frames.invariant.left_limit; right_limit = c.frames.invariant.right_limit; texts = z.6 } in
     let alike = grown laws c.args.limit (state_of c.frames.left) (state_of c.frames.right) l r z.0 z.1 f.0 h.0 before z.4 z.5 c.frame.ensures.limit c.frame-in-frames.ensures.limit c.frame.ensures.offset c.frame-in-frames.ensures.offset f.1.0 h.1.0 in
-    let stopped = subst (λ (o : Option ℕ). StandsAtFrame o l f.0) c.in_default.is f.3 in (
+    let stopped = subst (λ (o : Option ℕ). HasStoppedOrPassed o l f.0) c.in_default.is f.3 in (
       f.0,
       h.0,
       record {
@@ -96,8 +97,8 @@ returns-in_default-second-clause-parted g c =
     let before : Alike c.args.limit (state_of c.frames.left) (state_of c.frames.right) z.0 z.1 = record { fits = c.ranges.limit.fits; left_limit = c.frames.invariant.left_limit; right_limit = c.frames.invariant.right_limit; texts = z.6 } in
     let alike = grown laws c.args.limit (state_of c.frames.left) (state_of c.frames.right) l r z.0 z.1 f.0 h.0 before z.4 z.5 c.frame.ensures.limit c.frame-in-frames.ensures.limit c.frame.ensures.offset c.frame-in-frames.ensures.offset f.1.0 h.1.0 in
     let left_at = subst (λ (o : Option ℕ). IsAtFrame l o) c.in-Some.is c.in-Ok.ensures.frame in
-    let left_stands = subst (λ (o : Option ℕ). StandsAtFrame o l f.0) c.in-Some.is f.3 in
-    let stopped = subst (λ (o : Option ℕ). StandsAtFrame o r h.0) c.in_default-second.is h.3 in (
+    let left_stands = subst (λ (o : Option ℕ). HasStoppedOrPassed o l f.0) c.in-Some.is f.3 in
+    let stopped = subst (λ (o : Option ℕ). HasStoppedOrPassed o r h.0) c.in_default-second.is h.3 in (
       f.0,
       h.0,
       record {
@@ -130,12 +131,12 @@ returns-then-not-are_same-clause-parted g c =
     let before : Alike c.args.limit (state_of c.frames.left) (state_of c.frames.right) z.0 z.1 = record { fits = c.ranges.limit.fits; left_limit = c.frames.invariant.left_limit; right_limit = c.frames.invariant.right_limit; texts = z.6 } in
     let alike = grown laws c.args.limit (state_of c.frames.left) (state_of c.frames.right) l r z.0 z.1 f.0 h.0 before z.4 z.5 c.frame.ensures.limit c.frame-in-frames.ensures.limit c.frame.ensures.offset c.frame-in-frames.ensures.offset f.1.0 h.1.0 in
     let left_at = subst (λ (o : Option ℕ). IsAtFrame l o) c.in-Some.is c.in-Ok.ensures.frame in
-    let left_stands = subst (λ (o : Option ℕ). StandsAtFrame o l f.0) c.in-Some.is f.3 in
+    let left_stands = subst (λ (o : Option ℕ). HasStoppedOrPassed o l f.0) c.in-Some.is f.3 in
     let right_at = subst (λ (o : Option ℕ). IsAtFrame r o) c.in-Some-second.is c.in-Ok-frame.ensures.frame in
-    let right_stands = subst (λ (o : Option ℕ). StandsAtFrame o r h.0) c.in-Some-second.is h.3 in
-    let differ = λ (s : SameCapture c.args.limit (take c.in-Some.first (rest_of l)) (take c.in-Some-second.second (rest_of r))).
-    let there = subst (λ x. SameCapture c.args.limit (take c.in-Some.first x) (take c.in-Some-second.second c.rest-in-frames.result.now)) (sym c.rest.ensures)
-    (subst (λ y. SameCapture c.args.limit (take c.in-Some.first (rest_of l)) (take c.in-Some-second.second y)) (sym c.rest-in-frames.ensures) s) in
+    let right_stands = subst (λ (o : Option ℕ). HasStoppedOrPassed o r h.0) c.in-Some-second.is h.3 in
+    let differ = λ (s : SameCapture link_body c.args.limit (take c.in-Some.first (rest_of l)) (take c.in-Some-second.second (rest_of r))).
+    let there = subst (λ x. SameCapture link_body c.args.limit (take c.in-Some.first x) (take c.in-Some-second.second c.rest-in-frames.result.now)) (sym c.rest.ensures)
+    (subst (λ y. SameCapture link_body c.args.limit (take c.in-Some.first (rest_of l)) (take c.in-Some-second.second y)) (sym c.rest-in-frames.ensures) s) in
     absurd (cc (c.are_same.ensures.1 there, c.if-not-are_same.true)) in (
       f.0,
       h.0,
@@ -178,13 +179,13 @@ frames-preserved g c =
     let before : Alike c.args.limit (state_of c.frames.left) (state_of c.frames.right) z.0 z.1 = record { fits = c.ranges.limit.fits; left_limit = c.frames.invariant.left_limit; right_limit = c.frames.invariant.right_limit; texts = z.6 } in
     let alike = grown laws c.args.limit (state_of c.frames.left) (state_of c.frames.right) l r z.0 z.1 f.0 h.0 before z.4 z.5 c.frame.ensures.limit c.frame-in-frames.ensures.limit c.frame.ensures.offset c.frame-in-frames.ensures.offset f.1.0 h.1.0 in
     let left_at = subst (λ (o : Option ℕ). IsAtFrame l o) c.in-Some.is c.in-Ok.ensures.frame in
-    let left_stands = subst (λ (o : Option ℕ). StandsAtFrame o l f.0) c.in-Some.is f.3 in
+    let left_stands = subst (λ (o : Option ℕ). HasStoppedOrPassed o l f.0) c.in-Some.is f.3 in
     let right_at = subst (λ (o : Option ℕ). IsAtFrame r o) c.in-Some-second.is c.in-Ok-frame.ensures.frame in
-    let right_stands = subst (λ (o : Option ℕ). StandsAtFrame o r h.0) c.in-Some-second.is h.3 in
+    let right_stands = subst (λ (o : Option ℕ). HasStoppedOrPassed o r h.0) c.in-Some-second.is h.3 in
     let one : List ℕ = take c.in-Some.first (rest_of l) in
     let two : List ℕ = take c.in-Some-second.second (rest_of r) in
-    let same = subst (λ y. SameCapture c.args.limit one (take c.in-Some-second.second y)) c.rest-in-frames.ensures
-    (subst (λ x. SameCapture c.args.limit (take c.in-Some.first x) (take c.in-Some-second.second c.rest-in-frames.result.now)) c.rest.ensures (c.are_same.ensures.0 c.if-not-are_same.false)) in
+    let same = subst (λ y. SameCapture link_body c.args.limit one (take c.in-Some-second.second y)) c.rest-in-frames.ensures
+    (subst (λ x. SameCapture link_body c.args.limit (take c.in-Some.first x) (take c.in-Some-second.second c.rest-in-frames.result.now)) c.rest.ensures (c.are_same.ensures.0 c.if-not-are_same.false)) in
     let legal = laws.same_legal c.args.limit one two same in
     let text = laws.meanings.same_implies_equal_text c.args.limit one two same in
     let x = passes_on laws c.args.limit l (state_of c.pass.new.self) f.0 c.in-Some.first alike.left_limit c.pass.ensures left_stands left_at.0 left_at.1 legal.0 in
@@ -205,6 +206,6 @@ frames-preserved g c =
         subst (λ (s : SideState). HasRead q.right_before q.right_after s.ended s.read h.0) (sym c.pass-in-frames.ensures) h.2,
         x.0,
         y.0,
-        x.1 ∙ ap (λ t. t ++ texts c.args.limit one) alike.texts ∙ ap (λ t. texts c.args.limit (take (offset_of r) h.0) ++ t) text ∙ sym y.1,
+        x.1 ∙ ap (λ t. t ++ texts link_body c.args.limit one) alike.texts ∙ ap (λ t. texts link_body c.args.limit (take (offset_of r) h.0) ++ t) text ∙ sym y.1,
       );
     }

@@ -3,7 +3,8 @@ use Rattle.std.proofs.Common.{◌≡◌, ◌<◌, ◌≤◌, ◌-◌, ◌^◌, �
 use Rattle.link_capture_grammar.specs.Captures.{texts}
 use Rattle.link_capture_reader.specs.States.{source_state}
 use Rattle.link_capture_comparing.specs.Readings.{HasRead}
-use Rattle.link_capture_comparing.specs.Sides.{state_of, offset_of, Stands}
+use Rattle.link_capture_comparing.specs.Sides.{state_of, offset_of, HasPassedFrames}
+use Rattle.link_capture_grammar.specs.Body.{link_body}
 use Rattle.link_capture_comparing.proofs.sources.part.Given as goal
 
 abbrev pub invariant-frames : goal.invariant-frames
@@ -19,8 +20,8 @@ invariant-frames g l = record {
   so_far : (a b : List ℕ)
       × HasRead (source_state g.S.Source.to_come g.S.Source.failures g.S.Source.ends_reported l.fn.left_source) (source_state g.S.Source.to_come g.S.Source.failures g.S.Source.ends_reported l.left_source) l.left.ended l.left.read a
       × HasRead (source_state g.T.Source.to_come g.T.Source.failures g.T.Source.ends_reported l.fn.right_source) (source_state g.T.Source.to_come g.T.Source.failures g.T.Source.ends_reported l.right_source) l.right.ended l.right.read b
-      × Stands (state_of l.left) a × Stands (state_of l.right) b
-      × (texts l.limit (take (offset_of (state_of l.left)) a) ≡ texts l.limit (take (offset_of (state_of l.right)) b));
+      × HasPassedFrames (state_of l.left) a × HasPassedFrames (state_of l.right) b
+      × (texts link_body l.limit (take (offset_of (state_of l.left)) a) ≡ texts link_body l.limit (take (offset_of (state_of l.right)) b));
 }
 
 abbrev pub decreases-frames : goal.decreases-frames

@@ -2,7 +2,7 @@
 use Rattle.std.proofs.Common.{◌∙◌, Bool, inl, sym, subst}
 use Rattle.link_capture_reader.specs.States.{source_state}
 use Rattle.link_capture_comparing.specs.Comparisons.{ComparesSources, FailsBy, sources_of}
-use Rattle.link_capture_comparing.specs.Partings.{HaveParted, PartingFails}
+use Rattle.link_capture_comparing.specs.Partings.{SidesHaveParted, PartingFails}
 use Rattle.link_capture_comparing.specs.Sides.{state_of}
 use Rattle.link_capture_comparing.proofs.Deciding.{first_unread, not_false}
 use Rattle.link_capture_comparing.proofs.sources.same_sources.Goals as goal
@@ -15,7 +15,7 @@ returns-in-Ok g c =
     let q = sources_of left right c.args.left.now c.judged.new.left_source c.args.right.now c.judged.new.right_source in
     let z = c.in-Ok.ensures.parted in
     let l = c.part.ensures.left.2 in
-    let h = subst (λ n. HaveParted between n (state_of c.part.new.left) (state_of c.part.new.right) z.0 z.1 c.in-Ok.is_same) (sym l) z.2 in
+    let h = subst (λ n. SidesHaveParted between n (state_of c.part.new.left) (state_of c.part.new.right) z.0 z.1 c.in-Ok.is_same) (sym l) z.2 in
     subst (λ n. ComparesSources q n c.judged.result) l (c.judged.ensures between.left_before between.right_before z.0 z.1 (l ∙ sym c.part.ensures.right.2) h)
 
 pub returns-in-Ok-read_rest : goal.returns-in-Ok-read_rest

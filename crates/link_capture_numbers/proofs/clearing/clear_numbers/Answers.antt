@@ -1,7 +1,7 @@
 use Rattle.std.proofs.Common.{◌≡◌, true, ◌+◌, ◌-◌, ◌++◌, length, take, drop, min, sym, ap, ◌∙◌, arith}
 use borrow.Rule.Slice.PartMut.{put_mid}
 use Rattle.netlink_packet_core_grammar.specs.Attributes.{nla_align}
-use Rattle.netlink_packet_core_grammar.specs.Frames.{frame_length, is_frame}
+use Rattle.netlink_packet_core_grammar.specs.Frames.{frame_length, begins_with_frame}
 use Rattle.link_capture_numbers.specs.Cleared.{first_frame_cleared, numbers_cleared}
 use Rattle.link_capture_numbers.proofs.RestOfText.{put_rest, put_mid_rest, kept_size, stepped}
 use Rattle.link_capture_numbers.proofs.clearing.clear_numbers.Goals as goal
@@ -13,7 +13,7 @@ frames-preserved c =
     let inside = c.frames.invariant.inside in
     let found = c.in-Some.ensures.some in
     let following = put_mid_rest at text inside in
-    let frame : is_frame (drop at text) ≡ true = ap is_frame (sym following) ∙ found.0 in
+    let frame : begins_with_frame (drop at text) ≡ true = ap begins_with_frame (sym following) ∙ found.0 in
     let now : put_mid at (length text - at) text c.clear_first_frame.new.bytes ≡ take at text ++ first_frame_cleared (drop at text) =
     put_rest at text c.clear_first_frame.new.bytes inside ∙ ap (λ z. take at text ++ z) (c.clear_first_frame.ensures ∙ ap first_frame_cleared following) in
     let size : length (put_mid at (length text - at) text c.clear_first_frame.new.bytes) ≡ length text = ap length now ∙ kept_size at text inside frame in

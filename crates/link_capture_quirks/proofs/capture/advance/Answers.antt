@@ -4,6 +4,7 @@ use Rattle.netlink_packet_core_grammar.specs.Attributes.{nla_align}
 use Rattle.link_capture_grammar.specs.Captures.{first_fault, first_frame, shifted}
 use Rattle.link_capture_quirks.specs.CaptureQuirks.{frame_quirks}
 use Rattle.link_capture_quirks.specs.QuirkWalks.{walk_quirks, rest_quirks, rest_fault}
+use Rattle.link_message_grammar.specs.Body.{link_body}
 use Rattle.link_capture_quirks.proofs.Entering.{quirks-after-frame}
 use Rattle.link_capture_quirks.proofs.capture.advance.Goals as goal
 
@@ -18,7 +19,7 @@ frames-preserved c =
     let text = c.in-Ok.text in
     let m = c.in-Ok.ensures.ok in
     let rest = drop at bytes in
-    let there : first_frame limit rest ≡ Ok (text.len, m.text) = subst (λ x. first_frame limit x ≡ Ok (text.len, m.text)) (take_rest bytes at) m.is in
+    let there : first_frame link_body limit rest ≡ Ok (text.len, m.text) = subst (λ x. first_frame link_body limit x ≡ Ok (text.len, m.text)) (take_rest bytes at) m.is in
     let size : c.nla_align-position.result ≡ nla_align text.len = c.nla_align-position.ensures in
     let high : text.len ≤ length rest = subst (λ x. text.len ≤ length x) (take_rest bytes at) c.in-Ok.ensures.bounds.1 in
     let left : length rest ≡ length bytes - at = length-drop at bytes in
@@ -36,7 +37,7 @@ frames-preserved c =
           ∙ c.frames.invariant.quirks_left;
       fault =
           ap (λ n. rest_fault limit bytes (at + n)) size
-          ∙ ap (λ x. shifted (at + nla_align text.len) (first_fault limit x)) (sym (drop-drop (nla_align text.len) at bytes))
+          ∙ ap (λ x. shifted (at + nla_align text.len) (first_fault link_body limit x)) (sym (drop-drop (nla_align text.len) at bytes))
           ∙ sym (c.captures_are_counted.ensures.next_fault limit at rest (text.len, m.text) there)
           ∙ c.frames.invariant.fault;
     }
@@ -47,10 +48,10 @@ returns-in-Err-clause-next c =
     let limit = c.args.limit in
     let at = c.frames.position in
     let rest = drop at bytes in
-    let there : first_frame limit rest ≡ Err c.in-Err.kind = subst (λ x. first_frame limit x ≡ Err c.in-Err.kind) (take_rest bytes at) c.in-Err.ensures.err in
+    let there : first_frame link_body limit rest ≡ Err c.in-Err.kind = subst (λ x. first_frame link_body limit x ≡ Err c.in-Err.kind) (take_rest bytes at) c.in-Err.ensures.err in
     let left : length rest ≡ length bytes - at = length-drop at bytes in
     let none : rest_quirks limit bytes at ≡ [] = c.quirks_unfold_by_frames.ensures.fault limit at rest c.in-Err.kind there in
-    let here : first_fault limit rest ≡ Some (record { kind = c.in-Err.kind; offset = 0 }) = c.captures_unfold_by_frames.ensures.first_frame_fault limit rest c.in-Err.kind (omega (arith, left, c.if-position-bytes.false)) there in
+    let here : first_fault link_body limit rest ≡ Some (record { kind = c.in-Err.kind; offset = 0 }) = c.captures_unfold_by_frames.ensures.first_frame_fault limit rest c.in-Err.kind (omega (arith, left, c.if-position-bytes.false)) there in
     let e : at + 0 ≡ at = omega arith in (
       sym c.frames.invariant.quirks_left ∙ ap (λ z. z ++ rest_quirks limit bytes at) c.in_default.ensures.none ∙ none,
       sym c.frames.invariant.fault ∙ ap (shifted at) here ∙ ap (λ n. Some (record { kind = c.in-Err.kind; offset = n })) e,

@@ -6,8 +6,8 @@ use Rattle.link_capture_reader.proofs.Progress.{came_more, came_reserved, cut_ou
 use Rattle.std.specs.Io.KnownBytes.{Appends}
 use Rattle.link_capture_grammar.specs.declared.fault.FaultKind.TheVariants.{Cut}
 use Rattle.link_capture_grammar.specs.Captures.{first_fault, texts}
-use Rattle.link_capture_reader.specs.Devices.{risen}
-use Rattle.link_capture_reader.specs.Outcomes.{IsPrefix}
+use Rattle.link_capture_reader.specs.Devices.{risen, IsPrefix}
+use Rattle.link_capture_grammar.specs.Body.{link_body}
 use Rattle.std.proofs.KnownBytes.{Appends-trans, Consumes-trans}
 use Rattle.link_capture_reader.proofs.engine.normalize.Goals as goal
 
@@ -30,12 +30,12 @@ returns-in_err-written g c =
     let z = c.in_err-written.ensures.fault in
     rw (p.1, p.2) (
       s ++ piece,
-      texts c.args.limit s ++ take z.2.0 c.as_slice.result.now,
+      texts link_body c.args.limit s ++ take z.2.0 c.as_slice.result.now,
       Consumes-trans _ _ _ s piece came.consumed c.in-Ok.ensures.bytes.0,
-      Appends-trans _ _ _ (texts c.args.limit s) (take z.2.0 c.as_slice.result.now) came.wrote z.2.3,
-      failed_write _ _ _ c.args.limit (s ++ piece) (texts c.args.limit s) c.as_slice.result.now c.pieces.written z.2.0 c.in_err-written.field-0.0
+      Appends-trans _ _ _ (texts link_body c.args.limit s) (take z.2.0 c.as_slice.result.now) came.wrote z.2.3,
+      failed_write _ _ _ c.args.limit (s ++ piece) (texts link_body c.args.limit s) c.as_slice.result.now c.pieces.written z.2.0 c.in_err-written.field-0.0
           (z.1 ∙ ap risen i.sink_failures)
-          (subst (λ x. IsPrefix (texts c.args.limit s ++ x) (texts c.args.limit (s ++ piece))) (sym c.as_slice.ensures.value)
+          (subst (λ x. IsPrefix (texts link_body c.args.limit s ++ x) (texts link_body c.args.limit (s ++ piece))) (sym c.as_slice.ensures.value)
           (fed_prefix c.texts_of_a_prefix_stay.ensures c.args.limit c.reserve.new.self c.feed-fed.new.self s piece c.pieces.out.items c.feed-fed.new.out.items c.feed-fed.result came.limit_is i.empty came.is_consistent c.feed-fed.ensures.ok c.feed-fed.ensures.fault))
           z.2.1 came.count z.0 z.2.2,
     )
@@ -48,10 +48,10 @@ returns-in_err-reserve g c =
     let s = i.came.0 in
     let came = i.came.1 in
     let fault = c.in_err-reserve.field-0.0 in
-    let cut = subst (λ n. first_fault n s ≡ Some (record { kind = Cut; offset = fault.offset })) came.limit_is (c.in_err-reserve.ensures.offset s came.is_consistent) in
+    let cut = subst (λ n. first_fault link_body n s ≡ Some (record { kind = Cut; offset = fault.offset })) came.limit_is (c.in_err-reserve.ensures.offset s came.is_consistent) in
     rw (p.1, p.2) (
       s,
-      texts c.args.limit s,
+      texts link_body c.args.limit s,
       came.consumed,
       came.wrote,
       cut_outcome c.captures_unfold_by_frames.ensures c.frames_are_independent.ensures c.faults_are_at_frames.ensures _ _ _ c.args.limit s fault c.in_err-reserve.ensures.kind cut,
@@ -67,9 +67,9 @@ returns-in_err-fed g c =
     let z = c.in_ok-written.ensures.ok in
     rw (p.1, p.2) (
       s ++ piece,
-      texts c.args.limit s ++ c.feed-fed.new.out.items,
+      texts link_body c.args.limit s ++ c.feed-fed.new.out.items,
       Consumes-trans _ _ _ s piece came.consumed c.in-Ok.ensures.bytes.0,
-      Appends-trans _ _ _ (texts c.args.limit s) c.feed-fed.new.out.items came.wrote (subst (Appends _ _) c.as_slice.ensures.value z.1),
+      Appends-trans _ _ _ (texts link_body c.args.limit s) c.feed-fed.new.out.items came.wrote (subst (Appends _ _) c.as_slice.ensures.value z.1),
       fed_outcome _ _ _ c.args.limit c.reserve.new.self s piece c.pieces.out.items c.feed-fed.new.out.items c.in_err-fed.field-0.0 came.limit_is i.empty (omega (arith, length-take c.in-Ok.size c.read.new.buffer)) c.in_ok-reserve.ensures.ok came.is_consistent c.in_err-fed.ensures.fault,
     )
 

@@ -2,6 +2,7 @@
 use Rattle.std.proofs.Common.{◌++◌, Err, sym, ap, ◌∙◌, arith, length-append}
 use Rattle.netlink_packet_core_grammar.specs.Frames.{frame_length}
 use Rattle.link_capture_grammar.specs.Captures.{first_frame}
+use Rattle.link_capture_grammar.specs.Body.{link_body}
 use Rattle.link_capture_reader.proofs.CutFrames.{header_is_allowed, header_cut, header_refused}
 use Rattle.link_capture_reader.proofs.pieces.judge_header.Goals as goal
 
@@ -17,7 +18,7 @@ returns-in-Cut-clause-ok c =
     let whole = c.args.kept.now ++ c.args.piece.now in
     let cut = c.frames_are_judged.ensures.header c.args.limit c.joined_header-header.result c.in-Err.kind c.in-Err.ensures.err in
     header_cut c.numbers_are_independent.ensures c.frames_are_independent.ensures c.args.limit whole (omega (arith, length-append c.args.kept.now c.args.piece.now))
-    (ap (first_frame c.args.limit) (sym c.joined_header-header.ensures) ∙ cut ∙ ap (λ k. Err k) c.in-Cut.is)
+    (ap (first_frame link_body c.args.limit) (sym c.joined_header-header.ensures) ∙ cut ∙ ap (λ k. Err k) c.in-Cut.is)
 
 pub returns-in_default : goal.returns-in_default
 returns-in_default c =
@@ -25,6 +26,6 @@ returns-in_default c =
     let refused = c.frames_are_judged.ensures.header c.args.limit c.joined_header-header.result c.in-Err.kind c.in-Err.ensures.err in
     record {
       ok = tt;
-      err = (c.in_default.not-Cut, header_refused c.frames_are_independent.ensures c.args.limit whole c.in-Err.kind c.in_default.not-Cut (ap (first_frame c.args.limit) (sym c.joined_header-header.ensures) ∙ refused));
+      err = (c.in_default.not-Cut, header_refused c.frames_are_independent.ensures c.args.limit whole c.in-Err.kind c.in_default.not-Cut (ap (first_frame link_body c.args.limit) (sym c.joined_header-header.ensures) ∙ refused));
       of_frames = c.in-Err.ensures.of_frames;
     }

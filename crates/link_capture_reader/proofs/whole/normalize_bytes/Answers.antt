@@ -8,7 +8,7 @@ returns-clause-text c =
     let within = c.ranges.limit.fits in
     record {
       legal = c.texts_are_legal.ensures limit b within;
-      canonical = c.texts_are_normal.ensures limit b within;
+      canonical = c.texts_are_canonical.ensures limit b within;
       same = λ h. c.texts_mean_the_same.ensures limit b within h;
       small = c.texts_are_small.ensures limit b;
       joined = λ h m rest. (

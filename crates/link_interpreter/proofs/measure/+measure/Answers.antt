@@ -1,7 +1,7 @@
 use Rattle.std.proofs.Common.{◌≡◌, ◌-◌, ◌≤◌, true, length, drop, Some, None, sym, ap, subst, ◌∙◌, arith, ◌%◌, refl}
 use Rattle.std.specs.Prelude.{IfSome}
 use Rattle.std.proofs.lemmas.Bool.{eqb-true, and_parts}
-use Rattle.attribute_tables_grammar.specs.Lists.{nothing, any, list_rule}
+use Rattle.attribute_tables_grammar.specs.Lists.{no_kind_in_force, any, list_rule}
 use Rattle.attribute_tables_grammar.specs.LookUps.{table_row}
 use Rattle.attribute_tables_grammar.specs.Walks.{Measure, MeasuredSoFar, measure}
 use Rattle.link_interpreter.specs.Prefixes.{IsCanonicalPrefix}
@@ -79,11 +79,11 @@ walk_list-loop-rest-preserved-in-Some-measure_held g t c =
     let headers_is = ap (λ (m : Measure). m.attributes) is in
     record {
       walked = c.loop-rest.invariant.walked;
-      so_far = subst (λ m. MeasuredSoFar form rows bytes m nothing after) (sym is)
-          (c.measures_unfold.ensures.more form rows bytes rest nothing e after (view c.loop-rest.total) (view c.in-Some-measure_held.inside) f k inside c.loop-rest.invariant.so_far);
+      so_far = subst (λ m. MeasuredSoFar form rows bytes m no_kind_in_force after) (sym is)
+          (c.measures_unfold.ensures.more form rows bytes rest no_kind_in_force e after (view c.loop-rest.total) (view c.in-Some-measure_held.inside) f k inside c.loop-rest.invariant.so_far);
       already_canonical = λ h.
           let o = canonical_step h in
-          c.canonical_lists_unfold.ensures.more form rows bytes rest nothing e after f k o.kind o.payload o.text (c.loop-rest.invariant.already_canonical (and_parts _ _ (sym c.with_attribute-total.ensures.already_canonical ∙ h)).0);
+          c.canonical_lists_unfold.ensures.more form rows bytes rest no_kind_in_force e after f k o.kind o.payload o.text (c.loop-rest.invariant.already_canonical (and_parts _ _ (sym c.with_attribute-total.ensures.already_canonical ∙ h)).0);
       prefix = subst (λ n. IsCanonicalPrefix (list_rule any rows) bytes (length bytes - n)) (sym c.bytes_following-left.ensures) (prefix_step _ bytes rest c.loop-rest.left e after c.with_attribute-total.result.is_canonical f canonical_step c.loop-rest.invariant.prefix);
       offset = λ h. ap (λ n. drop (length bytes - n) bytes) c.bytes_following-left.ensures ∙ offset_step _ bytes rest c.loop-rest.left e after c.with_attribute-total.result.is_canonical canonical_step h;
       left = subst (λ n. n ≤ length bytes) (sym c.bytes_following-left.ensures) (left_step _ (length after) c.loop-rest.left c.with_attribute-total.result.is_canonical (omega arith) c.loop-rest.invariant.left);
@@ -98,7 +98,7 @@ walk_list-loop-rest-preserved g t c =
     let headers_is = ap (λ (m : Measure). m.attributes) is in
     record {
       walked = c.loop-rest.invariant.walked;
-      so_far = subst (λ m. MeasuredSoFar (form_of c.args.form) (rows_of g.P.PeerSet.peer (table_of c.args.table.0)) c.args.bytes.now m nothing c.in-Some.after.now) (sym is)
+      so_far = subst (λ m. MeasuredSoFar (form_of c.args.form) (rows_of g.P.PeerSet.peer (table_of c.args.table.0)) c.args.bytes.now m no_kind_in_force c.in-Some.after.now) (sym is)
           (c.measures_unfold.ensures.past _ _ _ _ _ _ _ _ c.in-Some.ensures.first (sym (c.is_kept.ensures _) ∙ c.if-is_kept.false) c.loop-rest.invariant.so_far);
       already_canonical = λ h. absurd (cc c.with_dropped-total.ensures.already_canonical);
       prefix = c.loop-rest.invariant.prefix;

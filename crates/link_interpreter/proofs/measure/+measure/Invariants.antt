@@ -1,7 +1,7 @@
 -- The measure so far, plus that of the rest, is the measure of the whole. If the flag is set, the whole is already
 -- canonical if the rest is, and the canonical prefix goes up to the rest.
 use Rattle.std.proofs.Common.{◌≡◌, true, length, drop, ◌+◌, ◌-◌, ◌*◌, ◌≤◌}
-use Rattle.attribute_tables_grammar.specs.Lists.{nothing, any, list_rule}
+use Rattle.attribute_tables_grammar.specs.Lists.{no_kind_in_force, any, list_rule}
 use Rattle.attribute_tables_grammar.specs.AlreadyCanonical.{CanonicalSoFar}
 use Rattle.attribute_tables_grammar.specs.Walks.{MeasuredSoFar, IsWalked}
 use Rattle.link_tables.specs.Rows.{form_of}
@@ -27,8 +27,8 @@ decreases-measure_first g l = 4 * length l.bytes.now
 abbrev pub invariant-walk_list-loop-rest : goal.invariant-walk_list-loop-rest
 invariant-walk_list-loop-rest g l = record {
   walked : IsWalked (form_of l.form) l.fn.bytes;
-  so_far : MeasuredSoFar (form_of l.form) (rows_of g.P.PeerSet.peer (table_of l.fn.table.0)) l.fn.bytes (view l.total) nothing l.rest;
-  already_canonical : l.total.is_canonical ≡ true → CanonicalSoFar (form_of l.form) (rows_of g.P.PeerSet.peer (table_of l.fn.table.0)) l.fn.bytes nothing l.rest;
+  so_far : MeasuredSoFar (form_of l.form) (rows_of g.P.PeerSet.peer (table_of l.fn.table.0)) l.fn.bytes (view l.total) no_kind_in_force l.rest;
+  already_canonical : l.total.is_canonical ≡ true → CanonicalSoFar (form_of l.form) (rows_of g.P.PeerSet.peer (table_of l.fn.table.0)) l.fn.bytes no_kind_in_force l.rest;
   prefix : IsCanonicalPrefix (list_rule any (rows_of g.P.PeerSet.peer (table_of l.fn.table.0))) l.fn.bytes (length l.fn.bytes - l.left);
   offset : l.total.is_canonical ≡ true → drop (length l.fn.bytes - l.left) l.fn.bytes ≡ l.rest;
   left : l.left ≤ length l.fn.bytes;

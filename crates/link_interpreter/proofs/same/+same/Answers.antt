@@ -1,14 +1,14 @@
 use Rattle.std.proofs.Common.{refl, sym, ◌∙◌, arith, ◌≡◌, subst}
-use Rattle.attribute_tables_grammar.specs.Lists.{nothing, any}
+use Rattle.attribute_tables_grammar.specs.Lists.{no_kind_in_force, any}
 use Rattle.attribute_tables_grammar.specs.LookUps.{table_row}
 use Rattle.link_interpreter.specs.Sameness.{attribute_of}
 use Rattle.link_interpreter.proofs.Sameness.{info_kinds, holds_rule, other_kinds, held_same, left_longer, left_shorter, other_ended, both_ended}
 use Rattle.std.proofs.lemmas.Bool.{eqb-true}
-use Rattle.attribute_tables_grammar.specs.Sameness.{same_walk}
+use Rattle.attribute_tables_grammar.specs.Sameness.{same_rests}
 use Rattle.link_interpreter.specs.Measures.{info_names}
 use Rattle.link_interpreter.proofs.Held.{info_no_left, info_no_right, info_same}
 use Rattle.link_interpreter.proofs.Loop.{some_bytes}
-use Rattle.link_info_grammar.specs.LinkInfo.{data_rule_under, port_data_rule_under}
+use Rattle.link_info_grammar.specs.LinkInfo.{data_rule, port_data_rule}
 use Rattle.link_tables.specs.InForce.{in_force}
 use Rattle.link_interpreter.proofs.same.+same.Goals as goal
 use Rattle.link_interpreter.proofs.same.+same.Goals.{same_link_info-then-is_empty, same_link_info-else-is_empty}
@@ -25,13 +25,13 @@ same_first-returns-in-None g t c =
 
 pub same_list-returns-in_default-held_by_both : goal.same_list-returns-in_default-held_by_both
 same_list-returns-in_default-held_by_both g t c =
-    c.sameness_unfolds.ensures.differs _ _ nothing _ _ _ _ _ _ c.in-Kept-Kept.ensures.kept c.in-Kept-Kept.ensures'.kept
+    c.sameness_unfolds.ensures.differs _ _ no_kind_in_force _ _ _ _ _ _ c.in-Kept-Kept.ensures.kept c.in-Kept-Kept.ensures'.kept
     (sym (other_kinds c.attributes_are_compared.ensures (table_row _ _) (attribute_of c.in-Kept-Kept.a) (attribute_of c.in-Kept-Kept.b) c.in_default-held_by_both.ensures.kinds))
     ∙ c.loop-a.invariant.so_far
 
 pub same_list-returns-then-not-same_held : goal.same_list-returns-then-not-same_held
 same_list-returns-then-not-same_held g t c =
-    c.sameness_unfolds.ensures.differs _ _ nothing _ _ _ _ _ _ c.in-Kept-Kept.ensures.kept c.in-Kept-Kept.ensures'.kept
+    c.sameness_unfolds.ensures.differs _ _ no_kind_in_force _ _ _ _ _ _ c.in-Kept-Kept.ensures.kept c.in-Kept-Kept.ensures'.kept
     (sym (holds_rule c.attributes_are_compared.ensures (table_row _ _) (attribute_of c.in-Kept-Kept.a) (attribute_of c.in-Kept-Kept.b) _ _ c.in-Some.ensures.rule c.in-Some.ensures.kinds c.same_held.ensures) ∙ c.if-not-same_held.true)
     ∙ c.loop-a.invariant.so_far
 
@@ -39,14 +39,14 @@ pub same_list-loop-a-preserved : goal.same_list-loop-a-preserved
 same_list-loop-a-preserved g t c =
     let l = c.in-Kept-Kept.ensures.shorter.1 in
     record {
-      so_far = c.sameness_unfolds.ensures.more _ _ nothing _ _ _ _ _ _ c.in-Kept-Kept.ensures.kept c.in-Kept-Kept.ensures'.kept
+      so_far = c.sameness_unfolds.ensures.more _ _ no_kind_in_force _ _ _ _ _ _ c.in-Kept-Kept.ensures.kept c.in-Kept-Kept.ensures'.kept
           (sym (holds_rule c.attributes_are_compared.ensures (table_row _ _) (attribute_of c.in-Kept-Kept.a) (attribute_of c.in-Kept-Kept.b) _ _ c.in-Some.ensures.rule c.in-Some.ensures.kinds c.same_held.ensures) ∙ c.if-not-same_held.false) refl
           ∙ c.loop-a.invariant.so_far;
       within = omega arith;
     }
 
 pub same_list-returns-in-End-End : goal.same_list-returns-in-End-End
-same_list-returns-in-End-End g t c = c.sameness_unfolds.ensures.ended _ _ nothing _ _ c.in-End-End.ensures.kept c.in-End-End.ensures'.kept ∙ c.loop-a.invariant.so_far
+same_list-returns-in-End-End g t c = c.sameness_unfolds.ensures.ended _ _ no_kind_in_force _ _ c.in-End-End.ensures.kept c.in-End-End.ensures'.kept ∙ c.loop-a.invariant.so_far
 
 pub same_list-returns-in_default : goal.same_list-returns-in_default
 same_list-returns-in_default g t c =
@@ -59,7 +59,7 @@ same_list-returns-in_default-2 g t c =
     ∙ c.loop-a.invariant.so_far
 
 pub same_list-returns-in_default-3 : goal.same_list-returns-in_default-3
-same_list-returns-in_default-3 g t c = c.sameness_unfolds.ensures.left_stopped _ _ nothing _ _ c.in_default.ensures.kept ∙ c.loop-a.invariant.so_far
+same_list-returns-in_default-3 g t c = c.sameness_unfolds.ensures.left_stopped _ _ no_kind_in_force _ _ c.in_default.ensures.kept ∙ c.loop-a.invariant.so_far
 
 pub same_held-returns-in-List : goal.same_held-returns-in-List
 same_held-returns-in-List g t c = c.same_list.ensures ∙ held_same c.rows_are_looked_up.ensures _ _ _ _ c.in-List.is _ _
@@ -84,9 +84,9 @@ same_info-loop-rest-preserved g t c =
     let kept = c.kept_attributes_unfold.ensures in
     let same = sym c.same_in_force.ensures ∙ c.if-not-same_in_force.false in
     record {
-      so_far = subst (λ d. same_walk any rows d c.in-Some.after.now c.in-Some-first_attribute.following.now ≡ same_walk any rows now c.loop-rest.rest.now c.loop-rest.other.now) (sym c.next_force-force.ensures)
+      so_far = subst (λ d. same_rests any rows d c.in-Some.after.now c.in-Some-first_attribute.following.now ≡ same_rests any rows now c.loop-rest.rest.now c.loop-rest.other.now) (sym c.next_force-force.ensures)
           (c.sameness_unfolds.ensures.more any rows now _ _ _ _ _ _ (kept.more any _ _ _ c.in-Some.ensures.first refl) (kept.more any _ _ _ c.in-Some-first_attribute.ensures.first refl)
-          same (c.attributes_are_compared.ensures.one_context _ _ now _ _ same))
+          same (c.attributes_are_compared.ensures.one_context (data_rule g.P.PeerSet.peer) (port_data_rule g.P.PeerSet.peer) now (attribute_of c.in-Some.a) (attribute_of c.in-Some-first_attribute.b) same))
           ∙ c.loop-rest.invariant.so_far;
       within = omega (arith, c.in-Some.ensures.within, c.in-Some.ensures.following, c.loop-rest.invariant.within);
     }
@@ -114,11 +114,18 @@ same_link_info-returns-else-is_empty-2 g t c =
           (some_bytes _ _ w.if-is_empty.false c.is_empty.ensures) (some_bytes _ _ (sym w.value-is ∙ c.if-is_empty-2.false) w.is_empty-else-is_empty.ensures)
     ]
 
+pub same_in_force-returns-then-not-are_same_info_kinds : goal.same_in_force-returns-then-not-are_same_info_kinds
+same_in_force-returns-then-not-are_same_info_kinds g t c =
+    let p = g.P.PeerSet.peer in
+    let now = in_force c.args.force in
+    let kinds = sym c.if-not-are_same_info_kinds.true ∙ c.are_same_info_kinds.ensures ∙ info_kinds (data_rule p) (port_data_rule p) now c.args.left.kind c.args.right.kind in
+    other_kinds c.attributes_are_compared.ensures ((info_names p).row now) (attribute_of c.args.left) (attribute_of c.args.right) kinds
+
 pub same_in_force-returns-in-Some : goal.same_in_force-returns-in-Some
 same_in_force-returns-in-Some g t c =
     let p = g.P.PeerSet.peer in
     let now = in_force c.args.force in
-    let kinds = sym c.if-not-are_same_info_kinds.false ∙ c.are_same_info_kinds.ensures ∙ info_kinds (data_rule_under p) (port_data_rule_under p) now c.args.left.kind c.args.right.kind in
+    let kinds = sym c.if-not-are_same_info_kinds.false ∙ c.are_same_info_kinds.ensures ∙ info_kinds (data_rule p) (port_data_rule p) now c.args.left.kind c.args.right.kind in
     holds_rule c.attributes_are_compared.ensures ((info_names p).row now) (attribute_of c.args.left) (attribute_of c.args.right) _ _ (c.in-Some.ensures.some p) kinds c.same_held.ensures
 
 pub same_info-same_in_force-requires : goal.same_info-same_in_force-requires

@@ -1,7 +1,7 @@
 -- The rests of the two lists are equivalent if and only if the lists are.
 use Rattle.std.proofs.Common.{◌≡◌, ◌+◌, ◌*◌, ◌≤◌, length}
-use Rattle.attribute_tables_grammar.specs.Lists.{nothing, list_rule, any}
-use Rattle.attribute_tables_grammar.specs.Sameness.{same_walk}
+use Rattle.attribute_tables_grammar.specs.Lists.{no_kind_in_force, list_rule, any}
+use Rattle.attribute_tables_grammar.specs.Sameness.{same_rests}
 use Rattle.link_tables.specs.Rows.{form_of}
 use Rattle.link_interpreter.specs.Measures.{rows_of, info_names}
 use Rattle.link_tables.specs.InForce.{in_force}
@@ -20,7 +20,7 @@ decreases-same_first g l = 3 * length l.left.now
 
 abbrev pub invariant-same_list-loop-a : goal.invariant-same_list-loop-a
 invariant-same_list-loop-a g l = record {
-  so_far : same_walk (form_of l.form) (rows_of g.P.PeerSet.peer (table_of l.table.0)) nothing l.rest l.other ≡ (list_rule (form_of l.form) (rows_of g.P.PeerSet.peer (table_of l.table.0))).same l.fn.left l.fn.right;
+  so_far : same_rests (form_of l.form) (rows_of g.P.PeerSet.peer (table_of l.table.0)) no_kind_in_force l.rest l.other ≡ (list_rule (form_of l.form) (rows_of g.P.PeerSet.peer (table_of l.table.0))).same l.fn.left l.fn.right;
   within : length l.rest ≤ length l.fn.left;
 }
 
@@ -29,7 +29,7 @@ decreases-same_list-loop-a g l = length l.rest
 
 abbrev pub invariant-same_info-loop-rest : goal.invariant-same_info-loop-rest
 invariant-same_info-loop-rest g l = record {
-  so_far : same_walk any (info_names g.P.PeerSet.peer) (in_force l.force) l.rest l.other ≡ (list_rule any (info_names g.P.PeerSet.peer)).same l.fn.left l.fn.right;
+  so_far : same_rests any (info_names g.P.PeerSet.peer) (in_force l.force) l.rest l.other ≡ (list_rule any (info_names g.P.PeerSet.peer)).same l.fn.left l.fn.right;
   within : length l.rest ≤ length l.fn.left;
 }
 

@@ -1,7 +1,7 @@
 use Rattle.std.proofs.Common.{◌++◌, length, sym, ap, ◌∙◌, arith, refl, subst}
 use Rattle.std.proofs.lemmas.Bool.{eqb-true}
 use Rattle.std.proofs.lemmas.List.{length-append}
-use Rattle.attribute_tables_grammar.specs.Lists.{nothing, row_of, any}
+use Rattle.attribute_tables_grammar.specs.Lists.{no_kind_in_force, row_of, any}
 use Rattle.link_interpreter.specs.Measures.{rows_of, info_names}
 use Rattle.link_interpreter.specs.Sameness.{attribute_of}
 use Rattle.link_interpreter.proofs.Held.{info_parts, list_held}
@@ -37,7 +37,7 @@ write_first-write_attribute-requires g t c κs within =
 
 pub write_first-returns-clause-text : goal.write_first-returns-clause-text
 write_first-returns-clause-text g t c =
-    rewritten_as (row_of (rows_of g.P.PeerSet.peer (table_of c.args.table.0)) nothing (attribute_of c.in-Some.attribute)) _ (attribute_of c.in-Some.attribute) _ _ _ c.find-found.ensures.rule c.find-found.ensures.written c.write_attribute.ensures.text
+    rewritten_as (row_of (rows_of g.P.PeerSet.peer (table_of c.args.table.0)) no_kind_in_force (attribute_of c.in-Some.attribute)) _ (attribute_of c.in-Some.attribute) _ _ _ c.find-found.ensures.rule c.find-found.ensures.written c.write_attribute.ensures.text
     ∙ ap (λ x. c.args.out.now.items ++ x) (sym (c.writing_unfolds.ensures.single _ _ _ _ c.in-Some.ensures.first c.requires.accepted c.requires.fits).1)
 
 pub write_list-loop-rest-init : goal.write_list-loop-rest-init

@@ -1,7 +1,7 @@
 -- The output so far, followed by the encoding of the rest, is the old output followed by the encoding of the whole; and
 -- the output has the capacity for it.
 use Rattle.std.proofs.Common.{length, ◌+◌, ◌*◌, ◌≤◌, vec_capacity}
-use Rattle.attribute_tables_grammar.specs.Lists.{nothing, any}
+use Rattle.attribute_tables_grammar.specs.Lists.{no_kind_in_force, any}
 use Rattle.attribute_tables_grammar.specs.Writing.{WrittenSoFar}
 use Rattle.link_tables.specs.Rows.{form_of}
 use Rattle.link_interpreter.specs.Measures.{rows_of, info_names}
@@ -27,7 +27,7 @@ decreases-write_attribute g l = 4 * length l.payload.now + 4
 
 abbrev pub invariant-write_list-loop-rest : goal.invariant-write_list-loop-rest
 invariant-write_list-loop-rest g l = record {
-  so_far : WrittenSoFar (form_of l.form) (rows_of g.P.PeerSet.peer (table_of l.fn.table.0)) l.fn.bytes l.fn.out.items l.out.items nothing l.rest;
+  so_far : WrittenSoFar (form_of l.form) (rows_of g.P.PeerSet.peer (table_of l.fn.table.0)) l.fn.bytes l.fn.out.items l.out.items no_kind_in_force l.rest;
   capacity : vec_capacity l.fn.out ≤ vec_capacity l.out;
   within : length l.rest ≤ length l.fn.bytes;
 }

@@ -6,9 +6,8 @@ use Rattle.std.proofs.KnownBytes.{Appends-trans, Consumes-kept, Consumes-trans}
 use Rattle.std.specs.Io.KnownBytes.{Appends, Consumes}
 use Rattle.link_capture_reader.proofs.FirstBytes.{kept_more}
 use Rattle.link_capture_reader.proofs.Progress.{kept_less, unended}
-use Rattle.link_capture_reader.specs.Devices.{risen}
-use Rattle.link_capture_reader.specs.Outcomes.{IsPrefix}
-use Rattle.link_lines.specs.MessageLines.{messages_lines, shown}
+use Rattle.link_capture_reader.specs.Devices.{risen, IsPrefix}
+use Rattle.link_lines.specs.MessageLines.{lines_of_messages, shown}
 use Rattle.link_lines.specs.Messages.{frame_of, report_of}
 use Rattle.link_lines.specs.Options.{selection_of}
 use Rattle.link_lines.specs.Walks.{Ends, FinishedWith, Passes, left_to_show, or_else, report_in, shown_to}
@@ -37,7 +36,7 @@ returns-in_default g c =
     let s = i.came.0 in
     let came = i.came.1 in (
       s,
-      messages_lines (selection_of c.args.options.now) came.messages,
+      lines_of_messages (selection_of c.args.options.now) came.messages,
       came.consumed,
       came.wrote,
       device_shown _ _ _ _ c.args.limit s _ _ _ c.fault_at.ensures refl
@@ -52,7 +51,7 @@ returns-in_default-read g c =
     let came = i.came.1 in
     let at : c.pieces.start + c.len.result ≡ c.pieces.start + length c.pieces.rest.items = omega (arith, c.len.ensures) in (
       s,
-      messages_lines (selection_of c.args.options.now) came.messages,
+      lines_of_messages (selection_of c.args.options.now) came.messages,
       Consumes-kept _ _ _ s came.consumed c.in_default-read.ensures.bytes,
       came.wrote,
       device_shown _ _ _ _ c.args.limit s _ _ _ c.fault_at-in_default-read.ensures refl (
@@ -70,7 +69,7 @@ returns-then-size-eq0 g c =
     let came = i.came.1 in
     let read = c.in-Ok-read in (
       s,
-      messages_lines (selection_of c.args.options.now) came.messages,
+      lines_of_messages (selection_of c.args.options.now) came.messages,
       subst (Consumes _ _) (ap (λ n. s ++ take n c.read.new.buffer) c.if-size-eq0.true ∙ append-nil s) (Consumes-trans _ _ _ s (take read.size c.read.new.buffer) came.consumed read.ensures.bytes.0),
       came.wrote,
       finished c.messages_unfold.ensures c.first_faults_are_reported.ensures c.faults_are_at_frames.ensures _ _ _ _ _ _ _ _ _ _ _ s came _ _ _ (search rules) c.finish.result
@@ -89,7 +88,7 @@ returns-then-size-accepted g c =
     let at : c.pieces.start + c.len.result ≡ c.pieces.start + length c.pieces.rest.items = omega (arith, c.len.ensures) in
     let size : length (s ++ piece) ≡ length s + read.size = omega (arith, length-append s piece, length-take read.size c.read.new.buffer, read.ensures.within) in (
       s ++ piece,
-      messages_lines (selection_of c.args.options.now) came.messages,
+      lines_of_messages (selection_of c.args.options.now) came.messages,
       Consumes-trans _ _ _ s piece came.consumed read.ensures.bytes.0,
       came.wrote,
       device_shown _ _ _ _ c.args.limit (s ++ piece) _ _ _ c.fault_at-then-size-accepted.ensures refl (record {
@@ -118,13 +117,13 @@ returns-in_err-written g c =
     let prefix = prefix_shown c.messages_unfold.ensures c.first_faults_are_reported.ensures o c.args.limit _ _ _ c.left_to_show-bytes.result.now _ _ _ _ _ (g.S.Source.to_come c.read.new.self) _ _ s piece came joined _ _ _ i.empty c.push_messages-walk.ensures.passes in
     rw p.1 (
       s ++ piece,
-      messages_lines o came.messages ++ take z.2.0 slice,
+      lines_of_messages o came.messages ++ take z.2.0 slice,
       Consumes-trans _ _ _ s piece came.consumed c.in-Ok-read.ensures.bytes.0,
-      Appends-trans _ _ _ (messages_lines o came.messages) (take z.2.0 slice) came.wrote z.2.3,
+      Appends-trans _ _ _ (lines_of_messages o came.messages) (take z.2.0 slice) came.wrote z.2.3,
       device_shown _ _ _ _ c.args.limit (s ++ piece) _ _ c.in_err-written.field-0.0 p.2 (write_only (s ++ piece) _ _ z.0)
-          (failed_write _ _ _ _ c.args.limit (s ++ piece) (messages_lines o came.messages) slice c.pieces.written z.2.0 c.in_err-written.field-0.0
+          (failed_write _ _ _ _ c.args.limit (s ++ piece) (lines_of_messages o came.messages) slice c.pieces.written z.2.0 c.in_err-written.field-0.0
           (z.1 ∙ ap risen i.sink_failures)
-          (subst (λ x. IsPrefix (messages_lines o came.messages ++ x) (shown o c.args.limit (s ++ piece))) (sym c.as_slice-in-pieces-2.ensures.value) prefix)
+          (subst (λ x. IsPrefix (lines_of_messages o came.messages ++ x) (shown o c.args.limit (s ++ piece))) (sym c.as_slice-in-pieces-2.ensures.value) prefix)
           z.2.1 came.count z.0 z.2.2),
       kept_more c.pieces.first.items _ s piece i.came.2 c.keep_first.ensures,
     )
@@ -144,9 +143,9 @@ returns-in-Err g c =
     let passes = subst (λ r. Passes o c.args.limit c.pieces.start bytes c.pieces.padding (shown_to r) c.pieces.lines.items lines (report_in c.pieces.found) (report_in c.push_messages-walk.new.found)) c.in-Err.is c.push_messages-walk.ensures.passes in
     let memory = c.in-Err.ensures.memory in (
       s ++ piece,
-      messages_lines o came.messages ++ lines,
+      lines_of_messages o came.messages ++ lines,
       Consumes-trans _ _ _ s piece came.consumed c.in-Ok-read.ensures.bytes.0,
-      Appends-trans _ _ _ (messages_lines o came.messages) lines came.wrote (subst (Appends _ _) c.as_slice-in-pieces-2.ensures.value c.in_ok-written.ensures.ok.1),
+      Appends-trans _ _ _ (lines_of_messages o came.messages) lines came.wrote (subst (Appends _ _) c.as_slice-in-pieces-2.ensures.value c.in_ok-written.ensures.ok.1),
       device_shown _ _ _ _ c.args.limit (s ++ piece) _ _ _ c.fault_at-in-Err.ensures refl
           (ran_out c.messages_unfold.ensures c.first_faults_are_reported.ensures o c.args.limit _ _ _ bytes _ _ _ _ _ (g.S.Source.to_come c.read.new.self) _ _ s piece came joined at _ _ i.empty passes memory.0 memory.1),
       kept_more c.pieces.first.items _ s piece i.came.2 c.keep_first.ensures,
@@ -170,9 +169,9 @@ returns-in-Some g c =
     let report = c.stopped_by.ensures ∙ ap (λ x. or_else (report_in c.push_messages-walk.new.found) (Some (report_of (c.pieces.start + walked.len) c.in-Some.kind (frame_of x)))) rest in
     let written = c.in_ok-written.ensures.ok in (
       s ++ piece,
-      messages_lines o came.messages ++ lines,
+      lines_of_messages o came.messages ++ lines,
       Consumes-trans _ _ _ s piece came.consumed c.in-Ok-read.ensures.bytes.0,
-      Appends-trans _ _ _ (messages_lines o came.messages) lines came.wrote (subst (Appends _ _) c.as_slice-in-pieces-2.ensures.value written.1),
+      Appends-trans _ _ _ (lines_of_messages o came.messages) lines came.wrote (subst (Appends _ _) c.as_slice-in-pieces-2.ensures.value written.1),
       stopped_shown c.messages_unfold.ensures c.first_faults_are_reported.ensures o c.args.limit _ _ _ bytes _ _ _ _ _ (g.S.Source.to_come c.read.new.self) _ _ s piece came joined _ _ _ i.empty passes c.faults_are_at_frames.ensures _ _ _ c.in-Some.kind c.stopped_by.result stop.0 stop.1 stops.1 report,
       kept_more c.pieces.first.items _ s piece i.came.2 c.keep_first.ensures,
     )
@@ -195,9 +194,9 @@ returns-in_default-keep_rest g c =
     let more : c.min-passed.result < length bytes = subst (λ (x : List ℕ). c.min-passed.result < length x) left c.in_default-keep_rest.ensures.err in
     let cut = are_cut o.keep_going c.args.limit bytes walked.len c.min-passed.result walked.last c.in-Ok-walk.ensures.ends c.in_default-stopping_fault.ensures.none is in (
       s ++ piece,
-      messages_lines o came.messages ++ lines,
+      lines_of_messages o came.messages ++ lines,
       Consumes-trans _ _ _ s piece came.consumed c.in-Ok-read.ensures.bytes.0,
-      Appends-trans _ _ _ (messages_lines o came.messages) lines came.wrote (subst (Appends _ _) c.as_slice-in-pieces-2.ensures.value c.in_ok-written.ensures.ok.1),
+      Appends-trans _ _ _ (lines_of_messages o came.messages) lines came.wrote (subst (Appends _ _) c.as_slice-in-pieces-2.ensures.value c.in_ok-written.ensures.ok.1),
       device_shown _ _ _ _ c.args.limit (s ++ piece) _ _ _ c.fault_at-in_default-keep_rest.ensures refl
           (tail_runs_out c.messages_unfold.ensures c.first_faults_are_reported.ensures o c.args.limit _ _ _ bytes _ _ _ _ _ (g.S.Source.to_come c.read.new.self) _ _ s piece came joined walked.len _ _ i.empty passes c.min-passed.result is more cut),
       kept_more c.pieces.first.items _ s piece i.came.2 c.keep_first.ensures,

@@ -1,6 +1,6 @@
 -- The message is shown, or showing stops there.
 use Rattle.std.proofs.Common.{◌++◌, sym, subst, ◌∙◌, ap}
-use Rattle.netlink_packet_core_grammar.specs.Frames.{IsFrame}
+use Rattle.netlink_packet_core_grammar.specs.Frames.{BeginsWithFrame}
 use Rattle.link_lines.specs.MessageLines.{message_lines}
 use Rattle.link_lines.specs.Messages.{Message.Faulty}
 use Rattle.link_lines.specs.Options.{selection_of}
@@ -12,7 +12,7 @@ use Rattle.link_lines.proofs.messages.push_selected_message.Goals as goal
 pub push_refused-requires : goal.push_refused-requires
 push_refused-requires c =
     let judged = judged_as _ _ _ _ (J.Faulty c.in-Faulty.kind c.in-Faulty.len) c.in-Faulty.is c.in_ok-len.ensures.ok in
-    subst IsFrame (sym c.frame_of.ensures) (frame_is_frame c.args.bytes.now judged.2)
+    subst BeginsWithFrame (sym c.frame_of.ensures) (frame_is_frame c.args.bytes.now judged.2)
 
 pub returns-in_ok-push_accepted-in-Accepted-clause-ok : goal.returns-in_ok-push_accepted-in-Accepted-clause-ok
 returns-in_ok-push_accepted-in-Accepted-clause-ok c =

@@ -4,6 +4,7 @@ use Rattle.netlink_packet_core.specs.Frames.{frame_type, frame_body}
 use Rattle.link_capture_grammar.specs.Bodies.{is_link_type}
 use Rattle.link_capture_grammar.specs.Same.{same_body}
 use Rattle.linkcap_c.specs.Apart.{body_without_numbers}
+use Rattle.link_capture_grammar.specs.Body.{link_body}
 use Rattle.linkcap_c.proofs.Apart.{bodies, one_kind, same_frames, other_headers}
 use Rattle.linkcap_c.proofs.numbers.same_frame.Goals as goal
 
@@ -26,9 +27,9 @@ returns-then-eq c =
     let header : take 4 (drop 4 a) ≡ take 4 (drop 4 b) = (bytes_eq-Decides _ _).0 (sym c.eq.ensures ∙ c.if-eq.true) in
     let answer : c.same_body.result ≡ bodies a b f g =
     c.same_body.ensures
-    ∙ ap (λ t. same_body t (body_without_numbers t c.frame_body.result.now) (body_without_numbers t c.frame_body-then-eq.result.now)) kind
-    ∙ ap (λ x. same_body (frame_type a) (body_without_numbers (frame_type a) x) (body_without_numbers (frame_type a) c.frame_body-then-eq.result.now)) c.frame_body.ensures
-    ∙ ap (λ x. same_body (frame_type a) (body_without_numbers (frame_type a) (frame_body a)) (body_without_numbers (frame_type a) x)) c.frame_body-then-eq.ensures in
+    ∙ ap (λ t. same_body link_body t (body_without_numbers t c.frame_body.result.now) (body_without_numbers t c.frame_body-then-eq.result.now)) kind
+    ∙ ap (λ x. same_body link_body (frame_type a) (body_without_numbers (frame_type a) x) (body_without_numbers (frame_type a) c.frame_body-then-eq.result.now)) c.frame_body.ensures
+    ∙ ap (λ x. same_body link_body (frame_type a) (body_without_numbers (frame_type a) (frame_body a)) (body_without_numbers (frame_type a) x)) c.frame_body-then-eq.ensures in
     same_frames a b f g header c.same_body.result answer
 
 pub returns-else-eq : goal.returns-else-eq

@@ -6,6 +6,7 @@ use Rattle.link_capture_grammar.specs.Captures.{first_frame}
 use Rattle.link_capture_reader.specs.States.{source_state}
 use Rattle.link_capture_comparing.specs.Readings.{HasRead}
 use Rattle.link_capture_comparing.specs.Sides.{SideState, state_of, offset_of, rest_of, window_of}
+use Rattle.link_capture_grammar.specs.Body.{link_body}
 use Rattle.link_capture_comparing.proofs.Finding.{refused_header, found_fault, found_no_memory, not_memory, Takes, takes, takes_inside, takes_offset, unused}
 use Rattle.link_capture_comparing.proofs.Standing.{stuck_fault, fault_at}
 use Rattle.link_interpreter.proofs.Loop.{some_bytes}
@@ -18,7 +19,7 @@ pub returns-in_default-clause-found : goal.returns-in_default-clause-found
 returns-in_default-clause-found g c = λ initial s h w.
     let r = state_of c.pieces.self in
     let z = c.pieces.invariant.so_far initial s h w in
-    let stuck = ap (first_frame r.limit) (sym c.rest.ensures) ∙ c.frames_are_judged.ensures.header r.limit c.rest.result.now c.in-Err.kind c.in-Err.ensures.err in
+    let stuck = ap (first_frame link_body r.limit) (sym c.rest.ensures) ∙ c.frames_are_judged.ensures.header r.limit c.rest.result.now c.in-Err.kind c.in-Err.ensures.err in
     let more = subst (λ (x : List ℕ). 0 < length x) c.rest.ensures (refused_header c.pieces.self.limit c.rest.result.now c.in-Err.kind c.in_default.not-Cut c.in-Err.ensures.err) in
     found_fault initial _ (state_of c.args.self.now) r _ s z.0 c.in-Err.kind (offset_of r) c.fail.ensures z.1 z.2
     (fault_at r.limit z.0 c.in-Err.kind (offset_of r) (not_memory c.in-Err.kind c.in-Err.ensures.of_frames) (stuck_fault c.captures_unfold_by_frames.ensures r.limit z.0 (rest_of r) (offset_of r) c.in-Err.kind z.3 more stuck))
@@ -28,7 +29,7 @@ pub returns-then-not-is_empty-clause-found : goal.returns-then-not-is_empty-clau
 returns-then-not-is_empty-clause-found g c = λ initial s h w.
     let r = state_of c.pieces.self in
     let z = c.pieces.invariant.so_far initial s h w in
-    let stuck = ap (first_frame r.limit) (sym c.rest.ensures) ∙ c.frames_are_judged.ensures.header r.limit c.rest.result.now c.in-Err.kind c.in-Err.ensures.err ∙ ap (λ k. Err k) c.in-Cut.is in
+    let stuck = ap (first_frame link_body r.limit) (sym c.rest.ensures) ∙ c.frames_are_judged.ensures.header r.limit c.rest.result.now c.in-Err.kind c.in-Err.ensures.err ∙ ap (λ k. Err k) c.in-Cut.is in
     let more = subst (λ (x : List ℕ). 0 < length x) c.rest-then-self.ensures (some_bytes c.rest-then-self.result.now _ c.if-not-is_empty.true c.is_empty.ensures) in
     found_fault initial _ (state_of c.args.self.now) r _ s z.0 Cut (offset_of r) c.fail-then-not-is_empty.ensures z.1 z.2
     (stuck_fault c.captures_unfold_by_frames.ensures r.limit z.0 (rest_of r) (offset_of r) Cut z.3 more stuck) (λ e. c.if-self.true)
@@ -37,7 +38,7 @@ pub returns-in_default-make_room-clause-found : goal.returns-in_default-make_roo
 returns-in_default-make_room-clause-found g c = λ initial s h w.
     let r = state_of c.pieces.self in
     let z = c.pieces.invariant.so_far initial s h w in
-    let stuck = ap (first_frame r.limit) (sym c.rest.ensures) ∙ c.frames_are_judged.ensures.header r.limit c.rest.result.now c.in-Err.kind c.in-Err.ensures.err ∙ ap (λ k. Err k) c.in-Cut.is in
+    let stuck = ap (first_frame link_body r.limit) (sym c.rest.ensures) ∙ c.frames_are_judged.ensures.header r.limit c.rest.result.now c.in-Err.kind c.in-Err.ensures.err ∙ ap (λ k. Err k) c.in-Cut.is in
     let same = c.make_room.ensures.others in
     found_no_memory c.captures_unfold_by_frames.ensures initial _ (state_of c.args.self.now) r (state_of c.make_room.new.self) _ s z.0 same.0 same.1 same.2 c.make_room.ensures.offset c.fail-in_default-make_room.ensures z.1 z.2 z.3 c.in_default-make_room.ensures.cut stuck
 

@@ -2,7 +2,7 @@
 use Rattle.std.proofs.Common.{◌≡◌, ◌<◌, ◌≤◌, ◌+◌, ◌-◌, ◌^◌, ℕ, List, length, true, None, cond}
 use Rattle.link_capture_reader.specs.States.{SourceState, source_state}
 use Rattle.link_capture_comparing.specs.Readings.{HasRead}
-use Rattle.link_capture_comparing.specs.Sides.{state_of, offset_of, Stands, Extends}
+use Rattle.link_capture_comparing.specs.Sides.{state_of, offset_of, HasPassedFrames, Extends}
 use Rattle.link_capture_comparing.proofs.side.Side.frame.Given as goal
 
 abbrev pub invariant-pieces : goal.invariant-pieces
@@ -13,8 +13,8 @@ invariant-pieces g l = record {
   limit : l.self.limit ≡ l.fn.self.limit;
   offset : offset_of (state_of l.self) ≡ offset_of (state_of l.fn.self);
   ended : l.fn.self.ended ≡ true → l.self.ended ≡ true;
-  so_far : (initial : SourceState) (s : List ℕ) → HasRead initial (source_state g.S.Source.to_come g.S.Source.failures g.S.Source.ends_reported l.fn.source) l.fn.self.ended l.fn.self.read s → Stands (state_of l.fn.self) s →
-      (t : List ℕ) × Extends l.fn.self.ended s t × HasRead initial (source_state g.S.Source.to_come g.S.Source.failures g.S.Source.ends_reported l.source) l.self.ended l.self.read t × Stands (state_of l.self) t;
+  so_far : (initial : SourceState) (s : List ℕ) → HasRead initial (source_state g.S.Source.to_come g.S.Source.failures g.S.Source.ends_reported l.fn.source) l.fn.self.ended l.fn.self.read s → HasPassedFrames (state_of l.fn.self) s →
+      (t : List ℕ) × Extends l.fn.self.ended s t × HasRead initial (source_state g.S.Source.to_come g.S.Source.failures g.S.Source.ends_reported l.source) l.self.ended l.self.read t × HasPassedFrames (state_of l.self) t;
 }
 
 abbrev pub decreases-pieces : goal.decreases-pieces

@@ -5,6 +5,7 @@ use Rattle.link_capture_grammar.specs.Captures.{first_frame}
 use Rattle.link_capture_reader.specs.States.{source_state}
 use Rattle.link_capture_comparing.specs.Readings.{HasRead}
 use Rattle.link_capture_comparing.specs.Sides.{SideState, FindsFrame, IsAtFrame, state_of, offset_of, rest_of}
+use Rattle.link_capture_grammar.specs.Body.{link_body}
 use Rattle.link_capture_comparing.proofs.Counting.{stops_later}
 use Rattle.link_capture_comparing.proofs.Finding.{extends_trans, found_fault, frame_inside, not_memory, passes, passes_offset, whole_not_cut}
 use Rattle.link_capture_comparing.proofs.Standing.{fault_at, stuck_fault}
@@ -24,7 +25,7 @@ returns-in-Err-clause-judged g c = λ initial s h w.
     let now = source_state g.S.Source.to_come g.S.Source.failures g.S.Source.ends_reported c.frame.new.source in
     let f = subst (λ (o : Option ℕ). FindsFrame initial now (state_of c.frames.self) r z.0 (Ok o)) c.in-Some.is (c.in_ok-frame.ensures.found initial z.0 z.2 z.3) in
     let at = subst (λ (o : Option ℕ). IsAtFrame r o) c.in-Some.is c.in_ok-frame.ensures.frame in
-    let stuck = ap (first_frame r.limit) (sym c.rest.ensures) ∙ c.in-Err.ensures.err in
+    let stuck = ap (first_frame link_body r.limit) (sym c.rest.ensures) ∙ c.in-Err.ensures.err in
     let more : 0 < length (rest_of r) = omega (arith, at.0.has_header) in
     let found = found_fault initial now (state_of c.frames.self) r (state_of c.fail.new.self) z.0 f.0 c.in-Err.kind (offset_of r) c.fail.ensures f.1 f.2
     (fault_at r.limit f.0 c.in-Err.kind (offset_of r) (not_memory c.in-Err.kind c.in-Err.ensures.of_frames) (stuck_fault c.captures_unfold_by_frames.ensures r.limit f.0 (rest_of r) (offset_of r) c.in-Err.kind f.3 more stuck))
@@ -46,7 +47,7 @@ frames-preserved g c =
     let now = source_state g.S.Source.to_come g.S.Source.failures g.S.Source.ends_reported c.frame.new.source in
     let at = subst (λ (o : Option ℕ). IsAtFrame r o) c.in-Some.is c.in_ok-frame.ensures.frame in
     let ok = c.in-Ok.ensures.ok in
-    let first = ap (first_frame r.limit) (sym c.rest.ensures) ∙ ok.is in
+    let first = ap (first_frame link_body r.limit) (sym c.rest.ensures) ∙ ok.is in
     let more : 0 < length (rest_of r) = omega (arith, at.0.has_header) in
     record {
       inside = subst (λ (z : SideState). length z.window ≤ z.read) (sym c.pass.ensures) c.frame.ensures.inside;

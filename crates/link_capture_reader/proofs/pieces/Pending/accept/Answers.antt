@@ -5,7 +5,8 @@ use Rattle.std.proofs.lemmas.List.{take_rest, length-drop, append-nil}
 use Rattle.std.proofs.lemmas.Result.{err_from_is_err_and}
 use Rattle.link_capture_grammar.specs.Captures.{texts}
 use Rattle.link_capture_reader.specs.Readers.{CanKeep, MemoryFaultIsJustified, NeedsMemory}
-use Rattle.link_capture_reader.specs.Walks.{ReadsTo, Faults, RunsOutOfMemory}
+use Rattle.link_capture_reader.specs.Walks.{ReadsTo, OtherFaultIsFirst, MemoryFaultIsAtFrame}
+use Rattle.link_capture_grammar.specs.Body.{link_body}
 use Rattle.link_capture_reader.proofs.Reading.{padding_resumes, padding_texts, resumed, owed_after, faults_on}
 use Rattle.link_capture_reader.proofs.Reading.{resumes_reader, runs_out_of_fewer}
 use Rattle.link_capture_reader.proofs.pieces.Pending.accept.Goals as goal
@@ -60,7 +61,7 @@ returns-clause-ok c =
           rw (w.self-is, w.out-is) (λ s a r.
           let texts_stay = padding_texts go limit s piece kept owed (omega arith) r in (
             padding_resumes go limit s piece kept owed (omega arith) r,
-            ([], texts_stay ∙ sym (append-nil (texts limit s)), sym (append-nil out)),
+            ([], texts_stay ∙ sym (append-nil (texts link_body limit s)), sym (append-nil out)),
           ))
       | else-piece-self-2+in_ok-resume_frame w ↦
           let new = w.resume_frame.new in
@@ -88,9 +89,9 @@ returns-in_err-resume_frame-clause-fault c =
     let fault = c.in_err-resume_frame.field-0.0 in
     let fits : accepted + length piece < 2 ^ 64 = omega arith in
     let e = take_rest piece owed in
-    let h = subst (λ x. Faults limit start (kept ++ x) old new fault) e c.in_err-resume_frame.ensures.fault in
+    let h = subst (λ x. OtherFaultIsFirst limit start (kept ++ x) old new fault) e c.in_err-resume_frame.ensures.fault in
     let capacity = vec_capacity c.args.self.now.kept in
-    let k = subst (λ x. RunsOutOfMemory (CanKeep kept capacity (length x)) limit start (kept ++ x) old new fault) e
+    let k = subst (λ x. MemoryFaultIsAtFrame (CanKeep kept capacity (length x)) limit start (kept ++ x) old new fault) e
     c.in_err-resume_frame.ensures.memory in
     let fewer = runs_out_of_fewer kept capacity limit start piece owed old new fault k in
     let p = err_from_is_err_and c.from_residual.result c.from_residual.ensures.1 in

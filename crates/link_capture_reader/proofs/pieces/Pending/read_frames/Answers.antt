@@ -2,6 +2,7 @@
 use Rattle.std.proofs.Common.{◌≡◌, ◌≢◌, inr, ◌++◌, Err, drop, refl, sym, ap, ◌∙◌}
 use Rattle.link_capture_grammar.specs.declared.fault.FaultKind.TheVariants.{Cut, Memory}
 use Rattle.link_capture_grammar.specs.Captures.{first_frame}
+use Rattle.link_capture_grammar.specs.Body.{link_body}
 use Rattle.link_capture_reader.proofs.Passing.{before_fault, cut_header}
 use Rattle.link_capture_reader.proofs.pieces.Pending.read_frames.Goals as goal
 
@@ -14,7 +15,7 @@ returns-in-Err-extend_from_slice-clause-memory c = λ _.
     let left = drop fault.offset bytes in
     let other : fault.kind ≢ Memory = let cut = c.in-Cut.is in λ e. cc in
     let claimed = c.in-Err.ensures.fault other in
-    let cut : first_frame limit left ≡ Err Cut =
+    let cut : first_frame link_body limit left ≡ Err Cut =
     go.fault_there limit bytes fault claimed.0 ∙ ap (λ k. Err k) c.in-Cut.is in
     let b = before_fault go limit bytes fault claimed.0 in (
       fault.offset,

@@ -12,8 +12,9 @@ use Rattle.link_capture_reader.proofs.CutFrames.{completed, whole}
 use Rattle.link_capture_reader.proofs.Passing.{passed_one, only_one_fault, only_one_texts, then_reads_to, then_faults}
 use Rattle.link_capture_reader.proofs.Passing.{then_runs_out, stop_zero, no_texts, cut_resumes, start_fault}
 use Rattle.link_capture_reader.proofs.Passing.{start_texts}
-use Rattle.link_capture_reader.specs.Readers.{CanKeep, Resumes}
-use Rattle.link_capture_reader.specs.Walks.{ReadsTo, Faults, RunsOutOfMemory}
+use Rattle.link_capture_reader.specs.Readers.{CanKeep, IsPendingAfter}
+use Rattle.link_capture_reader.specs.Walks.{ReadsTo, OtherFaultIsFirst, MemoryFaultIsAtFrame}
+use Rattle.link_capture_grammar.specs.Body.{link_body}
 use Rattle.link_capture_reader.proofs.pieces.Pending.resume_frame.Goals as goal
 
 pub returns-in-Err-clause-fault : goal.returns-in-Err-clause-fault
@@ -25,8 +26,8 @@ returns-in-Err-clause-fault c = λ _.
     let joined = old ++ bytes in
     let kind = c.in-Err.kind in
     let some : 0 < length joined = omega (arith, length-append old bytes) in
-    let refused : first_frame limit joined ≡ Err kind =
-    ap (λ x. first_frame limit (x ++ bytes)) (sym c.as_slice.ensures.value) ∙ c.in-Err.ensures.err.1 in (
+    let refused : first_frame link_body limit joined ≡ Err kind =
+    ap (λ x. first_frame link_body limit (x ++ bytes)) (sym c.as_slice.ensures.value) ∙ c.in-Err.ensures.err.1 in (
       c.in-Err.ensures.err.0,
       start_fault go limit c.args.start joined kind some refused,
       start_texts go limit joined c.args.out.now.items kind refused,
@@ -63,12 +64,12 @@ returns-then-left-owed-clause-ok c =
     let moved = c.in-Ok.moved in
     let size = c.in-Ok-push_frame.size in
     let ok = c.in-Ok-push_frame.ensures.ok in
-    let fr = ap (first_frame limit) (sym c.as_slice-2.ensures.value) ∙ ok.1 in
+    let fr = ap (first_frame link_body limit) (sym c.as_slice-2.ensures.value) ∙ ok.1 in
     let d = completed c.frames_are_independent.ensures limit old bytes c.complete_frame.new.kept.items moved size ok.0
     c.in-Ok.ensures.moved c.in-Ok.ensures.within c.in-Ok.ensures.exact fr in
     let pad = c.padding-owed.ensures in
     let le : length joined ≤ nla_align size = omega (arith, d.total) in (
-      subst (λ f. Resumes f joined c.clear.new.self.items (c.padding-owed.result - (length bytes - moved)))
+      subst (λ f. IsPendingAfter f joined c.clear.new.self.items (c.padding-owed.result - (length bytes - moved)))
           (sym (only_one_fault go limit joined (size, ok.0) d.prefix_is le))
           (c.clear.ensures.items, omega (arith, d.total)),
       ok.2 ∙ ap (λ t. c.args.out.now.items ++ t) (sym (only_one_texts go limit joined (size, ok.0) d.prefix_is le)),
@@ -90,7 +91,7 @@ returns-else-left-owed c =
     let out = c.read_frames-in-Ok-push_frame.new.out.items in
     let kept = c.read_frames-in-Ok-push_frame.new.self.kept.items in
     let owed = c.read_frames-in-Ok-push_frame.new.self.owed in
-    let fr = ap (first_frame limit) (sym c.as_slice-2.ensures.value) ∙ ok.1 in
+    let fr = ap (first_frame link_body limit) (sym c.as_slice-2.ensures.value) ∙ ok.1 in
     let d = completed c.frames_are_independent.ensures limit old bytes c.complete_frame.new.kept.items moved size ok.0
     c.in-Ok.ensures.moved c.in-Ok.ensures.within c.in-Ok.ensures.exact fr in
     let pad = c.padding-owed.ensures in
@@ -104,12 +105,12 @@ returns-else-left-owed c =
           (λ _. then_reads_to go limit joined passed _ ok.0 before _ _ _ owed w left one ok.2)
           c.read_frames-in-Ok-push_frame.ensures.ok;
       fault = IfErr-weaker c.read_frames-in-Ok-push_frame.result
-          (λ fault. Faults limit _ _ pushed out fault) (λ fault. Faults limit start joined before out fault)
+          (λ fault. OtherFaultIsFirst limit _ _ pushed out fault) (λ fault. OtherFaultIsFirst limit start joined before out fault)
           (λ fault. then_faults go limit joined passed start _ _ ok.0 before _ _ fault w left (omega arith) one ok.2)
           c.read_frames-in-Ok-push_frame.ensures.fault;
       memory = IfErr-weaker c.read_frames-in-Ok-push_frame.result
-          (λ fault. RunsOutOfMemory ⊤ limit _ _ pushed out fault)
-          (λ fault. RunsOutOfMemory (CanKeep old (vec_capacity c.args.self.now.kept) (length bytes)) limit start joined before out fault)
+          (λ fault. MemoryFaultIsAtFrame ⊤ limit _ _ pushed out fault)
+          (λ fault. MemoryFaultIsAtFrame (CanKeep old (vec_capacity c.args.self.now.kept) (length bytes)) limit start joined before out fault)
           (λ fault. then_runs_out go ⊤ (CanKeep old (vec_capacity c.args.self.now.kept) (length bytes)) limit joined passed start _ _ ok.0 before _ _ fault (λ r. tt) w left (omega arith) one ok.2)
           c.read_frames-in-Ok-push_frame.ensures.memory;
       capacity = search rules;
@@ -126,16 +127,16 @@ returns-in-Cut-clause-ok c =
     let new = c.complete_frame.new.kept.items in
     let cut = c.in-Cut.is in
     let other : c.in-Err-push_frame.kind ≢ Memory = λ e. cc in
-    let fr : first_frame limit new ≡ Err Cut =
-    ap (first_frame limit) (sym c.as_slice-2.ensures.value) ∙ c.in-Err-push_frame.ensures.refused other
+    let fr : first_frame link_body limit new ≡ Err Cut =
+    ap (first_frame link_body limit) (sym c.as_slice-2.ensures.value) ∙ c.in-Err-push_frame.ensures.refused other
     ∙ ap (λ k. Err k) cut in
     let all : c.in-Ok.moved ≡ length bytes = elim c.in-Ok.ensures.judged [ inl a ↦ a | inr a ↦ absurd (a fr) ] in
     let same : new ≡ old ++ bytes =
     c.in-Ok.ensures.moved ∙ ap (λ x. old ++ x) (take_all c.in-Ok.moved bytes (omega arith)) in
     let some : 0 < length new = omega (arith, ap length same, length-append old bytes) in
-    let joined_cut : first_frame limit (old ++ bytes) ≡ Err Cut = ap (first_frame limit) (sym same) ∙ fr in
+    let joined_cut : first_frame link_body limit (old ++ bytes) ≡ Err Cut = ap (first_frame link_body limit) (sym same) ∙ fr in
     rw c.requires.owed (
-      subst (λ d. Resumes (first_fault limit d) d new 0) same (cut_resumes go limit new some fr),
+      subst (λ d. IsPendingAfter (first_fault link_body limit d) d new 0) same (cut_resumes go limit new some fr),
       c.in-Err-push_frame.ensures.err ∙ start_texts go limit (old ++ bytes) c.args.out.now.items Cut joined_cut,
     )
 
@@ -156,12 +157,12 @@ returns-in_default-kind c =
     record {
       ok = tt;
       fault = λ n.
-          let fr : first_frame limit new ≡ Err kind =
-          ap (first_frame limit) (sym c.as_slice-2.ensures.value) ∙ c.in-Err-push_frame.ensures.refused n in
-          let not_cut : first_frame limit new ≢ Err Cut = λ e. c.in_default-kind.not-Cut cc in
+          let fr : first_frame link_body limit new ≡ Err kind =
+          ap (first_frame link_body limit) (sym c.as_slice-2.ensures.value) ∙ c.in-Err-push_frame.ensures.refused n in
+          let not_cut : first_frame link_body limit new ≢ Err Cut = λ e. c.in_default-kind.not-Cut cc in
           let left = drop c.in-Ok.moved bytes in
-          let all : first_frame limit joined ≡ Err kind =
-          ap (first_frame limit) w ∙ c.frames_are_independent.ensures.unchanged_by_more limit new left not_cut ∙ fr in (
+          let all : first_frame link_body limit joined ≡ Err kind =
+          ap (first_frame link_body limit) w ∙ c.frames_are_independent.ensures.unchanged_by_more limit new left not_cut ∙ fr in (
             c.in_default-kind.not-Cut,
             start_fault go limit c.args.start joined kind some all,
             c.in-Err-push_frame.ensures.err ∙ start_texts go limit joined out kind all,
@@ -169,9 +170,9 @@ returns-in_default-kind c =
       memory = λ m.
           let lacks = c.in-Err-push_frame.ensures.memory m in
           let left = drop c.in-Ok.moved bytes in
-          let accepted : first_frame limit joined ≡ Ok (lacks.0, lacks.1) =
-          ap (first_frame limit) w ∙ c.frames_are_independent.ensures.unchanged_by_more limit new left (λ e. cc)
-          ∙ ap (first_frame limit) (sym c.as_slice-2.ensures.value) ∙ lacks.2 in (
+          let accepted : first_frame link_body limit joined ≡ Ok (lacks.0, lacks.1) =
+          ap (first_frame link_body limit) w ∙ c.frames_are_independent.ensures.unchanged_by_more limit new left (λ e. cc)
+          ∙ ap (first_frame link_body limit) (sym c.as_slice-2.ensures.value) ∙ lacks.2 in (
             0,
             omega arith,
             stop_zero limit joined some header_allowed,

@@ -16,7 +16,8 @@ const DIFFERENT: i32 = 1;
 /// variable `LINKCAP_UPDATE` is set, and neither empty nor `0`, it writes the file instead.
 ///
 /// The command runs in a new network namespace, with its arguments, its folder, and what it changes of this process's
-/// environment. `linkgold` has to be on PATH, or named by `LINKGOLD`; it needs strace, and without root a kernel that allows user
+/// environment. A `Command` doesn't show whether `env_clear` was called, so such a command still gets this process's other
+/// variables. `linkgold` has to be on PATH, or named by `LINKGOLD`; it needs strace, and without root a kernel that allows user
 /// namespaces. Cargo builds the programs of a package before its tests, and names them: `env!("CARGO_BIN_EXE_tool")`.
 ///
 /// # Panics

@@ -1,7 +1,8 @@
 -- The first attribute of a list, from the facts that its reader has.
 use Rattle.std.proofs.Common.{◌≡◌, ℕ, zero, suc, ◌≤◌, Bool, true, false, cond, List, [], ◌∷◌, length, Option, Some, None, refl, ap, ◌∙◌, arith}
 use Rattle.std.specs.Prelude.{◌&&◌, ◌||◌, is_some}
-use Rattle.netlink_packet_core_grammar.specs.Attributes.{Attribute, first_attribute, if_some}
+use Rattle.std.specs.Option.{option_and_then}
+use Rattle.netlink_packet_core_grammar.specs.Attributes.{Attribute, first_attribute}
 use Rattle.netlink_packet_core_grammar.specs.AttributeViews.{BeginsWithAttribute, viewed_attribute, viewed_payload, after_first}
 use Rattle.netlink_packet_core_grammar.specs.Laws.{FirstIsViewed, FirstIsWithin}
 use Rattle.netlink_packet_core.specs.Families.{family_row, may_allocate, accepts}
@@ -48,7 +49,7 @@ family-begins t b e = either_accepted (begins_with_attribute b) (accepts t b) _ 
 
 -- the first attribute is cut off
 after_cut : (m n : ℕ) (o : Option (Attribute × List ℕ)) → ((x : Attribute × List ℕ) → o ≡ Some x → first_entry_within m x.1 ≡ first_entry_within n x.1) →
-    if_some o (λ x. cond (is_of_kind_one x.0) (Some x.0) (first_entry_within m x.1)) ≡ if_some o (λ x. cond (is_of_kind_one x.0) (Some x.0) (first_entry_within n x.1))
+    option_and_then (λ x. cond (is_of_kind_one x.0) (Some x.0) (first_entry_within m x.1)) o ≡ option_and_then (λ x. cond (is_of_kind_one x.0) (Some x.0) (first_entry_within n x.1)) o
 after_cut m n None h = refl
 after_cut m n (Some x) h = ap (λ r. cond (is_of_kind_one x.0) (Some x.0) r) (h x refl)
 
@@ -71,7 +72,7 @@ module _ (within : FirstIsWithin) where
         let f = first.whole b h in
         let r = within.rest_length b (viewed_attribute b) (after_first b) f in
         enough (length b) (suc (length b)) b (omega arith) (omega arith)
-        ∙ ap (λ o. if_some o (λ x. cond (is_of_kind_one x.0) (Some x.0) (first_entry_within (length b) x.1))) f
+        ∙ ap (λ o. option_and_then (λ x. cond (is_of_kind_one x.0) (Some x.0) (first_entry_within (length b) x.1)) o) f
         ∙ ap (λ r. cond (is_of_kind_one (viewed_attribute b)) (Some (viewed_attribute b)) r) (enough (length b) (length (after_first b)) (after_first b) (omega (arith, r)) (omega arith))
 
     -- the first attribute is an entry

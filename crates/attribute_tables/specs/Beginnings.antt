@@ -1,7 +1,8 @@
 -- The first attribute of a list under its rows: everything that is checked before reading the list first allocates.
 use Rattle.std.specs.Prelude.{ℕ, zero, suc, ◌&&◌, ◌||◌, Bool, true, false, cond, List, length, Option, Some, None}
 use Rattle.std.specs.Prelude.{is_some}
-use Rattle.netlink_packet_core_grammar.specs.Attributes.{Attribute, first_attribute, if_some, proper_kind}
+use Rattle.std.specs.Option.{option_and_then}
+use Rattle.netlink_packet_core_grammar.specs.Attributes.{Attribute, first_attribute, proper_kind}
 use Rattle.netlink_packet_core_grammar.specs.AttributeViews.{viewed_kind, viewed_payload}
 use Rattle.attribute_tables_grammar.specs.Lists.{Row, is_of_kind_one}
 use Rattle.attribute_tables_grammar.specs.LookUps.{Line, line_at, payload_rule, payload_allocates}
@@ -43,7 +44,7 @@ table_may_allocate t b = line_may_allocate (line_at t (proper_kind (viewed_kind 
 unfoldable pub first_entry_within : ℕ → List ℕ → Option Attribute
 first_entry_within zero b = None
 first_entry_within (suc n) b =
-    if_some (first_attribute b) (λ x. cond (is_of_kind_one x.0) (Some x.0) (first_entry_within n x.1))
+    option_and_then (λ x. cond (is_of_kind_one x.0) (Some x.0) (first_entry_within n x.1)) (first_attribute b)
 
 -- The first attribute of kind 1; whole attributes of other kinds may precede it.
 abbrev pub first_entry : List ℕ → Option Attribute

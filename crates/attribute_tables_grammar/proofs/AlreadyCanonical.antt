@@ -2,10 +2,11 @@
 use Rattle.std.proofs.Common.{◌≡◌, ℕ, ◌+◌, ◌-◌, ◌*◌, ◌/◌, ◌%◌, ◌<◌, ◌++◌, true, List, [], ◌∷◌, length, take, drop, get_or, Option, Some, None, refl, sym, ap, subst, ◌∙◌, append_assoc, arith}
 use Rattle.std.specs.Prelude.{option_map}
 use Rattle.std.proofs.lemmas.List.{take-append-drop, drop-drop, length-take-le}
+use Rattle.std.specs.Option.{option_map_or}
 use Rattle.netlink_packet_core_grammar.specs.Attributes.{nla_align, zeros, Attribute, attribute_length, attribute_text, list_text, first_attribute, attributes_within, attributes_of}
 use Rattle.netlink_packet_core_grammar.proofs.Attributes.{IsCut, headed}
 use Rattle.netlink_packet_core_grammar.proofs.FirstAttribute.{attributes_step}
-use Rattle.attribute_tables_grammar.specs.Lists.{Context, no_kind_in_force, Grammar, row_of, canonical_form, canonical_forms, canonical_kind, ListForm, is_kept, kept, if_read, list_rule}
+use Rattle.attribute_tables_grammar.specs.Lists.{Context, no_kind_in_force, Grammar, row_of, canonical_form, canonical_forms, canonical_kind, ListForm, is_kept, kept, list_rule}
 use Rattle.attribute_tables_grammar.specs.Walks.{IsWalked}
 use Rattle.attribute_tables_grammar.specs.AlreadyCanonical.{text_from}
 use Rattle.attribute_tables_grammar.specs.Laws.{CanonicalListsUnfold}
@@ -73,7 +74,7 @@ text_or None = []
 text_or (Some t) = t
 
 -- the canonical encoding of a list that is walked
-canonical_of : (form : ListForm) (g : Grammar) (o : Option (List Attribute)) → text_or (option_map (λ es. list_text (canonical_forms g no_kind_in_force (kept form es))) o) ≡ if_read [] (λ es. list_text (canonical_forms g no_kind_in_force (kept form es))) o
+canonical_of : (form : ListForm) (g : Grammar) (o : Option (List Attribute)) → text_or (option_map (λ es. list_text (canonical_forms g no_kind_in_force (kept form es))) o) ≡ option_map_or (λ es. list_text (canonical_forms g no_kind_in_force (kept form es))) o []
 unfolding text_or
 canonical_of form g None = refl
 canonical_of form g (Some es) = refl
@@ -81,7 +82,7 @@ canonical_of form g (Some es) = refl
 pub canonical_text : (form : ListForm) (g : Grammar) (bytes : List ℕ) → IsWalked form bytes → text_or (text_from form g no_kind_in_force bytes) ≡ (list_rule form g).canonical bytes
 unfolding text_from
 canonical_text form g bytes w =
-    canonical_of form g (attributes_of bytes) ∙ ap (if_read [] (λ es. list_text (canonical_forms g no_kind_in_force (kept form es)))) (sym (read_walked form bytes w))
+    canonical_of form g (attributes_of bytes) ∙ ap (λ o. option_map_or (λ es. list_text (canonical_forms g no_kind_in_force (kept form es))) o []) (sym (read_walked form bytes w))
 
 text_end : (e : Attribute) (after : List ℕ) → length after ≡ 0 → attribute_text e ++ [] ≡ attribute_text e ++ after
 text_end e [] l = refl
@@ -98,6 +99,6 @@ canonical_lists_unfold = record {
   done = λ form g bytes rest c w l s. sym (canonical_text form g bytes w) ∙ ap text_or (s.whole (at_end form g c rest l));
   -- the first attribute only
   single = λ g bytes e after f l n p t.
-      ap (λ o. if_read [] (λ es. list_text (canonical_forms g no_kind_in_force es)) (option_map (λ (x : Attribute × List ℕ). x.0 ∷ []) o)) f
+      ap (λ o. option_map_or (λ es. list_text (canonical_forms g no_kind_in_force es)) (option_map (λ (x : Attribute × List ℕ). x.0 ∷ []) o) []) f
       ∙ ap (λ x. attribute_text x ++ []) (already_canonical g no_kind_in_force e n p) ∙ text_end e after l ∙ sym t;
 }

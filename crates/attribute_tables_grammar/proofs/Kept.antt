@@ -1,7 +1,8 @@
 -- Which attributes a list kind reads, and which it keeps, one after another.
 use Rattle.std.proofs.Common.{◌≡◌, ℕ, ◌<◌, Bool, true, false, cond, List, [], ◌∷◌, length, Option, Some, None, refl, ap, arith}
 use Rattle.std.specs.Prelude.{filter}
-use Rattle.netlink_packet_core_grammar.specs.Attributes.{Attribute, if_some, attributes_within, attributes_of}
+use Rattle.std.specs.Option.{option_and_then}
+use Rattle.netlink_packet_core_grammar.specs.Attributes.{Attribute, attributes_within, attributes_of}
 use Rattle.netlink_packet_core_grammar.proofs.Attributes.{attributes_cut}
 use Rattle.attribute_tables_grammar.specs.Lists.{ListForm, any, non_empty, of_kind_one, ports, first_only, unless_empty, read_as, is_of_kind_one, is_kept, kept}
 use Rattle.attribute_tables_grammar.specs.Walks.{IsWalked, RequiresAttribute}
@@ -24,10 +25,10 @@ kept_none any = refl
 kept_none form = refl
 
 -- bytes that are a list of no attributes are empty
-pub bytes_not_empty : (bytes : List ℕ) → 0 < length bytes → if_some (attributes_of bytes) unless_empty ≡ attributes_of bytes
+pub bytes_not_empty : (bytes : List ℕ) → 0 < length bytes → option_and_then unless_empty (attributes_of bytes) ≡ attributes_of bytes
 bytes_not_empty bytes l = by (attributes_of bytes) refl
   where
-    by : (o : Option (List Attribute)) → attributes_of bytes ≡ o → if_some o unless_empty ≡ o
+    by : (o : Option (List Attribute)) → attributes_of bytes ≡ o → option_and_then unless_empty o ≡ o
     by None h = refl
     by (Some []) h = absurd (omega (arith, ap length (attributes_cut bytes [] h)))
     by (Some (e ∷ es)) h = refl

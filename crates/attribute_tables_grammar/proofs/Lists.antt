@@ -2,17 +2,18 @@
 use Rattle.std.proofs.Common.{◌≡◌, ℕ, ◌+◌, ◌*◌, ◌≤◌, Bool, true, false, cond, eqb, List, [], ◌∷◌, length, Option, Some, None, refl, sym, ap, subst, ◌∙◌, arith}
 use Rattle.std.specs.Prelude.{◌||◌, filter, option_map}
 use Rattle.std.proofs.lemmas.Bool.{or_parts, or_from}
-use Rattle.netlink_packet_core_grammar.specs.Attributes.{Attribute, list_text, list_size, first_attribute, if_some, attributes_within, attributes_of}
+use Rattle.std.specs.Option.{option_and_then, option_map_or}
+use Rattle.netlink_packet_core_grammar.specs.Attributes.{Attribute, list_text, list_size, first_attribute, attributes_within, attributes_of}
 use Rattle.netlink_packet_core_grammar.specs.Bytes.{AreBytes}
-use Rattle.netlink_packet_core_grammar.proofs.Attributes.{attributes_of_text, attributes_cut, got_is, sized, first_attribute_text, if_some-got, option_map-got}
+use Rattle.netlink_packet_core_grammar.proofs.Attributes.{attributes_of_text, attributes_cut, got_is, sized, first_attribute_text, option_and_then-got, option_map-got}
 use Rattle.netlink_packet_core_grammar.proofs.Bytes.{AreBytes-first_attribute}
 use Rattle.netlink_packet_core_grammar.proofs.Sizes.{length-list_text}
 use Rattle.attribute_tables_grammar.specs.Rules.{Lawful, IsMigratedBy}
-use Rattle.attribute_tables_grammar.specs.Lists.{Context, no_kind_in_force, Row, Grammar, row_of, all_accepted, some_empty_ports, canonical_form, canonical_forms, all_fit, attributes_inside, all_same, ListForm, any, non_empty, of_kind_one, ports, first_only, unless_empty, read_as, is_of_kind_one, kept, is_empty_ports, if_read, list_rule, LawfulGrammar}
+use Rattle.attribute_tables_grammar.specs.Lists.{Context, no_kind_in_force, Row, Grammar, row_of, all_accepted, some_empty_ports, canonical_form, canonical_forms, all_fit, attributes_inside, all_same, ListForm, any, non_empty, of_kind_one, ports, first_only, unless_empty, read_as, is_of_kind_one, kept, is_empty_ports, list_rule, LawfulGrammar}
 use Rattle.attribute_tables_grammar.proofs.Attributes.{proper_kind-written, MigratesRow, row_migrates_reflexive, rewritten_idempotent, accepts_canonical, all_fit_canonical, same_rewritten, rewritten_same, one_list}
 use Rattle.attribute_tables_grammar.proofs.Sizes.{weight, weight_within, weight-filter, weight-filter_le, AreAttributes, AreAttributes-cut, AreAttributes-filter, rewritten_small, counts, text_bytes}
 
-pub read_true : (f : List Attribute → Bool) (o : Option (List Attribute)) → if_read false f o ≡ true → (es : List Attribute) × (o ≡ Some es) × (f es ≡ true)
+pub read_true : (f : List Attribute → Bool) (o : Option (List Attribute)) → option_map_or f o false ≡ true → (es : List Attribute) × (o ≡ Some es) × (f es ≡ true)
 read_true f None h = absurd cc
 read_true f (Some es) h = (es, refl, h)
 
@@ -22,9 +23,9 @@ not_empty_is : (es fs : List Attribute) → unless_empty es ≡ Some fs → es �
 not_empty_is [] fs h = absurd cc
 not_empty_is (e ∷ es) fs h = got_is (e ∷ es) fs h
 
-non_empty_attributes : (bytes : List ℕ) (es : List Attribute) → if_some (attributes_of bytes) unless_empty ≡ Some es → attributes_of bytes ≡ Some es
+non_empty_attributes : (bytes : List ℕ) (es : List Attribute) → option_and_then unless_empty (attributes_of bytes) ≡ Some es → attributes_of bytes ≡ Some es
 non_empty_attributes bytes es h =
-    let s = if_some-got (attributes_of bytes) unless_empty es h in
+    let s = option_and_then-got (attributes_of bytes) unless_empty es h in
     s.1 ∙ ap Some (not_empty_is s.0 es s.2)
 
 first_only_attribute : (bytes : List ℕ) (es : List Attribute) → read_as first_only bytes ≡ Some es → (e : Attribute) × (rest : List ℕ) × (first_attribute bytes ≡ Some (e, rest)) × (es ≡ e ∷ [])
@@ -88,17 +89,17 @@ module _ (g : Grammar) where
   rewritten_non_empty c [] h = absurd cc
   rewritten_non_empty c (e ∷ es) h = refl
 
-  non_empty_from_attributes : (bytes : List ℕ) (es : List Attribute) → if_some (attributes_of bytes) unless_empty ≡ Some es → unless_empty es ≡ Some es
+  non_empty_from_attributes : (bytes : List ℕ) (es : List Attribute) → option_and_then unless_empty (attributes_of bytes) ≡ Some es → unless_empty es ≡ Some es
   non_empty_from_attributes bytes es h =
-      let s = if_some-got (attributes_of bytes) unless_empty es h in
+      let s = option_and_then-got (attributes_of bytes) unless_empty es h in
       ap unless_empty (sym (not_empty_is s.0 es s.2)) ∙ s.2
 
   non_empty_from_kept : (es : List Attribute) → is_empty_ports ports es ≡ false → unless_empty es ≡ Some es
   non_empty_from_kept [] h = absurd cc
   non_empty_from_kept (e ∷ es) h = refl
 
-  read_non_empty : (rs : List Attribute) → unless_empty rs ≡ Some rs → if_some (attributes_of (list_text rs)) unless_empty ≡ Some rs
-  read_non_empty rs h = ap (λ o. if_some o unless_empty) (attributes_of_text rs) ∙ h
+  read_non_empty : (rs : List Attribute) → unless_empty rs ≡ Some rs → option_and_then unless_empty (attributes_of (list_text rs)) ≡ Some rs
+  read_non_empty rs h = ap (λ o. option_and_then unless_empty o) (attributes_of_text rs) ∙ h
 
   -- the canonical encoding is read as the kept attributes in their canonical form, and keeps them all
   pub read_canonical : (form : ListForm) (c : Context) (bytes : List ℕ) (es : List Attribute) → read_as form bytes ≡ Some es → is_empty_ports form (kept form es) ≡ false →
@@ -121,7 +122,7 @@ module _ (g : Grammar) where
   keeps_canonical form c es = refl
 
   -- a list that keeps nothing and may not be empty
-  pub none_canonical : {A : Type 0} (d : A) (f : List Attribute → A) (form : ListForm) (c : Context) (es : List Attribute) → is_empty_ports form es ≡ true → (list_text (canonical_forms g c es) ≡ []) × (if_read d f (read_as form []) ≡ d)
+  pub none_canonical : {A : Type 0} (d : A) (f : List Attribute → A) (form : ListForm) (c : Context) (es : List Attribute) → is_empty_ports form es ≡ true → (list_text (canonical_forms g c es) ≡ []) × (option_map_or f (read_as form []) d ≡ d)
   unfolding list_text canonical_forms attributes_within
   none_canonical d f ports c [] h = (refl, refl)
   none_canonical d f form c es h = absurd cc
@@ -136,7 +137,7 @@ pub record AcceptedList (form : ListForm) (g : Grammar) (bytes : List ℕ) : Typ
 pub accepted_list : (form : ListForm) (g : Grammar) (bytes : List ℕ) → (list_rule form g).accepted bytes ≡ true → AcceptedList form g bytes
 accepted_list form g bytes a =
     let s = read_true (λ es. all_accepted g no_kind_in_force (kept form es)) (read_as form bytes) a in
-    record { es = s.0; reads = s.1; accepted = s.2; canonical = ap (if_read [] (λ es. list_text (canonical_forms g no_kind_in_force (kept form es)))) s.1 }
+    record { es = s.0; reads = s.1; accepted = s.2; canonical = ap (λ o. option_map_or (λ es. list_text (canonical_forms g no_kind_in_force (kept form es))) o []) s.1 }
 
 -- ---- a list under other rows than those that wrote it
 
@@ -147,7 +148,7 @@ module _ (form : ListForm) (g : Grammar) (lawful : LawfulGrammar g) (rows : Cont
 
   -- the facts about bytes that both rules accept
   accepted_too : (p : List ℕ) (k : AcceptedList form g p) → (list_rule form h).accepted p ≡ true → all_accepted h no_kind_in_force (kept form k.es) ≡ true
-  accepted_too p k b = sym (ap (if_read false (λ es. all_accepted h no_kind_in_force (kept form es))) k.reads) ∙ b
+  accepted_too p k b = sym (ap (λ o. option_map_or (λ es. all_accepted h no_kind_in_force (kept form es)) o false) k.reads) ∙ b
 
   canonical_by : (p : List ℕ) (k : AcceptedList form g p) → all_accepted h no_kind_in_force (kept form k.es) ≡ true → (t : Bool) → is_empty_ports form (kept form k.es) ≡ t →
       (list_rule form h).canonical (list_text (canonical_forms g no_kind_in_force (kept form k.es))) ≡ list_text (canonical_forms h no_kind_in_force (kept form k.es))
@@ -157,7 +158,7 @@ module _ (form : ListForm) (g : Grammar) (lawful : LawfulGrammar g) (rows : Cont
       ap (λ z. (list_rule form h).canonical z) m.0 ∙ n.1 ∙ sym n.0
   canonical_by p k b false t =
       let s = read_canonical g form no_kind_in_force p k.es k.reads t in
-      ap (if_read [] (λ es. list_text (canonical_forms h no_kind_in_force (kept form es)))) s.0
+      ap (λ o. option_map_or (λ es. list_text (canonical_forms h no_kind_in_force (kept form es))) o []) s.0
       ∙ ap (λ x. list_text (canonical_forms h no_kind_in_force x)) s.1
       ∙ ap list_text (rewritten_idempotent g lawful rows migrates no_kind_in_force (kept form k.es) k.accepted b)
 
@@ -168,19 +169,19 @@ module _ (form : ListForm) (g : Grammar) (lawful : LawfulGrammar g) (rows : Cont
       ap (λ b. (list_rule form h).fits b) n.0 ∙ n.1
   fits_by p k b false f is =
       let s = read_canonical g form no_kind_in_force p k.es k.reads is in
-      ap (if_read true (λ es. all_fit h no_kind_in_force (kept form es))) s.0 ∙ ap (all_fit h no_kind_in_force) s.1 ∙ all_fit_canonical g lawful rows migrates no_kind_in_force (kept form k.es) k.accepted b f
+      ap (λ o. option_map_or (λ es. all_fit h no_kind_in_force (kept form es)) o true) s.0 ∙ ap (all_fit h no_kind_in_force) s.1 ∙ all_fit_canonical g lawful rows migrates no_kind_in_force (kept form k.es) k.accepted b f
 
   list_canonical : (p : List ℕ) → (list_rule form g).accepted p ≡ true → (list_rule form h).accepted p ≡ true → (list_rule form g).empty_ports p ≡ false →
       ((list_rule form h).accepted ((list_rule form g).canonical p) ≡ true) × ((list_rule form h).empty_ports ((list_rule form g).canonical p) ≡ false)
   list_canonical p a b m =
       let k = accepted_list form g p a in
       let full : is_empty_ports form (kept form k.es) || some_empty_ports g no_kind_in_force (kept form k.es) ≡ false =
-      sym (ap (if_read false (λ es. is_empty_ports form (kept form es) || some_empty_ports g no_kind_in_force (kept form es))) k.reads) ∙ m in
+      sym (ap (λ o. option_map_or (λ es. is_empty_ports form (kept form es) || some_empty_ports g no_kind_in_force (kept form es)) o false) k.reads) ∙ m in
       let n = or_parts _ _ full in
       let s = read_canonical g form no_kind_in_force p k.es k.reads n.0 in
       let o = accepts_canonical g lawful rows migrates no_kind_in_force (kept form k.es) k.accepted (accepted_too p k b) n.1 in (
-        ap (λ z. (list_rule form h).accepted z) k.canonical ∙ ap (if_read false (λ es. all_accepted h no_kind_in_force (kept form es))) s.0 ∙ ap (all_accepted h no_kind_in_force) s.1 ∙ o.0,
-        ap (λ z. (list_rule form h).empty_ports z) k.canonical ∙ ap (if_read false (λ es. is_empty_ports form (kept form es) || some_empty_ports h no_kind_in_force (kept form es))) s.0
+        ap (λ z. (list_rule form h).accepted z) k.canonical ∙ ap (λ o. option_map_or (λ es. all_accepted h no_kind_in_force (kept form es)) o false) s.0 ∙ ap (all_accepted h no_kind_in_force) s.1 ∙ o.0,
+        ap (λ z. (list_rule form h).empty_ports z) k.canonical ∙ ap (λ o. option_map_or (λ es. is_empty_ports form (kept form es) || some_empty_ports h no_kind_in_force (kept form es)) o false) s.0
             ∙ ap (λ x. is_empty_ports form x || some_empty_ports h no_kind_in_force x) s.1 ∙ or_from _ _ (keeps_canonical g form no_kind_in_force (kept form k.es) ∙ n.0) o.1,
       )
 
@@ -190,12 +191,12 @@ module _ (form : ListForm) (g : Grammar) (lawful : LawfulGrammar g) (rows : Cont
     empty_ports = λ p a b m. (list_canonical p a b m).1;
     fits = λ p a b f.
         let k = accepted_list form g p a in
-        let fit : all_fit h no_kind_in_force (kept form k.es) ≡ true = sym (ap (if_read true (λ es. all_fit h no_kind_in_force (kept form es))) k.reads) ∙ f in
+        let fit : all_fit h no_kind_in_force (kept form k.es) ≡ true = sym (ap (λ o. option_map_or (λ es. all_fit h no_kind_in_force (kept form es)) o true) k.reads) ∙ f in
         ap (λ z. (list_rule form h).fits z) k.canonical ∙ fits_by p k (accepted_too p k b) (is_empty_ports form (kept form k.es)) fit refl;
     canonical = λ p a b.
         let k = accepted_list form g p a in
         ap (λ z. (list_rule form h).canonical z) k.canonical ∙ canonical_by p k (accepted_too p k b) (is_empty_ports form (kept form k.es)) refl
-        ∙ sym (ap (if_read [] (λ es. list_text (canonical_forms h no_kind_in_force (kept form es)))) k.reads);
+        ∙ sym (ap (λ o. option_map_or (λ es. list_text (canonical_forms h no_kind_in_force (kept form es))) o []) k.reads);
   }
 
 module _ (form : ListForm) (g : Grammar) (lawful : LawfulGrammar g) where
@@ -219,21 +220,21 @@ module _ (form : ListForm) (g : Grammar) (lawful : LawfulGrammar g) where
         let k = accepted_list form g p a in
         let l = accepted_list form g q b in
         let h : all_same g no_kind_in_force no_kind_in_force (kept form k.es) (kept form l.es) ≡ true =
-        sym (ap (if_read false (λ es. if_read false (λ fs. all_same g no_kind_in_force no_kind_in_force (kept form es) (kept form fs)) (read_as form q))) k.reads ∙ ap (if_read false (λ fs. all_same g no_kind_in_force no_kind_in_force (kept form k.es) (kept form fs))) l.reads) ∙ same in
+        sym (ap (λ o. option_map_or (λ es. option_map_or (λ fs. all_same g no_kind_in_force no_kind_in_force (kept form es) (kept form fs)) (read_as form q) false) o false) k.reads ∙ ap (λ o. option_map_or (λ fs. all_same g no_kind_in_force no_kind_in_force (kept form k.es) (kept form fs)) o false) l.reads) ∙ same in
         k.canonical ∙ ap list_text (same_rewritten g lawful no_kind_in_force (kept form k.es) (kept form l.es) k.accepted l.accepted h) ∙ sym l.canonical;
     equal_text_implies_same = λ p q a b e.
         let k = accepted_list form g p a in
         let l = accepted_list form g q b in
         let lists = one_list (canonical_forms g no_kind_in_force (kept form k.es)) (canonical_forms g no_kind_in_force (kept form l.es)) (sym k.canonical ∙ e ∙ l.canonical) in
-        ap (if_read false (λ es. if_read false (λ fs. all_same g no_kind_in_force no_kind_in_force (kept form es) (kept form fs)) (read_as form q))) k.reads ∙ ap (if_read false (λ fs. all_same g no_kind_in_force no_kind_in_force (kept form k.es) (kept form fs))) l.reads
+        ap (λ o. option_map_or (λ es. option_map_or (λ fs. all_same g no_kind_in_force no_kind_in_force (kept form es) (kept form fs)) (read_as form q) false) o false) k.reads ∙ ap (λ o. option_map_or (λ fs. all_same g no_kind_in_force no_kind_in_force (kept form k.es) (kept form fs)) o false) l.reads
         ∙ rewritten_same g lawful no_kind_in_force (kept form k.es) (kept form l.es) k.accepted l.accepted lists;
     bounded = λ p a. omega (arith, list_small p a);
     counted = λ p a.
         let k = accepted_list form g p a in
-        let n : (list_rule form g).attributes p ≡ length k.es + attributes_inside g no_kind_in_force (kept form k.es) = ap (if_read 0 (λ es. length es + attributes_inside g no_kind_in_force (kept form es))) k.reads in
+        let n : (list_rule form g).attributes p ≡ length k.es + attributes_inside g no_kind_in_force (kept form k.es) = ap (λ o. option_map_or (λ es. length es + attributes_inside g no_kind_in_force (kept form es)) o 0) k.reads in
         rw n (omega (arith, counts g lawful no_kind_in_force (kept form k.es) k.accepted, kept_count form k.es, (shown form p k.es k.reads).size));
     bytes = λ p a f h.
         let k = accepted_list form g p a in
-        let fit : all_fit g no_kind_in_force (kept form k.es) ≡ true = sym (ap (if_read true (λ es. all_fit g no_kind_in_force (kept form es))) k.reads) ∙ f in
+        let fit : all_fit g no_kind_in_force (kept form k.es) ≡ true = sym (ap (λ o. option_map_or (λ es. all_fit g no_kind_in_force (kept form es)) o true) k.reads) ∙ f in
         rw k.canonical (text_bytes g lawful no_kind_in_force (kept form k.es) k.accepted fit (kept_bytes form k.es ((shown form p k.es k.reads).are_attributes h)));
   }

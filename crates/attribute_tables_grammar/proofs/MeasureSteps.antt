@@ -6,10 +6,11 @@ use Rattle.std.proofs.Math.Bool.{and-true, or-false}
 use Rattle.std.proofs.Math.Nat.{add-zero, zero-add}
 use Rattle.std.proofs.lemmas.Bool.{ne_eqb}
 use Rattle.std.proofs.lemmas.Option.{cond_some}
-use Rattle.netlink_packet_core_grammar.specs.Attributes.{nla_align, list_text, Attribute, first_attribute, if_some, attributes_of}
+use Rattle.std.specs.Option.{option_and_then, option_map_or}
+use Rattle.netlink_packet_core_grammar.specs.Attributes.{nla_align, list_text, Attribute, first_attribute, attributes_of}
 use Rattle.netlink_packet_core_grammar.proofs.Attributes.{sized}
 use Rattle.attribute_tables_grammar.specs.Rules.{Rule}
-use Rattle.attribute_tables_grammar.specs.Lists.{Context, no_kind_in_force, Grammar, ListForm, any, non_empty, ports, first_only, is_kept, kept, is_empty_ports, row_of, list_rule, if_read, all_accepted, canonical_forms, attributes_inside, all_fit, some_empty_ports}
+use Rattle.attribute_tables_grammar.specs.Lists.{Context, no_kind_in_force, Grammar, ListForm, any, non_empty, ports, first_only, is_kept, kept, is_empty_ports, row_of, list_rule, all_accepted, canonical_forms, attributes_inside, all_fit, some_empty_ports}
 use Rattle.attribute_tables_grammar.specs.Walks.{Measure, measure, plus, none_yet, dropped, with_header, both, list_measure, measure_of_rest, or_empty, measure_as, whole_measure, IsWalked, RequiresAttribute, IsMeasure}
 use Rattle.attribute_tables_grammar.specs.Laws.{MeasuresUnfold, MeasuresDetermineRules}
 use Rattle.attribute_tables_grammar.proofs.Kept.{kept_more, kept_past, bytes_not_empty, read_walked, read_none}
@@ -60,21 +61,21 @@ empty_by g [] c m h = let e : 0 ≡ m.size = ap size_or h in ap (λ n. n == 0) e
 empty_by g (e ∷ es) c m h = empty_step g c e es m (is_kept ports e) refl (empty_by g es) h
 
 -- a list that may be empty
-plain_whole : (o : Option (List Attribute)) (f : List Attribute → Option Measure) → option_map (λ m. m) (if_some o f) ≡ if_some o (λ es. option_map (or_empty false) (f es))
+plain_whole : (o : Option (List Attribute)) (f : List Attribute → Option Measure) → option_map (λ m. m) (option_and_then f o) ≡ option_and_then (λ es. option_map (or_empty false) (f es)) o
 plain_whole None f = refl
 plain_whole (Some es) f = by (f es) where
   by : (q : Option Measure) → option_map (λ m. m) q ≡ option_map (or_empty false) q
   by None = refl
   by (Some m) = refl
 
-ports_whole : (g : Grammar) (o : Option (List Attribute)) → option_map (whole_measure ports) (if_some o (list_measure ports g no_kind_in_force)) ≡ if_some o (λ es. option_map (or_empty (is_empty_ports ports (kept ports es))) (list_measure ports g no_kind_in_force es))
+ports_whole : (g : Grammar) (o : Option (List Attribute)) → option_map (whole_measure ports) (option_and_then (list_measure ports g no_kind_in_force) o) ≡ option_and_then (λ es. option_map (or_empty (is_empty_ports ports (kept ports es))) (list_measure ports g no_kind_in_force es)) o
 ports_whole g None = refl
 ports_whole g (Some es) = by (list_measure ports g no_kind_in_force es) refl where
   by : (q : Option Measure) → list_measure ports g no_kind_in_force es ≡ q → option_map (whole_measure ports) q ≡ option_map (or_empty (is_empty_ports ports (kept ports es))) q
   by None h = refl
   by (Some m) h = ap (λ b. Some (or_empty b m)) (sym (empty_by g es no_kind_in_force m h))
 
-whole_of_attributes : (form : ListForm) (g : Grammar) (o : Option (List Attribute)) → option_map (whole_measure form) (if_some o (list_measure form g no_kind_in_force)) ≡ if_some o (λ es. option_map (or_empty (is_empty_ports form (kept form es))) (list_measure form g no_kind_in_force es))
+whole_of_attributes : (form : ListForm) (g : Grammar) (o : Option (List Attribute)) → option_map (whole_measure form) (option_and_then (list_measure form g no_kind_in_force) o) ≡ option_and_then (λ es. option_map (or_empty (is_empty_ports form (kept form es))) (list_measure form g no_kind_in_force es)) o
 whole_of_attributes ports g o = ports_whole g o
 whole_of_attributes form g o = plain_whole o (list_measure form g no_kind_in_force)
 
@@ -82,7 +83,7 @@ pub whole_by : (form : ListForm) (g : Grammar) (bytes : List ℕ) → IsWalked f
 unfolding measure_of_rest measure_as
 whole_by form g bytes w =
     whole_of_attributes form g (attributes_of bytes)
-    ∙ ap (λ o. if_some o (λ es. option_map (or_empty (is_empty_ports form (kept form es))) (list_measure form g no_kind_in_force es))) (sym (read_walked form bytes w))
+    ∙ ap (λ o. option_and_then (λ es. option_map (or_empty (is_empty_ports form (kept form es))) (list_measure form g no_kind_in_force es)) o) (sym (read_walked form bytes w))
 
 -- the measure of the whole list, once the walk ends
 ended : (form : ListForm) (g : Grammar) (bytes : List ℕ) (o : Option Measure) → IsWalked form bytes → measure_of_rest form g no_kind_in_force bytes ≡ o → option_map (whole_measure form) o ≡ measure (list_rule form g) bytes
@@ -111,7 +112,7 @@ rejects r p h = rejects_by (r.accepted p) (record { size = length (r.canonical p
 -- ---- the first attribute only, and list kinds that require one
 
 single : (g : Grammar) → Option (Attribute × List ℕ) → Option Measure
-single g o = if_some (option_map (λ x. x.0 ∷ []) o) (λ es. option_map (or_empty (is_empty_ports first_only (kept first_only es))) (list_measure first_only g no_kind_in_force es))
+single g o = option_and_then (λ es. option_map (or_empty (is_empty_ports first_only (kept first_only es))) (list_measure first_only g no_kind_in_force es)) (option_map (λ x. x.0 ∷ []) o)
 
 single_is : (g : Grammar) (bytes : List ℕ) (o : Option (Attribute × List ℕ)) → first_attribute bytes ≡ o → single g o ≡ measure (list_rule first_only g) bytes
 unfolding measure_as single
@@ -132,17 +133,17 @@ first_none g bytes f = single_is g bytes None f
 none_there : (form : ListForm) (g : Grammar) (bytes : List ℕ) → length bytes ≡ 0 → RequiresAttribute form → None ≡ measure (list_rule form g) bytes
 unfolding measure_as
 none_there form g bytes l w =
-    sym (ap (λ o. if_some o (λ es. option_map (or_empty (is_empty_ports form (kept form es))) (list_measure form g no_kind_in_force es))) (read_none form bytes l w)) ∙ walk_list form g bytes
+    sym (ap (λ o. option_and_then (λ es. option_map (or_empty (is_empty_ports form (kept form es))) (list_measure form g no_kind_in_force es)) o) (read_none form bytes l w)) ∙ walk_list form g bytes
 
 -- the same bytes have the same measure, whether or not the list kind requires an attribute
 whole_of : Grammar → Option (List Attribute) → Option Measure
 whole_of g o = measure (record {
-  accepted = λ b. if_read false (λ es. all_accepted g no_kind_in_force es) o;
+  accepted = λ b. option_map_or (λ es. all_accepted g no_kind_in_force es) o false;
   same = λ a b. true;
-  canonical = λ b. if_read [] (λ es. list_text (canonical_forms g no_kind_in_force es)) o;
-  attributes = λ b. if_read 0 (λ es. length es + attributes_inside g no_kind_in_force es) o;
-  fits = λ b. if_read true (λ es. all_fit g no_kind_in_force es) o;
-  empty_ports = λ b. if_read false (λ es. some_empty_ports g no_kind_in_force es) o;
+  canonical = λ b. option_map_or (λ es. list_text (canonical_forms g no_kind_in_force es)) o [];
+  attributes = λ b. option_map_or (λ es. length es + attributes_inside g no_kind_in_force es) o 0;
+  fits = λ b. option_map_or (λ es. all_fit g no_kind_in_force es) o true;
+  empty_ports = λ b. option_map_or (λ es. some_empty_ports g no_kind_in_force es) o false;
 }) []
 
 non_empty_any : (g : Grammar) (bytes : List ℕ) → 0 < length bytes → measure (list_rule non_empty g) bytes ≡ measure (list_rule any g) bytes

@@ -2,17 +2,18 @@
 use Rattle.std.proofs.Common.{◌≡◌, ◌+◌, ℕ, true, false, cond, List, [], ◌∷◌, length, refl, sym, ap, ◌∙◌}
 use Rattle.std.specs.Prelude.{◌&&◌, nat_le, Option, Some, None, option_map}
 use Rattle.std.proofs.lemmas.Bool.{and_parts, or_parts}
-use Rattle.netlink_packet_core_grammar.specs.Attributes.{Attribute, proper_kind, list_text, attributes_of, if_some}
+use Rattle.std.specs.Option.{option_and_then, option_map_or}
+use Rattle.netlink_packet_core_grammar.specs.Attributes.{Attribute, proper_kind, list_text, attributes_of}
 use Rattle.netlink_packet_core_grammar.proofs.Attributes.{attributes_of_text}
 use Rattle.attribute_tables_grammar.specs.Rules.{Lawful}
 use Rattle.attribute_tables_grammar.specs.Laws.{CanonicalListsAreSplit, ListsAreReadBack}
-use Rattle.attribute_tables_grammar.specs.Lists.{Context, no_kind_in_force, Grammar, LawfulGrammar, any, kept, if_read, list_rule, row_of, canonical_form, canonical_forms, all_accepted, all_fit, some_empty_ports}
+use Rattle.attribute_tables_grammar.specs.Lists.{Context, no_kind_in_force, Grammar, LawfulGrammar, any, kept, list_rule, row_of, canonical_form, canonical_forms, all_accepted, all_fit, some_empty_ports}
 use Rattle.attribute_tables_grammar.specs.Readings.{attribute_reading, attribute_readings, reading_as}
 use Rattle.attribute_tables_grammar.proofs.Attributes.{proper_kind-written, row_migrates_reflexive, next_canonical, rewrite_idempotent}
 
 pub canonical_is_cut : CanonicalListsAreSplit
 canonical_is_cut form g bytes es h =
-    ap attributes_of (ap (if_read [] (λ fs. list_text (canonical_forms g no_kind_in_force (kept form fs)))) h) ∙ attributes_of_text (canonical_forms g no_kind_in_force (kept form es))
+    ap attributes_of (ap (λ o. option_map_or (λ fs. list_text (canonical_forms g no_kind_in_force (kept form fs))) o []) h) ∙ attributes_of_text (canonical_forms g no_kind_in_force (kept form es))
 
 -- ---- attributes, one after another
 
@@ -51,14 +52,14 @@ module _ (g : Grammar) (lawful : LawfulGrammar g) where
 
   bytes_read_back : (b : List ℕ) (o : Option (List Attribute)) → attributes_of b ≡ o → (list_rule any g).accepted b ≡ true → (list_rule any g).empty_ports b ≡ false → (list_rule any g).fits b ≡ true → reading_as any g ((list_rule any g).canonical b) ≡ reading_as any g b
   unfolding reading_as
-  bytes_read_back b None h a m f = absurd (let e : false ≡ true = sym (ap (if_read false (λ es. all_accepted g no_kind_in_force es)) h) ∙ a in cc)
+  bytes_read_back b None h a m f = absurd (let e : false ≡ true = sym (ap (λ o. option_map_or (λ es. all_accepted g no_kind_in_force es) o false) h) ∙ a in cc)
   bytes_read_back b (Some es) h a m f =
-      let accepted : all_accepted g no_kind_in_force es ≡ true = sym (ap (if_read false (λ es. all_accepted g no_kind_in_force es)) h) ∙ a in
-      let full : some_empty_ports g no_kind_in_force es ≡ false = sym (ap (if_read false (λ es. some_empty_ports g no_kind_in_force es)) h) ∙ m in
-      let fit : all_fit g no_kind_in_force es ≡ true = sym (ap (if_read true (λ es. all_fit g no_kind_in_force es)) h) ∙ f in
-      ap (λ o. if_some o (λ es. attribute_readings g no_kind_in_force es)) (canonical_is_cut any g b es h)
+      let accepted : all_accepted g no_kind_in_force es ≡ true = sym (ap (λ o. option_map_or (λ es. all_accepted g no_kind_in_force es) o false) h) ∙ a in
+      let full : some_empty_ports g no_kind_in_force es ≡ false = sym (ap (λ o. option_map_or (λ es. some_empty_ports g no_kind_in_force es) o false) h) ∙ m in
+      let fit : all_fit g no_kind_in_force es ≡ true = sym (ap (λ o. option_map_or (λ es. all_fit g no_kind_in_force es) o true) h) ∙ f in
+      ap (λ o. option_and_then (λ es. attribute_readings g no_kind_in_force es) o) (canonical_is_cut any g b es h)
       ∙ list_canonical no_kind_in_force es accepted full fit
-      ∙ sym (ap (λ o. if_some o (λ es. attribute_readings g no_kind_in_force es)) h)
+      ∙ sym (ap (λ o. option_and_then (λ es. attribute_readings g no_kind_in_force es) o) h)
 
 pub lists_are_read_back : ListsAreReadBack
 lists_are_read_back g lawful b = bytes_read_back g lawful b (attributes_of b) refl

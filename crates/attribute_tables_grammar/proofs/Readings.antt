@@ -3,12 +3,13 @@
 use Rattle.std.proofs.Common.{◌≡◌, ℕ, ◌+◌, ◌<◌, Bool, true, false, cond, List, [], ◌∷◌, ◌++◌, length, map, Option, Some, None, refl, sym, ap, ◌∙◌, arith, append_assoc, append-nil}
 use Rattle.std.specs.Prelude.{◌==◌, ◌&&◌, ◌||◌, option_map}
 use Rattle.std.proofs.lemmas.Bool.{ne_eqb}
-use Rattle.netlink_packet_core_grammar.specs.Attributes.{Attribute, list_text, first_attribute, if_some, attributes_within, attributes_of}
+use Rattle.std.specs.Option.{option_and_then, option_map_or}
+use Rattle.netlink_packet_core_grammar.specs.Attributes.{Attribute, list_text, first_attribute, attributes_within, attributes_of}
 use Rattle.netlink_packet_core_grammar.specs.Fits.{attribute_fits}
 use Rattle.netlink_packet_core_grammar.specs.AttributeViews.{viewed_attribute, after_first}
 use Rattle.netlink_packet_core_grammar.proofs.FirstAttribute.{first_attribute_is, first_attribute_none, attributes_step, attributes_stop}
 use Rattle.netlink_packet_core_grammar.proofs.Sizes.{length-list_text}
-use Rattle.attribute_tables_grammar.specs.Lists.{Context, no_kind_in_force, Grammar, without_context, row_of, canonical_forms, all_accepted, some_empty_ports, all_fit, attributes_inside, ListForm, any, non_empty, of_kind_one, ports, unless_empty, read_as, is_kept, kept, is_empty_ports, if_read, list_rule}
+use Rattle.attribute_tables_grammar.specs.Lists.{Context, no_kind_in_force, Grammar, without_context, row_of, canonical_forms, all_accepted, some_empty_ports, all_fit, attributes_inside, ListForm, any, non_empty, of_kind_one, ports, unless_empty, read_as, is_kept, kept, is_empty_ports, list_rule}
 use Rattle.attribute_tables_grammar.specs.LookUps.{rows_rule}
 use Rattle.attribute_tables_grammar.specs.Laws.{ReadingsUnfold, ReadingsDetermineRules, FirstOnlyIsRead, PortsAreEntries}
 use Rattle.attribute_tables_grammar.specs.Walks.{RequiresAttribute}
@@ -18,19 +19,19 @@ use Rattle.attribute_tables_grammar.proofs.Kept.{kept_more, kept_past, kept_none
 -- ---- the steps
 
 onto : (form : ListForm) (o : Option (List Attribute)) (g : Grammar) (c : Context) (e : Attribute) → is_kept form e ≡ true → (row_of g c e).rule.accepted e.payload ≡ true →
-    if_some (option_map (λ es. e ∷ es) o) (λ es. attribute_readings g c (kept form es)) ≡ followed_by (attribute_reading (row_of g c e) e ∷ []) (if_some o (λ es. attribute_readings g (g.next c e) (kept form es)))
+    option_and_then (λ es. attribute_readings g c (kept form es)) (option_map (λ es. e ∷ es) o) ≡ followed_by (attribute_reading (row_of g c e) e ∷ []) (option_and_then (λ es. attribute_readings g (g.next c e) (kept form es)) o)
 unfolding attribute_readings
 onto form None g c e k a = refl
 onto form (Some es) g c e k a = ap (attribute_readings g c) (kept_more form e es k) ∙ ap (λ b. cond b (option_map (λ ws. attribute_reading (row_of g c e) e ∷ ws) (attribute_readings g (g.next c e) (kept form es))) None) a
 
 against : (form : ListForm) (o : Option (List Attribute)) (g : Grammar) (c : Context) (e : Attribute) → is_kept form e ≡ true → (row_of g c e).rule.accepted e.payload ≡ false →
-    if_some (option_map (λ es. e ∷ es) o) (λ es. attribute_readings g c (kept form es)) ≡ None
+    option_and_then (λ es. attribute_readings g c (kept form es)) (option_map (λ es. e ∷ es) o) ≡ None
 unfolding attribute_readings
 against form None g c e k a = refl
 against form (Some es) g c e k a = ap (attribute_readings g c) (kept_more form e es k) ∙ ap (λ b. cond b (option_map (λ ws. attribute_reading (row_of g c e) e ∷ ws) (attribute_readings g (g.next c e) (kept form es))) None) a
 
 beside : (form : ListForm) (o : Option (List Attribute)) (g : Grammar) (c : Context) (e : Attribute) → is_kept form e ≡ false →
-    if_some (option_map (λ es. e ∷ es) o) (λ es. attribute_readings g c (kept form es)) ≡ if_some o (λ es. attribute_readings g c (kept form es))
+    option_and_then (λ es. attribute_readings g c (kept form es)) (option_map (λ es. e ∷ es) o) ≡ option_and_then (λ es. attribute_readings g c (kept form es)) o
 beside form None g c e k = refl
 beside form (Some es) g c e k = ap (attribute_readings g c) (kept_past form e es k)
 
@@ -38,15 +39,15 @@ module _ (form : ListForm) (g : Grammar) where
   reading_step : (c : Context) (bytes : List ℕ) (e : Attribute) (rest : List ℕ) → first_attribute bytes ≡ Some (e, rest) → is_kept form e ≡ true → (row_of g c e).rule.accepted e.payload ≡ true →
       reading form g c bytes ≡ followed_by (attribute_reading (row_of g c e) e ∷ []) (reading form g (g.next c e) rest)
   unfolding reading
-  reading_step c bytes e rest f k a = ap (λ o. if_some o (λ es. attribute_readings g c (kept form es))) (attributes_step bytes e rest f) ∙ onto form (attributes_of rest) g c e k a
+  reading_step c bytes e rest f k a = ap (λ o. option_and_then (λ es. attribute_readings g c (kept form es)) o) (attributes_step bytes e rest f) ∙ onto form (attributes_of rest) g c e k a
 
   reading_refused : (c : Context) (bytes : List ℕ) (e : Attribute) (rest : List ℕ) → first_attribute bytes ≡ Some (e, rest) → is_kept form e ≡ true → (row_of g c e).rule.accepted e.payload ≡ false → reading form g c bytes ≡ None
   unfolding reading
-  reading_refused c bytes e rest f k a = ap (λ o. if_some o (λ es. attribute_readings g c (kept form es))) (attributes_step bytes e rest f) ∙ against form (attributes_of rest) g c e k a
+  reading_refused c bytes e rest f k a = ap (λ o. option_and_then (λ es. attribute_readings g c (kept form es)) o) (attributes_step bytes e rest f) ∙ against form (attributes_of rest) g c e k a
 
   reading_past : (c : Context) (bytes : List ℕ) (e : Attribute) (rest : List ℕ) → first_attribute bytes ≡ Some (e, rest) → is_kept form e ≡ false → reading form g c bytes ≡ reading form g c rest
   unfolding reading
-  reading_past c bytes e rest f k = ap (λ o. if_some o (λ es. attribute_readings g c (kept form es))) (attributes_step bytes e rest f) ∙ beside form (attributes_of rest) g c e k
+  reading_past c bytes e rest f k = ap (λ o. option_and_then (λ es. attribute_readings g c (kept form es)) o) (attributes_step bytes e rest f) ∙ beside form (attributes_of rest) g c e k
 
   reading_end : (c : Context) (bytes : List ℕ) → length bytes ≡ 0 → reading form g c bytes ≡ Some []
   unfolding reading attributes_within attribute_readings
@@ -55,7 +56,7 @@ module _ (form : ListForm) (g : Grammar) where
 
   reading_stop : (c : Context) (bytes : List ℕ) → first_attribute bytes ≡ None → 0 < length bytes → reading form g c bytes ≡ None
   unfolding reading
-  reading_stop c bytes f l = ap (λ o. if_some o (λ es. attribute_readings g c (kept form es))) (attributes_stop bytes f l)
+  reading_stop c bytes f l = ap (λ o. option_and_then (λ es. attribute_readings g c (kept form es)) o) (attributes_stop bytes f l)
 
 -- ---- the state of a loop: what was read, and the rest in its context
 
@@ -93,8 +94,8 @@ pub record AlikeOn (r s : ListForm) (g : Grammar) (bytes : List ℕ) : Type 0 wh
   pub attributes : (list_rule r g).attributes bytes ≡ (list_rule s g).attributes bytes
   pub read : reading_as r g bytes ≡ reading_as s g bytes
 
-alike_at : {A : Type 0} (r s : ListForm) (bytes : List ℕ) (d : A) (f : List Attribute → A) → read_as r bytes ≡ read_as s bytes → ((es : List Attribute) → kept r es ≡ kept s es) → if_read d (λ es. f (kept r es)) (read_as r bytes) ≡ if_read d (λ es. f (kept s es)) (read_as s bytes)
-alike_at r s bytes d f h k = ap (if_read d (λ es. f (kept r es))) h ∙ ap (λ (q : List Attribute → List Attribute). if_read d (λ es. f (q es)) (read_as s bytes)) (λ i es. k es i)
+alike_at : {A : Type 0} (r s : ListForm) (bytes : List ℕ) (d : A) (f : List Attribute → A) → read_as r bytes ≡ read_as s bytes → ((es : List Attribute) → kept r es ≡ kept s es) → option_map_or (λ es. f (kept r es)) (read_as r bytes) d ≡ option_map_or (λ es. f (kept s es)) (read_as s bytes) d
+alike_at r s bytes d f h k = ap (λ o. option_map_or (λ es. f (kept r es)) o d) h ∙ ap (λ (q : List Attribute → List Attribute). option_map_or (λ es. f (q es)) (read_as s bytes) d) (λ i es. k es i)
 
 alike_by : (r s : ListForm) (g : Grammar) (bytes : List ℕ) → read_as r bytes ≡ read_as s bytes → ((es : List Attribute) → kept r es ≡ kept s es) → AlikeOn r s g bytes
 unfolding reading_as
@@ -102,8 +103,8 @@ alike_by r s g bytes h k = record {
   accepted = alike_at r s bytes false (all_accepted g no_kind_in_force) h k;
   canonical = alike_at r s bytes [] (λ es. list_text (canonical_forms g no_kind_in_force es)) h k;
   fits = alike_at r s bytes true (all_fit g no_kind_in_force) h k;
-  attributes = ap (if_read 0 (λ es. length es + attributes_inside g no_kind_in_force (kept r es))) h ∙ ap (λ (q : List Attribute → List Attribute). if_read 0 (λ es. length es + attributes_inside g no_kind_in_force (q es)) (read_as s bytes)) (λ i es. k es i);
-  read = ap (λ o. if_some o (λ es. attribute_readings g no_kind_in_force (kept r es))) h ∙ ap (λ (q : List Attribute → List Attribute). if_some (read_as s bytes) (λ es. attribute_readings g no_kind_in_force (q es))) (λ i es. k es i);
+  attributes = ap (λ o. option_map_or (λ es. length es + attributes_inside g no_kind_in_force (kept r es)) o 0) h ∙ ap (λ (q : List Attribute → List Attribute). option_map_or (λ es. length es + attributes_inside g no_kind_in_force (q es)) (read_as s bytes) 0) (λ i es. k es i);
+  read = ap (λ o. option_and_then (λ es. attribute_readings g no_kind_in_force (kept r es)) o) h ∙ ap (λ (q : List Attribute → List Attribute). option_and_then (λ es. attribute_readings g no_kind_in_force (q es)) (read_as s bytes)) (λ i es. k es i);
 }
 
 pub non_empty_alike : (g : Grammar) (bytes : List ℕ) → 0 < length bytes → AlikeOn non_empty any g bytes
@@ -114,7 +115,7 @@ ports_alike g bytes l = alike_by ports of_kind_one g bytes (bytes_not_empty byte
 
 -- a list kind that requires an attribute rejects the empty list
 refuses : (form : ListForm) (g : Grammar) (bytes : List ℕ) → RequiresAttribute form → length bytes ≡ 0 → (list_rule form g).accepted bytes ≡ false
-refuses form g bytes w l = ap (if_read false (λ es. all_accepted g no_kind_in_force (kept form es))) (read_none form bytes l w)
+refuses form g bytes w l = ap (λ o. option_map_or (λ es. all_accepted g no_kind_in_force (kept form es)) o false) (read_none form bytes l w)
 
 pub non_empty_refuses : (g : Grammar) (bytes : List ℕ) → length bytes ≡ 0 → (list_rule non_empty g).accepted bytes ≡ false
 non_empty_refuses g bytes = refuses non_empty g bytes tt
@@ -126,9 +127,9 @@ no_text g c [] = refl
 no_text g c (e ∷ es) = sym (ne_eqb (length (list_text (canonical_forms g c (e ∷ es)))) 0 (λ z. absurd (omega (arith, z, length-list_text (canonical_forms g c (e ∷ es))))))
 
 -- legal ports are empty if and only if their encoding is, or a list of ports inside is
-ports_empty : (g : Grammar) (o : Option (List Attribute)) → if_read false (λ es. all_accepted g no_kind_in_force (kept ports es)) (if_some o unless_empty) ≡ true →
-    if_read false (λ es. is_empty_ports ports (kept ports es) || some_empty_ports g no_kind_in_force (kept ports es)) (if_some o unless_empty)
-    ≡ ((length (if_read [] (λ es. list_text (canonical_forms g no_kind_in_force (kept of_kind_one es))) o) == 0) || if_read false (λ es. is_empty_ports of_kind_one (kept of_kind_one es) || some_empty_ports g no_kind_in_force (kept of_kind_one es)) o)
+ports_empty : (g : Grammar) (o : Option (List Attribute)) → option_map_or (λ es. all_accepted g no_kind_in_force (kept ports es)) (option_and_then unless_empty o) false ≡ true →
+    option_map_or (λ es. is_empty_ports ports (kept ports es) || some_empty_ports g no_kind_in_force (kept ports es)) (option_and_then unless_empty o) false
+    ≡ ((length (option_map_or (λ es. list_text (canonical_forms g no_kind_in_force (kept of_kind_one es))) o []) == 0) || option_map_or (λ es. is_empty_ports of_kind_one (kept of_kind_one es) || some_empty_ports g no_kind_in_force (kept of_kind_one es)) o false)
 ports_empty g None h = absurd cc
 ports_empty g (Some []) h = absurd cc
 ports_empty g (Some (e ∷ es)) h = let ks = kept ports (e ∷ es) in ap (λ b. b || some_empty_ports g no_kind_in_force ks) (no_text g no_kind_in_force ks)
@@ -146,8 +147,8 @@ single_first_attributes_are_read = record {
 }
   where
     single : (g : Grammar) {o p : Option (Attribute × List ℕ)} → o ≡ p →
-        if_some (option_map (λ (x : Attribute × List ℕ). x.0 ∷ []) o) (λ es. attribute_readings g no_kind_in_force es) ≡ if_some (option_map (λ (x : Attribute × List ℕ). x.0 ∷ []) p) (λ es. attribute_readings g no_kind_in_force es)
-    single g = ap (λ o. if_some (option_map (λ (x : Attribute × List ℕ). x.0 ∷ []) o) (λ es. attribute_readings g no_kind_in_force es))
+        option_and_then (λ es. attribute_readings g no_kind_in_force es) (option_map (λ (x : Attribute × List ℕ). x.0 ∷ []) o) ≡ option_and_then (λ es. attribute_readings g no_kind_in_force es) (option_map (λ (x : Attribute × List ℕ). x.0 ∷ []) p)
+    single g = ap (λ o. option_and_then (λ es. attribute_readings g no_kind_in_force es) (option_map (λ (x : Attribute × List ℕ). x.0 ∷ []) o))
 
 -- ---- how a reading determines the results of the rule
 
@@ -190,8 +191,8 @@ unfolding list_or some_list
 determines_by g es ws true a h = (a, ap list_or h)
 determines_by g es ws false a h = absurd cc
 
-determines_in : (form : ListForm) (g : Grammar) (o : Option (List Attribute)) (ws : List AttributeReading) → if_some o (λ es. attribute_readings g no_kind_in_force (kept form es)) ≡ some_list ws →
-    (if_read false (λ es. all_accepted g no_kind_in_force (kept form es)) o ≡ true) × (if_read [] (λ es. list_text (canonical_forms g no_kind_in_force (kept form es))) o ≡ list_text (map (λ (w : AttributeReading). w.entry) ws)) × (if_read true (λ es. all_fit g no_kind_in_force (kept form es)) o ≡ all_readings_fit ws)
+determines_in : (form : ListForm) (g : Grammar) (o : Option (List Attribute)) (ws : List AttributeReading) → option_and_then (λ es. attribute_readings g no_kind_in_force (kept form es)) o ≡ some_list ws →
+    (option_map_or (λ es. all_accepted g no_kind_in_force (kept form es)) o false ≡ true) × (option_map_or (λ es. list_text (canonical_forms g no_kind_in_force (kept form es))) o [] ≡ list_text (map (λ (w : AttributeReading). w.entry) ws)) × (option_map_or (λ es. all_fit g no_kind_in_force (kept form es)) o true ≡ all_readings_fit ws)
 unfolding some_list
 determines_in form g None ws h = absurd cc
 determines_in form g (Some es) ws h =
@@ -210,7 +211,7 @@ unfolding some_list
 rejects_by true ws h = absurd cc
 rejects_by false ws h = refl
 
-rejects_in : (form : ListForm) (g : Grammar) (o : Option (List Attribute)) → if_some o (λ es. attribute_readings g no_kind_in_force (kept form es)) ≡ None → if_read false (λ es. all_accepted g no_kind_in_force (kept form es)) o ≡ false
+rejects_in : (form : ListForm) (g : Grammar) (o : Option (List Attribute)) → option_and_then (λ es. attribute_readings g no_kind_in_force (kept form es)) o ≡ None → option_map_or (λ es. all_accepted g no_kind_in_force (kept form es)) o false ≡ false
 unfolding some_list
 rejects_in form g None h = refl
 rejects_in form g (Some es) h = let ks = kept form es in rejects_by (all_accepted g no_kind_in_force ks) (written_all g no_kind_in_force ks) (sym (found g no_kind_in_force ks) ∙ h)

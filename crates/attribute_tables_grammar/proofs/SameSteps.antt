@@ -4,12 +4,13 @@ use Rattle.std.specs.Prelude.{◌==◌, ◌&&◌, ◌||◌, option_map}
 use Rattle.std.proofs.lemmas.Bool.{eqb-true, ne_eqb, and_parts}
 use Rattle.std.proofs.lemmas.Bool.Decides.{eqb_tells}
 use Rattle.std.proofs.lemmas.Slice.Eq.{bytes_eq-Decides}
+use Rattle.std.specs.Option.{option_map_or}
 use Rattle.netlink_packet_core_grammar.specs.Attributes.{Attribute, proper_kind, first_attribute, attributes_within, attributes_of}
 use Rattle.netlink_packet_core_grammar.specs.Texts.{without_nul}
 use Rattle.netlink_packet_core_grammar.proofs.FirstAttribute.{attributes_step, attributes_stop}
 use Rattle.attribute_tables_grammar.specs.Shapes.{text}
 use Rattle.attribute_tables_grammar.specs.Rules.{Rule, shape_rule}
-use Rattle.attribute_tables_grammar.specs.Lists.{Context, no_kind_in_force, Row, Grammar, row_of, row_at, same_kind, same_attribute, all_same, ListForm, non_empty, ports, first_only, read_as, is_kept, kept, if_read}
+use Rattle.attribute_tables_grammar.specs.Lists.{Context, no_kind_in_force, Row, Grammar, row_of, row_at, same_kind, same_attribute, all_same, ListForm, non_empty, ports, first_only, read_as, is_kept, kept}
 use Rattle.attribute_tables_grammar.specs.Tables.{typed, info_row, info_next, names_grammar}
 use Rattle.attribute_tables_grammar.specs.Sameness.{kept_of, same_kept, same_rests, same_kind_by_first_row}
 use Rattle.attribute_tables_grammar.specs.Laws.{KeptAttributesUnfold, SamenessUnfolds, AttributesAreCompared}
@@ -57,18 +58,18 @@ module _ (g : Grammar) (c : Context) where
   first_differs e f s (Some es) (Some fs) = ap (λ b. b && all_same g (g.next c e) (g.next c f) es fs) (sym s)
 
 -- a test that fails for each list also fails for each with one more attribute at the start
-never : (f : List Attribute → Bool) → ((es : List Attribute) → false ≡ f es) → (o : Option (List Attribute)) → false ≡ if_read false f o
+never : (f : List Attribute → Bool) → ((es : List Attribute) → false ≡ f es) → (o : Option (List Attribute)) → false ≡ option_map_or f o false
 never f h None = refl
 never f h (Some es) = h es
 
-never_following : (f : List Attribute → Bool) (e : Attribute) → ((es : List Attribute) → false ≡ f (e ∷ es)) → (o : Option (List Attribute)) → false ≡ if_read false f (option_map (λ es. e ∷ es) o)
+never_following : (f : List Attribute → Bool) (e : Attribute) → ((es : List Attribute) → false ≡ f (e ∷ es)) → (o : Option (List Attribute)) → false ≡ option_map_or f (option_map (λ es. e ∷ es) o) false
 never_following f e h None = refl
 never_following f e h (Some es) = h es
 
 -- ---- whole lists, by their list kind
 
 same_read : Grammar → ListForm → Option (List Attribute) → Option (List Attribute) → Bool
-same_read g form o p = if_read false (λ es. if_read false (λ fs. all_same g no_kind_in_force no_kind_in_force (kept form es) (kept form fs)) p) o
+same_read g form o p = option_map_or (λ es. option_map_or (λ fs. all_same g no_kind_in_force no_kind_in_force (kept form es) (kept form fs)) p false) o false
 
 plain_whole : (form : ListForm) (g : Grammar) (o p : Option (List Attribute)) → same_kept g no_kind_in_force no_kind_in_force (option_map (kept form) o) (option_map (kept form) p) ≡ same_read g form o p
 unfolding same_kept same_read

@@ -2,9 +2,10 @@
 use Rattle.std.proofs.Common.{◌≡◌, ℕ, ◌+◌, ◌≤◌, true, List, [], ◌∷◌, length, refl, ap, ◌∙◌, arith}
 use Rattle.std.specs.Prelude.{bytes_eq, ◌==◌}
 use Rattle.std.proofs.lemmas.Bool.{and_parts, and_from, le-leb}
+use Rattle.std.specs.Option.{option_map_or}
 use Rattle.netlink_packet_core_grammar.specs.Attributes.{Attribute, proper_kind, list_size}
 use Rattle.netlink_packet_core_grammar.proofs.Sizes.{length-list_text}
-use Rattle.attribute_tables_grammar.specs.Lists.{Context, no_kind_in_force, Grammar, row_of, all_accepted, canonical_forms, all_fit, ListForm, kept, if_read, list_rule}
+use Rattle.attribute_tables_grammar.specs.Lists.{Context, no_kind_in_force, Grammar, row_of, all_accepted, canonical_forms, all_fit, ListForm, kept, list_rule}
 use Rattle.attribute_tables_grammar.specs.Peers.{RuleOfPeers}
 use Rattle.attribute_tables_grammar.specs.Tables.{Payload, Payload.plain, Payload.peer, Payload.list, Payload.link_info, Table, Table.end, Table.row, Names, Names.others, Names.name, names_grammar, rule, row_in, rule_of_name, grammar}
 use Rattle.attribute_tables_grammar.specs.Laws.{ShortFit}
@@ -24,7 +25,7 @@ module _ (g : Grammar) (rows : (c : Context) (k : ℕ) → ShortFit (g.row c k).
   list_fits form b a l =
       let k = accepted_list form g b a in
       let size = ap length k.canonical ∙ length-list_text (canonical_forms g no_kind_in_force (kept form k.es)) in
-      ap (if_read true (λ es. all_fit g no_kind_in_force (kept form es))) k.reads ∙ all_fit-short no_kind_in_force (kept form k.es) k.accepted (omega (arith, l, size))
+      ap (λ o. option_map_or (λ es. all_fit g no_kind_in_force (kept form es)) o true) k.reads ∙ all_fit-short no_kind_in_force (kept form k.es) k.accepted (omega (arith, l, size))
 
 module _ (p : RuleOfPeers) where
   mutual

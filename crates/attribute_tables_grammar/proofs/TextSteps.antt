@@ -2,11 +2,12 @@
 use Rattle.std.proofs.Common.{◌≡◌, ℕ, ◌+◌, ◌-◌, ◌≤◌, ◌++◌, Bool, true, false, List, [], ◌∷◌, length, Option, Some, None, refl, sym, ap, ◌∙◌, append_assoc, append-nil, arith, length-append}
 use Rattle.std.specs.Prelude.{◌&&◌, nat_le, option_map}
 use Rattle.std.proofs.lemmas.Bool.{and_parts, leb-true}
-use Rattle.netlink_packet_core_grammar.specs.Attributes.{nla_align, Attribute, attribute_text, list_text, first_attribute, if_some, attributes_of}
+use Rattle.std.specs.Option.{option_and_then, option_map_or}
+use Rattle.netlink_packet_core_grammar.specs.Attributes.{nla_align, Attribute, attribute_text, list_text, first_attribute, attributes_of}
 use Rattle.netlink_packet_core_grammar.proofs.Sizes.{length-attribute_text}
 use Rattle.netlink_packet_core_grammar.proofs.FirstAttribute.{attributes_step}
 use Rattle.attribute_tables_grammar.specs.Rules.{Rule}
-use Rattle.attribute_tables_grammar.specs.Lists.{Context, no_kind_in_force, Grammar, row_of, canonical_form, canonical_forms, ListForm, first_only, is_kept, kept, if_read, list_rule}
+use Rattle.attribute_tables_grammar.specs.Lists.{Context, no_kind_in_force, Grammar, row_of, canonical_form, canonical_forms, ListForm, first_only, is_kept, kept, list_rule}
 use Rattle.attribute_tables_grammar.specs.Walks.{Measure, measure, with_header, dropped, both, whole_measure, measure_of_rest, list_measure, IsWalked}
 use Rattle.attribute_tables_grammar.specs.AlreadyCanonical.{text_from}
 use Rattle.attribute_tables_grammar.specs.Writing.{IsWritable, WrittenSoFar}
@@ -83,7 +84,7 @@ begins : (form : ListForm) (g : Grammar) (bytes : List ℕ) → IsWalked form by
 begins form g bytes w = begins_by form g bytes (measure_of_rest form g no_kind_in_force bytes) refl (whole_by form g bytes w ∙ walk_list form g bytes)
 
 -- a list that is walked has an encoding
-has_text_by : (form : ListForm) (g : Grammar) (c : Context) (o : Option (List Attribute)) (m : Measure) → if_some o (list_measure form g c) ≡ Some m → (t : List ℕ) × (option_map (λ es. list_text (canonical_forms g c (kept form es))) o ≡ Some t)
+has_text_by : (form : ListForm) (g : Grammar) (c : Context) (o : Option (List Attribute)) (m : Measure) → option_and_then (list_measure form g c) o ≡ Some m → (t : List ℕ) × (option_map (λ es. list_text (canonical_forms g c (kept form es))) o ≡ Some t)
 has_text_by form g c None m h = absurd cc
 has_text_by form g c (Some es) m h = (list_text (canonical_forms g c (kept form es)), refl)
 
@@ -117,7 +118,7 @@ nothing_left (b ∷ rest) l = absurd (omega arith)
 single_text : (g : Grammar) (bytes : List ℕ) (e : Attribute) (after : List ℕ) → first_attribute bytes ≡ Some (e, after) → (list_rule first_only g).canonical bytes ≡ attribute_text (canonical_form (row_of g no_kind_in_force e) e)
 unfolding canonical_forms list_text
 single_text g bytes e after f =
-    ap (λ o. if_read [] (λ es. list_text (canonical_forms g no_kind_in_force es)) (option_map (λ (x : Attribute × List ℕ). x.0 ∷ []) o)) f
+    ap (λ o. option_map_or (λ es. list_text (canonical_forms g no_kind_in_force es)) (option_map (λ (x : Attribute × List ℕ). x.0 ∷ []) o) []) f
     ∙ append-nil (attribute_text (canonical_form (row_of g no_kind_in_force e) e))
 
 header_fits : (o : Option Measure) (r : Rule) (p : List ℕ) → option_map with_header o ≡ measure r p → r.accepted p ≡ true → r.fits p ≡ true → (m : Measure) × (o ≡ Some m) × (nat_le (4 + m.size) 65535 ≡ true) × (m.fits ≡ true)

@@ -3,10 +3,11 @@ use Rattle.std.proofs.Common.{◌≡◌, ℕ, suc, ◌+◌, ◌<◌, Bool, true,
 use Rattle.std.proofs.Math.Bool.{and_assoc, or_assoc}
 use Rattle.std.proofs.Math.Nat.{zero-add}
 use Rattle.std.specs.Prelude.{◌&&◌, ◌||◌, nat_le, option_map}
-use Rattle.netlink_packet_core_grammar.specs.Attributes.{nla_align, Attribute, list_text, list_size, first_attribute, if_some, attributes_within, attributes_of}
+use Rattle.std.specs.Option.{option_and_then, option_map_or}
+use Rattle.netlink_packet_core_grammar.specs.Attributes.{nla_align, Attribute, list_text, list_size, first_attribute, attributes_within, attributes_of}
 use Rattle.netlink_packet_core_grammar.proofs.FirstAttribute.{attributes_step, attributes_stop}
 use Rattle.netlink_packet_core_grammar.proofs.Sizes.{length-list_text}
-use Rattle.attribute_tables_grammar.specs.Lists.{Context, no_kind_in_force, Grammar, row_of, canonical_forms, all_accepted, all_fit, attributes_inside, some_empty_ports, ListForm, read_as, is_kept, kept, is_empty_ports, if_read, list_rule}
+use Rattle.attribute_tables_grammar.specs.Lists.{Context, no_kind_in_force, Grammar, row_of, canonical_forms, all_accepted, all_fit, attributes_inside, some_empty_ports, ListForm, read_as, is_kept, kept, is_empty_ports, list_rule}
 use Rattle.attribute_tables_grammar.specs.Walks.{Measure, measure, plus, none_yet, dropped, with_header, both, list_measure, measure_of_rest, or_empty, measure_as}
 use Rattle.attribute_tables_grammar.proofs.Kept.{kept_more, kept_past, kept_none}
 
@@ -41,7 +42,7 @@ unfolding with_first
 with_first_none form g c e true h = sym (ap (λ b. cond b (both (option_map with_header (measure (row_of g c e).rule e.payload)) None) None) h ∙ both_none (option_map with_header (measure (row_of g c e).rule e.payload)))
 with_first_none form g c e false h = sym (ap (λ b. cond b (both (option_map with_header (measure (row_of g c e).rule e.payload)) None) None) h)
 
-if_some_map : (form : ListForm) (o : Option (List Attribute)) (g : Grammar) (c : Context) (e : Attribute) → if_some (option_map (λ es. e ∷ es) o) (list_measure form g c) ≡ with_first form g c e (if_some o (list_measure form g (g.next c e))) (if_some o (list_measure form g c))
+if_some_map : (form : ListForm) (o : Option (List Attribute)) (g : Grammar) (c : Context) (e : Attribute) → option_and_then (list_measure form g c) (option_map (λ es. e ∷ es) o) ≡ with_first form g c e (option_and_then (list_measure form g (g.next c e)) o) (option_and_then (list_measure form g c) o)
 unfolding list_measure with_first
 if_some_map form None g c e = with_first_none form g c e (is_kept form e) refl
 if_some_map form (Some es) g c e = refl
@@ -51,7 +52,7 @@ pub walk_step : (form : ListForm) (g : Grammar) (c : Context) (bytes : List ℕ)
     measure_of_rest form g c bytes ≡ cond b (both (option_map with_header (measure (row_of g c e).rule e.payload)) (measure_of_rest form g (g.next c e) rest)) (both (Some dropped) (measure_of_rest form g c rest))
 unfolding measure_of_rest with_first
 walk_step form g c bytes e rest b f k =
-    ap (λ o. if_some o (list_measure form g c)) (attributes_step bytes e rest f)
+    ap (λ o. option_and_then (list_measure form g c) o) (attributes_step bytes e rest f)
     ∙ if_some_map form (attributes_of rest) g c e
     ∙ ap (λ b. cond b (both (option_map with_header (measure (row_of g c e).rule e.payload)) (measure_of_rest form g (g.next c e) rest)) (both (Some dropped) (measure_of_rest form g c rest))) k
 
@@ -62,7 +63,7 @@ walk_end form g c (b ∷ bytes) h = absurd (omega arith)
 
 pub walk_stop : (form : ListForm) (g : Grammar) (c : Context) (bytes : List ℕ) → first_attribute bytes ≡ None → 0 < length bytes → measure_of_rest form g c bytes ≡ None
 unfolding measure_of_rest
-walk_stop form g c bytes f l = ap (λ o. if_some o (list_measure form g c)) (attributes_stop bytes f l)
+walk_stop form g c bytes f l = ap (λ o. option_and_then (list_measure form g c) o) (attributes_stop bytes f l)
 
 -- ---- a walk of a whole list
 
@@ -114,7 +115,7 @@ module _ (form : ListForm) (g : Grammar) where
   closed true b s h f p = refl
   closed false b s h f p = refl
 
-  whole : (o : Option (List Attribute)) → if_some o (λ es. option_map (or_empty (is_empty_ports form (kept form es))) (list_measure form g no_kind_in_force es)) ≡ cond (if_read false (λ es. all_accepted g no_kind_in_force (kept form es)) o) (Some (record { size = length (if_read [] (λ es. list_text (canonical_forms g no_kind_in_force (kept form es))) o); attributes = if_read 0 (λ es. length es + attributes_inside g no_kind_in_force (kept form es)) o; fits = if_read true (λ es. all_fit g no_kind_in_force (kept form es)) o; empty_ports = if_read false (λ es. is_empty_ports form (kept form es) || some_empty_ports g no_kind_in_force (kept form es)) o })) None
+  whole : (o : Option (List Attribute)) → option_and_then (λ es. option_map (or_empty (is_empty_ports form (kept form es))) (list_measure form g no_kind_in_force es)) o ≡ cond (option_map_or (λ es. all_accepted g no_kind_in_force (kept form es)) o false) (Some (record { size = length (option_map_or (λ es. list_text (canonical_forms g no_kind_in_force (kept form es))) o []); attributes = option_map_or (λ es. length es + attributes_inside g no_kind_in_force (kept form es)) o 0; fits = option_map_or (λ es. all_fit g no_kind_in_force (kept form es)) o true; empty_ports = option_map_or (λ es. is_empty_ports form (kept form es) || some_empty_ports g no_kind_in_force (kept form es)) o false })) None
   unfolding found_of
   whole None = refl
   whole (Some es) =

@@ -1,7 +1,8 @@
 -- The rule of a list of attributes, made from the rules of its rows.
 use Rattle.std.specs.Prelude.{◌≡◌, ℕ, ◌+◌, ◌==◌, ◌&&◌, ◌||◌, nat_le, Bool, true, false, cond, List, [], ◌∷◌, length}
 use Rattle.std.specs.Prelude.{filter, Option, Some, None, option_map}
-use Rattle.netlink_packet_core_grammar.specs.Attributes.{Attribute, proper_kind, list_text, first_attribute, if_some}
+use Rattle.std.specs.Option.{option_and_then, option_map_or}
+use Rattle.netlink_packet_core_grammar.specs.Attributes.{Attribute, proper_kind, list_text, first_attribute}
 use Rattle.netlink_packet_core_grammar.specs.Attributes.{attributes_of}
 use Rattle.attribute_tables_grammar.specs.Rules.{Rule, Lawful, raw_rule}
 
@@ -116,9 +117,9 @@ unless_empty (e ∷ es) = Some (e ∷ es)
 -- The attributes of a list of this kind; None if the bytes aren't such a list.
 abbrev pub read_as : ListForm → List ℕ → Option (List Attribute)
 read_as any b = attributes_of b
-read_as non_empty b = if_some (attributes_of b) unless_empty
+read_as non_empty b = option_and_then unless_empty (attributes_of b)
 read_as of_kind_one b = attributes_of b
-read_as ports b = if_some (attributes_of b) unless_empty
+read_as ports b = option_and_then unless_empty (attributes_of b)
 read_as first_only b = option_map (λ x. x.0 ∷ []) (first_attribute b)
 
 -- The kind proper is 1.
@@ -142,24 +143,20 @@ abbrev pub is_empty_ports : ListForm → List Attribute → Bool
 is_empty_ports ports [] = true
 is_empty_ports _ _ = false
 
--- f of the attributes that were read; d if the bytes are no list.
-abbrev pub if_read : {A : Type 0} → A → (List Attribute → A) → Option (List Attribute) → A
-if_read d f None = d
-if_read d f (Some es) = f es
-
--- The rule of a list of this kind.
+-- The rule of a list of this kind. `option_map_or f o d` is f of the attributes that were read, or d if the bytes are no
+-- list.
 abbrev pub list_rule : ListForm → Grammar → Rule
 list_rule form g = record {
-  accepted = λ b. if_read false (λ es. all_accepted g no_kind_in_force (kept form es)) (read_as form b);
-  same = λ a b. if_read false
-      (λ es. if_read false (λ fs. all_same g no_kind_in_force no_kind_in_force (kept form es) (kept form fs)) (read_as form b))
-      (read_as form a);
-  canonical = λ b. if_read [] (λ es. list_text (canonical_forms g no_kind_in_force (kept form es))) (read_as form b);
-  attributes = λ b. if_read 0 (λ es. length es + attributes_inside g no_kind_in_force (kept form es)) (read_as form b);
-  fits = λ b. if_read true (λ es. all_fit g no_kind_in_force (kept form es)) (read_as form b);
+  accepted = λ b. option_map_or (λ es. all_accepted g no_kind_in_force (kept form es)) (read_as form b) false;
+  same = λ a b. option_map_or
+      (λ es. option_map_or (λ fs. all_same g no_kind_in_force no_kind_in_force (kept form es) (kept form fs)) (read_as form b) false)
+      (read_as form a) false;
+  canonical = λ b. option_map_or (λ es. list_text (canonical_forms g no_kind_in_force (kept form es))) (read_as form b) [];
+  attributes = λ b. option_map_or (λ es. length es + attributes_inside g no_kind_in_force (kept form es)) (read_as form b) 0;
+  fits = λ b. option_map_or (λ es. all_fit g no_kind_in_force (kept form es)) (read_as form b) true;
   empty_ports =
-      λ b. if_read false (λ es. is_empty_ports form (kept form es) ||
-      some_empty_ports g no_kind_in_force (kept form es)) (read_as form b);
+      λ b. option_map_or (λ es. is_empty_ports form (kept form es) ||
+      some_empty_ports g no_kind_in_force (kept form es)) (read_as form b) false;
 }
 
 -- Every row is lawful, and the context after an attribute depends only on its kind proper and its canonical payload.

@@ -1,6 +1,7 @@
 -- The reading of an accepted list: the canonical form of each attribute, and whether everything inside it fits.
 use Rattle.std.specs.Prelude.{◌≡◌, ℕ, ◌&&◌, Bool, true, cond, List, [], ◌∷◌, ◌++◌, map, Option, Some, None, option_map}
-use Rattle.netlink_packet_core_grammar.specs.Attributes.{Attribute, list_text, if_some, attributes_of}
+use Rattle.std.specs.Option.{option_and_then}
+use Rattle.netlink_packet_core_grammar.specs.Attributes.{Attribute, list_text, attributes_of}
 use Rattle.netlink_packet_core_grammar.specs.Fits.{attribute_fits}
 use Rattle.attribute_tables_grammar.specs.Rules.{Rule}
 use Rattle.attribute_tables_grammar.specs.Lists.{Context, no_kind_in_force, Row, Grammar, row_of, canonical_form, ListForm, read_as}
@@ -25,11 +26,11 @@ attribute_readings g c (e ∷ es) =
 -- The reading of the rest of a list, in the context at its start: the attributes that the list kind keeps; None if one
 -- is rejected.
 unfoldable pub reading : ListForm → Grammar → Context → List ℕ → Option (List AttributeReading)
-reading form g c bytes = if_some (attributes_of bytes) (λ es. attribute_readings g c (kept form es))
+reading form g c bytes = option_and_then (λ es. attribute_readings g c (kept form es)) (attributes_of bytes)
 
 -- The reading of whole bytes, by their list kind; None if they are rejected.
 unfoldable pub reading_as : ListForm → Grammar → List ℕ → Option (List AttributeReading)
-reading_as form g bytes = if_some (read_as form bytes) (λ es. attribute_readings g no_kind_in_force (kept form es))
+reading_as form g bytes = option_and_then (λ es. attribute_readings g no_kind_in_force (kept form es)) (read_as form bytes)
 
 -- Each attribute that was read fits, and so does everything inside it.
 unfoldable pub all_readings_fit : List AttributeReading → Bool

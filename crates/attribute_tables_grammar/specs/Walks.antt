@@ -2,7 +2,8 @@
 -- attributes, whether it fits, and whether a list of ports in it is empty.
 use Rattle.std.specs.Prelude.{◌≡◌, ℕ, ◌+◌, ◌*◌, ◌==◌, ◌<◌, ◌≤◌, ◌&&◌, ◌||◌, nat_le, Bool, true, false, cond, List, []}
 use Rattle.std.specs.Prelude.{◌∷◌, length, Option, Some, None, option_map}
-use Rattle.netlink_packet_core_grammar.specs.Attributes.{nla_align, Attribute, if_some, attributes_of}
+use Rattle.std.specs.Option.{option_and_then}
+use Rattle.netlink_packet_core_grammar.specs.Attributes.{nla_align, Attribute, attributes_of}
 use Rattle.attribute_tables_grammar.specs.Rules.{Rule}
 use Rattle.attribute_tables_grammar.specs.Lists.{Context, no_kind_in_force, Grammar, row_of, ListForm, any, non_empty}
 use Rattle.attribute_tables_grammar.specs.Lists.{of_kind_one, ports, first_only, read_as, kept, is_kept, is_empty_ports}
@@ -71,7 +72,7 @@ list_measure form g c (e ∷ es) =
 
 -- The measure of the rest of a list, in the context at its start.
 unfoldable pub measure_of_rest : ListForm → Grammar → Context → List ℕ → Option Measure
-measure_of_rest form g c bytes = if_some (attributes_of bytes) (list_measure form g c)
+measure_of_rest form g c bytes = option_and_then (list_measure form g c) (attributes_of bytes)
 
 -- The measure, with an empty list of ports noted if b is true.
 abbrev pub or_empty : Bool → Measure → Measure
@@ -80,8 +81,8 @@ or_empty b m = record { size = m.size; attributes = m.attributes; fits = m.fits;
 -- The measure of whole bytes, by their list kind.
 unfoldable pub measure_as : ListForm → Grammar → List ℕ → Option Measure
 measure_as form g bytes =
-    if_some (read_as form bytes)
-    (λ es. option_map (or_empty (is_empty_ports form (kept form es))) (list_measure form g no_kind_in_force es))
+    option_and_then (λ es. option_map (or_empty (is_empty_ports form (kept form es))) (list_measure form g no_kind_in_force es))
+    (read_as form bytes)
 
 -- ---- the state of a loop
 

@@ -1,8 +1,9 @@
 //! Laws of the definitions. No function here makes a call.
 #![tactic(auto, using(crate::proofs::Together::laws))]
 
-ghost use Rattle.attribute_tables_grammar.specs.Laws.{CanonicalListsAreSplit, TablesAreLawful, BytesAreLawful, CanonicalPayloadsDetermineMeanings};
-ghost use Rattle.attribute_tables_grammar.specs.Laws.{PayloadsKeepMeanings, ShortPayloadsFit, OldPayloadsAreMigrated, OneContext};
+ghost use Rattle.attribute_tables_grammar.specs.Laws.{CanonicalListsAreSplit, TablesAreLawful, BytesAreLawful};
+ghost use Rattle.attribute_tables_grammar.specs.Laws.{CanonicalPayloadsDetermineMeanings, PayloadsKeepMeanings};
+ghost use Rattle.attribute_tables_grammar.specs.Laws.{ShortPayloadsFit, OldPayloadsAreMigrated, OneContext};
 ghost use Rattle.attribute_tables_grammar.specs.Laws.{RulesWithoutPeersAreOne};
 ghost use Rattle.attribute_tables_grammar.specs.Laws.{TableGrammarsAreLawful, RowsAreLookedUp, NamesAreLookedUp};
 ghost use Rattle.attribute_tables_grammar.specs.Laws.{ReadingsUnfold, ReadingsDetermineRules, FirstOnlyIsRead, PortsAreEntries};

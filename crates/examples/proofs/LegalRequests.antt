@@ -5,14 +5,15 @@ use Rattle.std.specs.Str.{is_utf8, chars}
 use lib.Utf8.{encode}
 use Rattle.std.proofs.lemmas.Bool.{le-leb}
 use Rattle.std.proofs.lemmas.List.{length-replicate}
-use Rattle.netlink_packet_core.specs.Attributes.{Attribute, attribute_text, if_some, list_text, zeros}
+use Rattle.std.specs.Option.{option_and_then, option_map_or}
+use Rattle.netlink_packet_core.specs.Attributes.{Attribute, attribute_text, list_text, zeros}
 use Rattle.netlink_packet_core.specs.Families.{attribute}
 use Rattle.netlink_packet_core.specs.Laws.{EncodingsAreSplit}
 use Rattle.netlink_packet_core.specs.Numbers.{be2, le4}
 use Rattle.netlink_packet_core.specs.Texts.{without_nul}
 use Rattle.netlink_packet_core.specs.TypedBodies.{TypedBody}
 use Rattle.link_info.specs.Families.{kinds, port_kinds, vxlan}
-use Rattle.link_info.specs.Lists.{no_kind_in_force, Grammar, all_accepted, all_fit, some_empty_ports, canonical_forms, any, non_empty, unless_empty, if_read, list_rule, without_context}
+use Rattle.link_info.specs.Lists.{no_kind_in_force, Grammar, all_accepted, all_fit, some_empty_ports, canonical_forms, any, non_empty, unless_empty, list_rule, without_context}
 use Rattle.link_info.specs.Tables.{rule_of_name, names_grammar, row_in, rule}
 use Rattle.link_message.specs.Body.{body_rule, has_layer_type_name, link_body, link_peer, attributes_rule}
 use Rattle.link_message.specs.LinkTables.{info, link_table, unspec}
@@ -38,18 +39,18 @@ record CanonicalAttributes (g : Grammar) (es : List Attribute) : Type 0 where
 
 canonical_list : EncodingsAreSplit → (g : Grammar) (es : List Attribute) → CanonicalAttributes g es → IsCanonicalBody (list_rule any g) (list_text es)
 canonical_list cut g es o = record {
-  accepted = ap (if_read false (all_accepted g no_kind_in_force)) (cut es).0 ∙ o.accepted;
-  fits = ap (if_read true (all_fit g no_kind_in_force)) (cut es).0 ∙ o.fits;
-  empty_ports = ap (if_read false (some_empty_ports g no_kind_in_force)) (cut es).0 ∙ o.empty_ports;
-  canonical = ap (if_read [] (λ fs. list_text (canonical_forms g no_kind_in_force fs))) (cut es).0 ∙ ap list_text o.written;
+  accepted = ap (λ o. option_map_or (all_accepted g no_kind_in_force) o false) (cut es).0 ∙ o.accepted;
+  fits = ap (λ o. option_map_or (all_fit g no_kind_in_force) o true) (cut es).0 ∙ o.fits;
+  empty_ports = ap (λ o. option_map_or (some_empty_ports g no_kind_in_force) o false) (cut es).0 ∙ o.empty_ports;
+  canonical = ap (λ o. option_map_or (λ fs. list_text (canonical_forms g no_kind_in_force fs)) o []) (cut es).0 ∙ ap list_text o.written;
 }
 
 canonical_some : EncodingsAreSplit → (g : Grammar) (e : Attribute) (es : List Attribute) → CanonicalAttributes g (e ∷ es) → IsCanonicalBody (list_rule non_empty g) (list_text (e ∷ es))
 canonical_some cut g e es o = record {
-  accepted = ap (λ r. if_read false (all_accepted g no_kind_in_force) (if_some r unless_empty)) (cut (e ∷ es)).0 ∙ o.accepted;
-  fits = ap (λ r. if_read true (all_fit g no_kind_in_force) (if_some r unless_empty)) (cut (e ∷ es)).0 ∙ o.fits;
-  empty_ports = ap (λ r. if_read false (some_empty_ports g no_kind_in_force) (if_some r unless_empty)) (cut (e ∷ es)).0 ∙ o.empty_ports;
-  canonical = ap (λ r. if_read [] (λ fs. list_text (canonical_forms g no_kind_in_force fs)) (if_some r unless_empty)) (cut (e ∷ es)).0 ∙ ap list_text o.written;
+  accepted = ap (λ r. option_map_or (all_accepted g no_kind_in_force) (option_and_then unless_empty r) false) (cut (e ∷ es)).0 ∙ o.accepted;
+  fits = ap (λ r. option_map_or (all_fit g no_kind_in_force) (option_and_then unless_empty r) true) (cut (e ∷ es)).0 ∙ o.fits;
+  empty_ports = ap (λ r. option_map_or (some_empty_ports g no_kind_in_force) (option_and_then unless_empty r) false) (cut (e ∷ es)).0 ∙ o.empty_ports;
+  canonical = ap (λ r. option_map_or (λ fs. list_text (canonical_forms g no_kind_in_force fs)) (option_and_then unless_empty r) []) (cut (e ∷ es)).0 ∙ ap list_text o.written;
 }
 
 -- ---- the data

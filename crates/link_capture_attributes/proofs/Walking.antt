@@ -6,7 +6,7 @@ use Rattle.link_capture_walks.specs.Walks.{collected_inside, or_else}
 use Rattle.link_capture_walks.proofs.Choices.{none_taken, some_taken}
 use Rattle.link_capture_attributes.specs.Attributes.{Found, Level, after, first_from, found_in, inside, list_attributes}
 use Rattle.link_capture_attributes.specs.AttributeLaws.{ListsUnfoldByAttributes}
-use Rattle.link_capture_attributes.specs.AttributeViews.{all_found, found}
+use Rattle.link_capture_attributes.specs.AttributeViews.{optional_found, found}
 use Rattle.link_capture_lists.specs.ListTables.{list_rest}
 use Rattle.link_capture_attributes.specs.declared.attribute_at.AttributeAt.{AttributeAt}
 
@@ -36,9 +36,9 @@ module _ (s : ListsUnfoldByAttributes) (position : ℕ) (l : Level) (offset : �
   passed : nat_le position offset ≡ false → first_from position (list_attributes l offset rest) ≡ or_else (first_from position within) (first_from position more)
   passed h = ap (first_from position) (s.next l offset rest e behind f) ∙ ap (λ b. cond b (Some (found_in l offset e)) (first_from position (within ++ more))) h ∙ first_of_both position within more
 
-  module _ (h : nat_le position offset ≡ false) (o : Option AttributeAt) (i : all_found o ≡ first_from position within) where
+  module _ (h : nat_le position offset ≡ false) (o : Option AttributeAt) (i : optional_found o ≡ first_from position within) where
     -- it is inside the first attribute
-    pub found_inside : is_some o ≡ true → all_found o ≡ first_from position (list_attributes l offset rest)
+    pub found_inside : is_some o ≡ true → optional_found o ≡ first_from position (list_attributes l offset rest)
     found_inside t = sym (some_taken found o (first_from position more) t) ∙ ap (λ z. or_else z (first_from position more)) i ∙ sym (passed h)
 
     -- it isn't

@@ -14,7 +14,7 @@ abbrev pub AreApart : ℕ → ℕ → List Found → Type 0
 AreApart low high [] = Unit {0}
 AreApart low high (f ∷ fs) = (low ≤ f.offset) × (f.offset + 4 ≤ high) × AreApart (f.offset + 4) high fs
 
--- The attributes of a frame are in the order of their bytes, and inside it.
+-- The headers of a frame's attributes are apart, in the order of their bytes, and inside the frame.
 abbrev pub AttributesAreApart : Type 0
 AttributesAreApart = (offset : ℕ) (c : List ℕ) → BeginsWithFrame c →
     AreApart (offset + 32) (offset + frame_length c) (frame_attributes offset c)
@@ -28,8 +28,8 @@ NextIsFromPayload = (low high : ℕ) (fs gs : List Found) (f : Found) → AreApa
 abbrev pub IsAt : ℕ → List ℕ → ℕ → List ℕ → Type 0
 IsAt start c offset x = (before : List ℕ) × (rest : List ℕ) × (c ≡ before ++ (x ++ rest)) × (start + length before ≡ offset)
 
--- Each attribute of a frame that is found from a position on is there or after it, and its payload is in the frame, 4
--- bytes after its offset.
+-- Each attribute of a frame that is found from a position on is there or after it, and its payload is in c, 4 bytes
+-- after its offset.
 abbrev pub AttributesAreWhereTheySay : Type 0
 AttributesAreWhereTheySay = (offset position : ℕ) (c : List ℕ) (f : Found) → BeginsWithFrame c →
     first_from position (frame_attributes offset c) ≡ Some f →

@@ -19,8 +19,8 @@ found a =
     }
 
 -- The value of an optional attribute in code.
-abbrev pub all_found : Option AttributeAt → Option Found
-all_found o = option_map found o
+abbrev pub optional_found : Option AttributeAt → Option Found
+optional_found o = option_map found o
 
 -- The value of a level in code.
 abbrev pub level_of : LevelInCode → Level

@@ -3,7 +3,7 @@
 ghost use Rattle.std.specs.Prelude.{◌≡◌, ◌<◌, ◌≤◌, ◌+◌, ◌^◌, length, IfSome};
 ghost use Rattle.netlink_packet_core.specs.Frames.{BeginsWithFrame};
 ghost use Rattle.link_capture_attributes.specs.Attributes.{first_from, frame_attributes};
-ghost use Rattle.link_capture_attributes.specs.AttributeViews.{all_found};
+ghost use Rattle.link_capture_attributes.specs.AttributeViews.{optional_found};
 
 use crate::attribute_at::AttributeAt;
 use crate::laws::lists_unfold_by_attributes;
@@ -23,7 +23,7 @@ use netlink_packet_core::{NETLINK_HEADER_LEN, NetlinkBuffer};
 pub fn attribute_from(bytes: &[u8], offset: u64, position: u64) -> Option<AttributeAt<'_>>
     requires frame { BeginsWithFrame bytes.now }
     requires near { offset + length bytes.now < 2 ^ 63 }
-    ensures found { all_found result ≡ first_from position (frame_attributes offset bytes.now) }
+    ensures found { optional_found result ≡ first_from position (frame_attributes offset bytes.now) }
     ensures shallow { IfSome result (λ a. a.depth ≤ 6) }
 {
     lists_unfold_by_attributes();

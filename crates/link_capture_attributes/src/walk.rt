@@ -5,7 +5,7 @@ ghost use Rattle.link_interpreter.specs.Sameness.{attribute_of};
 ghost use Rattle.link_capture_lists.specs.ListTables.{IsLower};
 ghost use Rattle.link_capture_attributes.specs.Attributes.{found_in, first_from, inside, level_by_row, link_kind_of};
 ghost use Rattle.link_capture_attributes.specs.Attributes.{list_attributes};
-ghost use Rattle.link_capture_attributes.specs.AttributeViews.{IsShallow, all_found, found, level_of};
+ghost use Rattle.link_capture_attributes.specs.AttributeViews.{IsShallow, optional_found, found, level_of};
 
 use crate::attribute_at::AttributeAt;
 use crate::laws::lists_unfold_by_attributes;
@@ -120,7 +120,7 @@ pub(crate) fn attribute_in<'a>(
 ) -> Option<AttributeAt<'a>>
     requires near { offset + length bytes.now < 2 ^ 63 }
     requires deep { IsShallow level }
-    ensures found { all_found result ≡ first_from position (list_attributes (level_of level.entry) offset bytes.now) }
+    ensures found { optional_found result ≡ first_from position (list_attributes (level_of level.entry) offset bytes.now) }
     ensures shallow { IfSome result (λ a. a.depth ≤ 6) }
 {
     lists_unfold_by_attributes();

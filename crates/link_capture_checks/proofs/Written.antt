@@ -1,6 +1,13 @@
--- The text of a body that has one, by its type.
-use Rattle.std.proofs.Common.{◌≡◌, ℕ, Bool, true, false, cond, List, [], ◌∷◌, length, Ok, Err, is_ok, refl}
+-- The text of a body that has one, by its type, and of a frame that is already canonical.
+use Rattle.std.proofs.Common.{◌≡◌, ℕ, ◌+◌, ◌-◌, Bool, true, false, cond, List, [], ◌∷◌, ◌++◌, length, take, drop, Ok, Err, is_ok, refl, sym, ap, ◌∙◌, arith, append_assoc}
 use Rattle.std.specs.Prelude.{◌==◌, nat_lt}
+use Rattle.std.proofs.Math.Seq.{take-add}
+use Rattle.std.proofs.lemmas.List.{drop-drop, length-append, length-drop, length-take}
+use Rattle.netlink_packet_core_grammar.specs.Attributes.{nla_align, zeros}
+use Rattle.netlink_packet_core_grammar.specs.Frames.{BeginsWithFrame, frame_length, frame_body, frame_text}
+use Rattle.netlink_packet_core_grammar.specs.Numbers.{le4}
+use Rattle.netlink_packet_core_grammar.proofs.Numbers.{AllBytes, le4_first}
+use Rattle.netlink_packet_core.specs.Messages.{unpadded_text}
 use Rattle.attribute_tables_grammar.specs.Rules.{Rule}
 use Rattle.link_capture_grammar.specs.Bodies.{done_text, error_text, ruled_text}
 use Rattle.link_capture_grammar.specs.Same.{done_body}
@@ -34,3 +41,38 @@ ruled_by r b false e f a g i h = absurd cc
 
 pub ruled_is : (r : Rule) (b : List ℕ) → is_ok (ruled_text r b) ≡ true → Ruled r b
 ruled_is r b = ruled_by r b (r.accepted b) (r.empty_ports b) (r.fits b) refl refl refl
+
+-- ---- a frame is the text of its header and its body, without the padding
+
+pub frame_size : (c : List ℕ) → BeginsWithFrame c → frame_length c ≡ 16 + length (frame_body c)
+frame_size c f =
+    let body = frame_length c - 16 in
+    omega (arith, f.covers_header, f.within, length-take body (drop 16 c), length-drop 16 c)
+
+pub unpadded_size : (c text : List ℕ) → BeginsWithFrame c → length (unpadded_text c text) ≡ 16 + length text
+unfolding le4
+unpadded_size c text f =
+    let head = take 12 (drop 4 c) in
+    omega (arith, f.has_header, length-append head text, length-take 12 (drop 4 c), length-drop 4 c)
+
+pub canonical_frame_text : (c : List ℕ) → BeginsWithFrame c → AllBytes c → take (frame_length c) c ≡ unpadded_text c (frame_body c)
+canonical_frame_text c f b =
+    let body = frame_length c - 16 in
+    let parts : frame_length c ≡ 4 + (12 + body) = omega (arith, f.covers_header) in
+    ap (λ n. take n c) parts
+    ∙ take-add 4 (12 + body) c
+    ∙ ap (λ x. x ++ take (12 + body) (drop 4 c)) (sym (le4_first c (omega (arith, f.has_header)) b))
+    ∙ ap (λ x. le4 (frame_length c) ++ x) (take-add 12 body (drop 4 c))
+    ∙ ap (λ x. le4 (frame_length c) ++ (take 12 (drop 4 c) ++ take body x)) (drop-drop 12 4 c)
+    ∙ ap (λ n. le4 n ++ (take 12 (drop 4 c) ++ frame_body c)) (frame_size c f)
+
+-- the text of a frame ends with its padding
+pub with_padding : (c text out : List ℕ) (n : ℕ) → n ≡ 16 + length text → (out ++ unpadded_text c text) ++ zeros (nla_align n - n) ≡ out ++ frame_text c text
+unfolding frame_text
+with_padding c text out n e =
+    let number = le4 (16 + length text) in
+    let head = take 12 (drop 4 c) in
+    let rest = zeros (nla_align n - n) in
+    append_assoc out (number ++ (head ++ text)) rest
+    ∙ ap (λ x. out ++ x) (append_assoc number (head ++ text) rest ∙ ap (λ x. number ++ x) (append_assoc head text rest))
+    ∙ ap (λ k. out ++ (number ++ (head ++ (text ++ zeros (nla_align k - k))))) e

@@ -42,7 +42,7 @@ abbrev pub text_or_empty : Result (List ℕ) FaultKind → List ℕ
 text_or_empty (Ok text) = text
 text_or_empty (Err why) = []
 
--- The first frame is accepted, and the vector had less capacity than its text needs.
+-- The first frame is accepted, and the vector had less capacity than what it held and the frame's text need together.
 abbrev pub LacksCapacity : {Z : Type 0} → ℕ → List ℕ → Vec ℕ Z → Type 0
 LacksCapacity limit c out = (n : ℕ) × (text : List ℕ) × (first_frame link_body limit c ≡ Ok (n, text)) ×
     (vec_capacity out < length out.items + length text)

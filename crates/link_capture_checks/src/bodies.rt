@@ -99,7 +99,9 @@ fn measure_link(body: &[u8]) -> Result<MeasuredBody, FaultKind>
     })
 }
 
-/// Returns the measure of the body of a message of a type.
+/// Returns the measure of the body of a message of a type. Inlined, so that the measure isn't copied
+/// from one result into the next.
+#[inline(always)]
 pub(crate) fn measure_body(message_type: u16, body: &[u8]) -> Result<MeasuredBody, FaultKind>
     ensures ok { IfOk result (λ m. IsMeasuredBody body.now (body_text link_body message_type body.now)
         (body_attribute_count link_body message_type body.now) m) }
@@ -126,21 +128,16 @@ pub(crate) fn measure_body(message_type: u16, body: &[u8]) -> Result<MeasuredBod
 pub(crate) fn write_frame_body(
     message_type: u16,
     body: &[u8],
-    is_canonical: bool,
     canonical_prefix: usize,
     out: &mut Vec<u8>,
 )
     requires text { is_ok (body_text link_body message_type body.now) ≡ true }
-    requires canonical { is_canonical ≡ true → body_text link_body message_type body.now ≡ Ok body.now }
     requires canonical_prefix { IsBodyPrefix link_peer body.now canonical_prefix }
     requires capacity { length out.old.items + length (text_or_empty (body_text link_body message_type body.now))
         ≤ vec_capacity out.old }
     ensures text { out.new.items ≡ out.old.items ++ text_or_empty (body_text link_body message_type body.now) }
     ensures capacity { vec_capacity out.old ≤ vec_capacity out.new }
 {
-    if is_canonical {
-        return append(body, out);
-    }
     match message_type {
         NLMSG_NOOP => {}
         NLMSG_ERROR => append(body, out),

@@ -4,6 +4,7 @@ ghost use Rattle.std.specs.Prelude.{◌≡◌, ◌≢◌, ◌≤◌, ◌<◌, �
 ghost use Rattle.std.specs.Prelude.{is_ok, vec_capacity, IfOk, IfErr, OnErr, Ok, Err};
 ghost use Rattle.netlink_packet_core_grammar.specs.Attributes.{nla_align};
 ghost use Rattle.netlink_packet_core.specs.Numbers.{le4};
+ghost use Rattle.netlink_packet_core.specs.Messages.{unpadded_text};
 ghost use Rattle.netlink_packet_core.specs.Frames.{BeginsWithFrame, frame_length, frame_type, frame_body, frame_text};
 ghost use Rattle.link_message_grammar.specs.Body.{link_peer, link_body};
 ghost use Rattle.link_message_checks.specs.Prefixes.{IsBodyPrefix};
@@ -15,7 +16,7 @@ use crate::bodies::{measure_body, write_frame_body};
 use crate::texts::{MeasuredBody, MeasuredFrame};
 use link_capture_grammar::fault::FaultKind;
 use link_capture_grammar::laws::frames_are_judged;
-use link_interpreter::{append, append_zeros};
+use link_interpreter::{append, append_padding};
 use netlink_packet_core::{NETLINK_HEADER_LEN, NetlinkBuffer, nla_align};
 
 /// Judges the header of the first frame, and returns the frame's length.
@@ -100,9 +101,10 @@ fn header_with(size: u32, bytes: &[u8]) -> [u8; NETLINK_HEADER_LEN]
     header
 }
 
-// Appends the text of the first frame, whose body has one, with this size in its header. `out` must
-// have capacity for it.
-fn write_frame_text(
+// Appends the text of the first frame, whose body has one, with this size in its header, without
+// the padding. If the body is canonical, the frame is already canonical too. `out` must have
+// capacity for the text.
+fn write_unpadded(
     bytes: &[u8],
     size: u32,
     is_canonical: bool,
@@ -116,22 +118,17 @@ fn write_frame_text(
     requires canonical_prefix { IsBodyPrefix link_peer (frame_body bytes.now) canonical_prefix }
     requires size { size
         ≡ 16 + length (text_or_empty (body_text link_body (frame_type bytes.now) (frame_body bytes.now))) }
-    requires capacity { length out.old.items + nla_align size ≤ vec_capacity out.old }
+    requires capacity { length out.old.items + size ≤ vec_capacity out.old }
     ensures text { out.new.items ≡ out.old.items
-        ++ frame_text bytes.now (text_or_empty (body_text link_body (frame_type bytes.now) (frame_body bytes.now))) }
+        ++ unpadded_text bytes.now (text_or_empty (body_text link_body (frame_type bytes.now) (frame_body bytes.now))) }
     ensures capacity { vec_capacity out.old ≤ vec_capacity out.new }
 {
+    if is_canonical {
+        return append(&bytes[..size as usize], out);
+    }
     append(&header_with(size, bytes), out);
     let message_type = NetlinkBuffer::new(bytes).message_type();
-    write_frame_body(
-        message_type,
-        frame_body(bytes),
-        is_canonical,
-        canonical_prefix,
-        out,
-    );
-    let size = size as usize;
-    append_zeros(nla_align(size) - size, out);
+    write_frame_body(message_type, frame_body(bytes), canonical_prefix, out);
 }
 
 /// Judges the first frame, appends its text to `out`, and returns its length.
@@ -164,6 +161,7 @@ pub fn push_frame(bytes: &[u8], limit: u32, out: &mut Vec<u8>) -> Result<usize, 
     let Ok(()) = out.reserve(text_len) else {
         return Err(FaultKind::Memory);
     };
-    write_frame_text(bytes, size as u32, is_canonical, canonical_prefix, out);
+    write_unpadded(bytes, size as u32, is_canonical, canonical_prefix, out);
+    append_padding(size, out);
     Ok(len)
 }

@@ -2,7 +2,8 @@
 
 ghost use Rattle.std.specs.Prelude.{◌≡◌, ℕ, [], map, IfSome, IfNone, string_bytes};
 ghost use Rattle.std.specs.Str.Parse.{digits_value};
-ghost use Rattle.link_capture_commands.specs.Commands.{IsLimitArgument, AsksForLimit, AsksForCommand, LimitIsAtLeast16, status_of_norm, status_of_same};
+ghost use Rattle.link_capture_commands.specs.Commands.{IsLimitArgument, AsksForLimit, AsksForCommand, LimitIsAtLeast16};
+ghost use Rattle.link_capture_commands.specs.Commands.{status_of_norm, status_of_same};
 
 use link_capture_checks::SideFault;
 use link_capture_grammar::fault::CaptureFault;

@@ -84,7 +84,7 @@ abbrev pub HasVerdict : Option CaptureFault → ℕ → List ℕ → Type 0
 HasVerdict None limit s = IsLegal link_body limit s
 HasVerdict (Some fault) limit s = IsFaultOf limit s fault
 
--- A frame of this length is at hand, and there is no fault before it.
+-- If a length is given, a frame of this length is at hand, and there is no fault before it.
 abbrev pub IsAtFrame : SideState → Option ℕ → Type 0
 IsAtFrame r None = Unit {0}
 IsAtFrame r (Some len) =

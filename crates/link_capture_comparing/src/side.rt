@@ -3,7 +3,7 @@
 ghost use Rattle.std.specs.Prelude.{◌≡◌, ◌≤◌, ◌<◌, ◌+◌, ◌-◌, ◌^◌, ◌++◌, ℕ, List, [], ⊤, true, length, take, drop, vec_capacity};
 ghost use Rattle.std.specs.Prelude.{None, Some, IfOk, OnOk, OnErr};
 ghost use Rattle.netlink_packet_core_grammar.specs.Attributes.{nla_align};
-ghost use Rattle.link_capture_reader.specs.Readers.{CanKeep};
+ghost use Rattle.link_capture_reader.specs.Readers.{IsReservedIfCut};
 ghost use Rattle.link_capture_reader.specs.States.{SourceState, source_state};
 ghost use Rattle.link_capture_comparing.specs.Readings.{HasRead};
 ghost use Rattle.link_capture_comparing.specs.Sides.{state_of, new_side, rest_of, offset_of, HasJudged, HasVerdict, HasPassedFrames};
@@ -129,7 +129,7 @@ impl Side {
     /// If an allocation fails, which is only for a cut frame.
     fn make_room(&mut self) -> Result<(), AllocError>
         requires inside { length (state_of self.old).window ≤ self.old.read }
-        ensures room { OnOk result (CanKeep self.new.kept.items (vec_capacity self.new.kept) 32768) }
+        ensures room { OnOk result (IsReservedIfCut self.new.kept.items (vec_capacity self.new.kept) 32768) }
         ensures piece { OnOk result (self.new.kept.items ≡ [] → self.new.piece_len ≡ 0) }
         ensures cut { OnErr result (0 < length (rest_of (state_of self.old))) }
         ensures rest { rest_of (state_of self.new) ≡ rest_of (state_of self.old) }
@@ -174,7 +174,7 @@ impl Side {
     /// Takes a piece that was read to the start of the buffer.
     fn take_piece(&mut self, len: usize)
         requires within { len ≤ 32768 }
-        requires room { CanKeep self.old.kept.items (vec_capacity self.old.kept) 32768 }
+        requires room { IsReservedIfCut self.old.kept.items (vec_capacity self.old.kept) 32768 }
         requires piece { self.old.kept.items ≡ [] → self.old.piece_len ≡ 0 }
         ensures { state_of self.new ≡ record (state_of self.old) {
           window = (state_of self.old).window ++ take len self.old.buffer;

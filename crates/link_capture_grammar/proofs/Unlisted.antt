@@ -2,9 +2,10 @@
 use Rattle.std.proofs.Common.{◌≡◌, inl, inr, ℕ, zero, suc, true, false, List, [], ◌∷◌, ◌++◌, length, Ok, refl, sym, ap, subst, ◌∙◌}
 use Rattle.std.specs.Prelude.{◌&&◌, not, nat_le}
 use Rattle.std.proofs.lemmas.Bool.{and_parts}
+use Rattle.std.specs.Option.{option_map_or}
 use Rattle.netlink_packet_core_grammar.specs.Attributes.{Attribute, proper_kind, list_text}
 use Rattle.netlink_packet_core_grammar.specs.Frames.{frame_type, frame_body}
-use Rattle.attribute_tables_grammar.specs.Lists.{Context, no_kind_in_force, Row, raw_row, Grammar, LawfulGrammar, row_of, context_after, all_accepted, canonical_form, canonical_forms, canonical_kind, without_context, ListForm, any, ports, read_as, kept, is_empty_ports, if_read, list_rule}
+use Rattle.attribute_tables_grammar.specs.Lists.{Context, no_kind_in_force, Row, raw_row, Grammar, LawfulGrammar, row_of, context_after, all_accepted, canonical_form, canonical_forms, canonical_kind, without_context, ListForm, any, ports, read_as, kept, is_empty_ports, list_rule}
 use Rattle.attribute_tables_grammar.specs.Peers.{RuleOfPeers, LawfulPeer}
 use Rattle.attribute_tables_grammar.specs.Rules.{Rule}
 use Rattle.attribute_tables_grammar.specs.Tables.{grammar}
@@ -54,9 +55,9 @@ record RewrittenInText (form : ListForm) (g : Grammar) (bytes : List ℕ) (x : A
 
 kept_attribute : (form : ListForm) (g : Grammar) (bytes : List ℕ) (x : Attribute) (k : Keeps form bytes x) → LawfulGrammar g → (list_rule form g).accepted bytes ≡ true → RewrittenInText form g bytes x k
 kept_attribute form g bytes x k lawful a =
-    let all : all_accepted g no_kind_in_force (kept form k.read) ≡ true = sym (ap (if_read false (λ es. all_accepted g no_kind_in_force (kept form es))) k.is_read) ∙ a in
+    let all : all_accepted g no_kind_in_force (kept form k.read) ≡ true = sym (ap (λ o. option_map_or (λ es. all_accepted g no_kind_in_force (kept form es)) o false) k.is_read) ∙ a in
     let r = rewritten_there g lawful no_kind_in_force k.before k.after x (subst (λ es. all_accepted g no_kind_in_force es ≡ true) k.is_kept all) in
-    let text : (list_rule form g).canonical bytes ≡ list_text (canonical_forms g no_kind_in_force (kept form k.read)) = ap (if_read [] (λ es. list_text (canonical_forms g no_kind_in_force (kept form es)))) k.is_read in
+    let text : (list_rule form g).canonical bytes ≡ list_text (canonical_forms g no_kind_in_force (kept form k.read)) = ap (λ o. option_map_or (λ es. list_text (canonical_forms g no_kind_in_force (kept form es))) o []) k.is_read in
     let s = read_canonical g form no_kind_in_force bytes k.read k.is_read (ap (is_empty_ports form) k.is_kept ∙ not_empty_ports form k.before k.after x) in
     record {
       accepted = r.accepted;

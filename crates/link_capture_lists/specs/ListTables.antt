@@ -1,5 +1,5 @@
 -- The lists of links: the names of their attributes, and what these contain.
-use Rattle.std.specs.Prelude.{ℕ, zero, suc, ◌==◌, ◌<◌, ◌||◌, nat_lt, Bool, cond, List, [], ◌∷◌, ◌++◌, codes}
+use Rattle.std.specs.Prelude.{ℕ, ◌==◌, ◌<◌, ◌||◌, nat_lt, Bool, cond, List, [], ◌∷◌, ◌++◌, codes}
 use Rattle.std.specs.Prelude.{get_or, map, Option, Some, None, option_map}
 use Rattle.std.specs.List.{list_all}
 use Rattle.attribute_tables_grammar.specs.Lists.{Context}

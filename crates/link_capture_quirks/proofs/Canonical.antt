@@ -6,13 +6,14 @@ use Rattle.std.proofs.lemmas.Bool.{and_parts, eqb-true, eqb-false, leb-true, ne_
 use Rattle.std.proofs.lemmas.Bool.Decides.{nat_tests}
 use Rattle.std.proofs.lemmas.List.{length-take-le}
 use Rattle.std.proofs.lemmas.List.Folds.{list_any-append}
+use Rattle.std.specs.Option.{option_map_or}
 use Rattle.netlink_packet_core_grammar.specs.Attributes.{Attribute, proper_kind, zeros, nla_align, attribute_length, list_text, first_attribute}
 use Rattle.netlink_packet_core_grammar.specs.Laws.{WrittenIsFirst}
 use Rattle.netlink_packet_core_grammar.specs.Numbers.{u32_at}
 use Rattle.netlink_packet_core_grammar.specs.Texts.{without_nul}
 use Rattle.netlink_packet_core_grammar.specs.Booleans.{boolean_of, is_one}
 use Rattle.attribute_tables_grammar.specs.Shapes.{number, number_boolean}
-use Rattle.attribute_tables_grammar.specs.Lists.{Row, no_kind_in_force, canonical_form, canonical_forms, canonical_kind, row_of, first_only, kept, if_read, all_accepted, list_rule}
+use Rattle.attribute_tables_grammar.specs.Lists.{Row, no_kind_in_force, canonical_form, canonical_forms, canonical_kind, row_of, first_only, kept, all_accepted, list_rule}
 use Rattle.attribute_tables_grammar.specs.LookUps.{table_row}
 use Rattle.attribute_tables_grammar.specs.Peers.{RuleOfPeers}
 use Rattle.attribute_tables_grammar.specs.Tables.{Table as Rows, grammar}
@@ -26,9 +27,9 @@ use Rattle.link_capture_quirks.specs.declared.quirk_at.Quirk.TheVariants.{Nested
 use Rattle.link_capture_quirks.specs.declared.tables.Data.{Data}
 use Rattle.link_capture_quirks.specs.declared.tables.Data.TheVariants.{Vxlan, Geneve, Gre, Gre6, IpTunnel, BareUdp, Batadv, Netkit, Pair}
 use Rattle.link_capture_quirks.specs.declared.tables.Table.TheVariants.{Inet, Programs, Functions, OfKind}
-use Rattle.link_capture_quirks.specs.QuirkRows.{quirk_if, over_one_byte, over_one_u32, has_nul, is_long_alias, link_quirk, data_quirk, is_flag, is_strict, bit_quirk, payload_quirk, header_quirk}
+use Rattle.link_capture_quirks.specs.QuirkRows.{quirk_if, is_byte_over_one, is_u32_over_one, has_nul, is_long_alias, link_quirk, data_quirk, is_flag, is_strict, bit_quirk, payload_quirk, header_quirk}
 use Rattle.link_capture_walks.specs.Walks.{collected_inside}
-use Rattle.link_capture_quirks.specs.QuirkLists.{quirks_at, direct_quirks, inside_of, list_kind_after, list_quirks}
+use Rattle.link_capture_quirks.specs.QuirkLists.{quirks_at, direct_quirks, inside_of, rest_after, list_quirks}
 use Rattle.link_capture_quirks.specs.declared.tables.Table.{Table}
 use Rattle.link_capture_walks.specs.Listings.{whole}
 use Rattle.link_capture_quirks.specs.QuirkTables.{Listing, family_table, inside}
@@ -47,14 +48,14 @@ pub and-no : (b c : Bool) → (b ≡ true → c ≡ false) → (b && c) ≡ fals
 and-no true c f = f refl
 and-no false c f = refl
 
-pub byte-boolean : (p : List ℕ) → over_one_byte (map boolean_of p) ≡ false
+pub byte-boolean : (p : List ℕ) → is_byte_over_one (map boolean_of p) ≡ false
 byte-boolean [] = refl
 byte-boolean (zero ∷ []) = refl
 byte-boolean (suc b ∷ []) = refl
 byte-boolean (a ∷ b ∷ p) =
     let m : List ℕ = map boolean_of p in and-no (eqb (suc (suc (length m))) 1) _ (λ h. absurd (let n : suc (suc (length m)) ≡ 1 = eqb-true (suc (suc (length m))) 1 h in omega (arith, n)))
 
-pub byte-one : (p : List ℕ) → over_one_byte (map is_one p) ≡ false
+pub byte-one : (p : List ℕ) → is_byte_over_one (map is_one p) ≡ false
 byte-one [] = refl
 byte-one (zero ∷ []) = refl
 byte-one (suc zero ∷ []) = refl
@@ -82,9 +83,9 @@ ended-short p =
     get_or-append_right p (0 ∷ []) 254 0 (omega (arith, n)) ∙ ap (λ k. slice_index (0 ∷ []) (254 - k)) n in
     ap (λ k. not (eqb k 0)) last)
 
-pub word-boolean : (p : List ℕ) → over_one_u32 (number_boolean p) ≡ false
+pub word-boolean : (p : List ℕ) → is_u32_over_one (number_boolean p) ≡ false
 unfolding u32_at
-word-boolean p = elim (number p) as (λ n. over_one_u32 (boolean_of n ∷ 0 ∷ 0 ∷ 0 ∷ []) ≡ false) [ zero ↦ refl | suc n ↦ refl ]
+word-boolean p = elim (number p) as (λ n. is_u32_over_one (boolean_of n ∷ 0 ∷ 0 ∷ 0 ∷ []) ≡ false) [ zero ↦ refl | suc n ↦ refl ]
 
 -- ---- the nested bit of a kind that is written without it
 
@@ -143,14 +144,14 @@ data-payload : (p : RuleOfPeers) (d : Data) (t : Rows) (k : ℕ) (b : List ℕ) 
 data-payload p Vxlan t k b i =
     subst (λ t. NoQuirk (data_quirk Vxlan k ((table_row p t k).rule.canonical b))) (sym i)
     (split NoQuirk (is_flag Vxlan k) _ _ (λ e. either (eqb k 23) _ e (flag-at p vxlan b k 23 refl) (λ e. either (eqb k 24) _ e (flag-at p vxlan b k 24 refl) (flag-at p vxlan b k 27 refl)))
-    (split NoQuirk (eqb k 31 || eqb k 34) _ _ (λ e. either (eqb k 31) _ e (value-at over_one_byte BooleanOverOne p vxlan b k 31 (byte-boolean b)) (value-at over_one_byte BooleanOverOne p vxlan b k 34 (byte-boolean b))) refl))
+    (split NoQuirk (eqb k 31 || eqb k 34) _ _ (λ e. either (eqb k 31) _ e (value-at is_byte_over_one BooleanOverOne p vxlan b k 31 (byte-boolean b)) (value-at is_byte_over_one BooleanOverOne p vxlan b k 34 (byte-boolean b))) refl))
 data-payload p Geneve t k b i =
     subst (λ t. NoQuirk (data_quirk Geneve k ((table_row p t k).rule.canonical b))) (sym i)
     (split NoQuirk (is_flag Geneve k) _ _ (λ e. either (eqb k 6) _ e (flag-at p geneve b k 6 refl) (flag-at p geneve b k 14 refl)) refl)
 data-payload p Gre t k b i =
     subst (λ t. NoQuirk (data_quirk Gre k ((table_row p t k).rule.canonical b))) (sym i)
     (split NoQuirk (eqb k 18) _ _ (flag-at p gre b k 18 refl)
-    (split NoQuirk (eqb k 10) _ _ (value-at over_one_byte PathDiscoveryOverOne p gre b k 10 (byte-one b)) refl))
+    (split NoQuirk (eqb k 10) _ _ (value-at is_byte_over_one PathDiscoveryOverOne p gre b k 10 (byte-one b)) refl))
 data-payload p Gre6 t k b i =
     subst (λ t. NoQuirk (data_quirk Gre6 k ((table_row p t k).rule.canonical b))) (sym i) (split NoQuirk (eqb k 18) _ _ (flag-at p gre6 b k 18 refl) refl)
 data-payload p IpTunnel t k b i =
@@ -162,7 +163,7 @@ data-payload p Batadv t k b i =
     (split NoQuirk (eqb k 1) _ _ (value-at (λ x. not (has_nul x)) NameWithoutNul p batadv b k 1 (ended-nul (without_nul b))) refl)
 data-payload p Netkit t k b i =
     subst (λ t. NoQuirk (data_quirk Netkit k ((table_row p t k).rule.canonical b))) (sym i)
-    (split NoQuirk (eqb k 6 || eqb k 7) _ _ (λ e. either (eqb k 6) _ e (value-at over_one_u32 BooleanOverOne p netkit b k 6 (word-boolean b)) (value-at over_one_u32 BooleanOverOne p netkit b k 7 (word-boolean b))) refl)
+    (split NoQuirk (eqb k 6 || eqb k 7) _ _ (λ e. either (eqb k 6) _ e (value-at is_u32_over_one BooleanOverOne p netkit b k 6 (word-boolean b)) (value-at is_u32_over_one BooleanOverOne p netkit b k 7 (word-boolean b))) refl)
 data-payload p d t k b i = absurd i
 
 next : (P : ℕ → Type 0) (k n : ℕ) → n ≤ k → P n → (suc n ≤ k → P k) → P k
@@ -241,16 +242,16 @@ one-quirk : ListsUnfoldByAttributes → WrittenIsFirst → (offset : ℕ) (e : A
 unfolding list_text first_attribute
 one-quirk s w offset e direct =
     s.next Twin offset (list_text (e ∷ [])) e [] (w e [])
-    ∙ ap (λ z. z ++ (collected_inside list_quirks (offset + 4) (inside_of Twin e) e.payload ++ list_quirks (list_kind_after Twin e) (offset + nla_align (attribute_length e)) [])) (direct offset)
-    ∙ ap (λ o. collected_inside list_quirks (offset + 4) o e.payload ++ list_quirks (list_kind_after Twin e) (offset + nla_align (attribute_length e)) []) (pair-inside e)
-    ∙ s.none (list_kind_after Twin e) (offset + nla_align (attribute_length e)) [] refl
+    ∙ ap (λ z. z ++ (collected_inside list_quirks (offset + 4) (inside_of Twin e) e.payload ++ list_quirks (rest_after Twin e) (offset + nla_align (attribute_length e)) [])) (direct offset)
+    ∙ ap (λ o. collected_inside list_quirks (offset + 4) o e.payload ++ list_quirks (rest_after Twin e) (offset + nla_align (attribute_length e)) []) (pair-inside e)
+    ∙ s.none (rest_after Twin e) (offset + nla_align (attribute_length e)) [] refl
 
 pair-quirks : ListsUnfoldByAttributes → WrittenIsFirst → (p : RuleOfPeers) (offset : ℕ) (b : List ℕ) → (list_rule first_only (grammar p pair)).accepted b ≡ true → list_quirks Twin offset ((list_rule first_only (grammar p pair)).canonical b) ≡ []
 unfolding canonical_forms
 pair-quirks s w p offset b h =
     elim (first_attribute b) as (λ o.
-    if_read false (λ es. all_accepted (grammar p pair) no_kind_in_force (kept first_only es)) (option_map (λ (x : Attribute × List ℕ). x.0 ∷ []) o) ≡ true
-    → list_quirks Twin offset (if_read [] (λ es. list_text (canonical_forms (grammar p pair) no_kind_in_force (kept first_only es))) (option_map (λ (x : Attribute × List ℕ). x.0 ∷ []) o)) ≡ []) [
+    option_map_or (λ es. all_accepted (grammar p pair) no_kind_in_force (kept first_only es)) (option_map (λ (x : Attribute × List ℕ). x.0 ∷ []) o) false ≡ true
+    → list_quirks Twin offset (option_map_or (λ es. list_text (canonical_forms (grammar p pair) no_kind_in_force (kept first_only es))) (option_map (λ (x : Attribute × List ℕ). x.0 ∷ []) o) []) ≡ []) [
       | None ↦ λ h. absurd (false≢true h)
       | Some x ↦ λ h. let r = row_of (grammar p pair) no_kind_in_force x.0 in one-quirk s w offset (canonical_form r x.0) (λ q. pair-direct p q x.0 r)
     ] h

@@ -7,8 +7,8 @@ use Rattle.link_capture_walks.specs.Listings.{listing}
 use Rattle.link_capture_quirks.specs.QuirkTables.{depth}
 use Rattle.link_capture_quirks.specs.QuirkRows.{bit_quirk, payload_quirk}
 use Rattle.link_capture_walks.specs.Walks.{collected_inside}
-use Rattle.link_capture_quirks.specs.QuirkLists.{quirks_at, direct_quirks, inside_of, list_kind_after, list_quirks}
-use Rattle.link_capture_quirks.specs.QuirkWalks.{optional_quirk, level_quirks, levels_quirks, walk_quirks, IsWithin, AreWithin, weight}
+use Rattle.link_capture_quirks.specs.QuirkLists.{quirks_at, direct_quirks, inside_of, rest_after, list_quirks}
+use Rattle.link_capture_quirks.specs.QuirkWalks.{optional_quirk, level_quirks, levels_quirks, walk_quirks, FitsInside, AreWithin, weight}
 use Rattle.link_capture_quirks.specs.QuirkLaws.{ListsUnfoldByAttributes}
 use Rattle.link_capture_quirks.proofs.Stacks.{quirks-push, weight-push, within-push, within-leading, within-last}
 
@@ -20,7 +20,7 @@ pub record Next (l m : Level) (e : Attribute) : Type 0 where
   pub first : first_attribute l.rest.now ≡ Some (e, m.rest.now)
   pub within : 4 + length e.payload ≤ length l.rest.now
   pub left : length m.rest.now ≡ length l.rest.now - nla_align (4 + length e.payload)
-  pub list : listing m.list ≡ list_kind_after (listing l.list) e
+  pub list : listing m.list ≡ rest_after (listing l.list) e
   pub deep : depth (listing m.list) ≡ depth (listing l.list)
   pub offset : m.offset ≡ l.offset + nla_align (attribute_length e)
 
@@ -38,7 +38,7 @@ pub record Found (l : Level) (e : Attribute) (first second : Option QuirkAt) : T
   pub payload : optional_quirk second ≡ quirks_at l.offset (payload_quirk l.list.table (proper_kind e.kind) e.payload)
 
 module _ (ls : List Level) (l m : Level) (e : Attribute) (h : AreWithin 0 (ls ++ l ∷ [])) (n : Next l m e) where
-  last : IsWithin (0 + length ls) l
+  last : FitsInside (0 + length ls) l
   last = within-last 0 ls l h
 
   fits : l.offset + length l.rest.now < 2 ^ 63
@@ -62,14 +62,14 @@ module _ (s : ListsUnfoldByAttributes) (ls : List Level) (l m : Level) (e : Attr
   unfolding direct_quirks
   direct = ap (λ z. z ++ quirks_at l.offset (payload_quirk l.list.table (proper_kind e.kind) e.payload)) (sym f.bit) ∙ ap (λ z. optional_quirk first ++ z) (sym f.payload)
 
-  following : level_quirks m ≡ list_quirks (list_kind_after (listing l.list) e) (l.offset + nla_align (attribute_length e)) m.rest.now
-  following = ap (λ z. list_quirks z m.offset m.rest.now) n.list ∙ ap (λ z. list_quirks (list_kind_after (listing l.list) e) z m.rest.now) n.offset
+  following : level_quirks m ≡ list_quirks (rest_after (listing l.list) e) (l.offset + nla_align (attribute_length e)) m.rest.now
+  following = ap (λ z. list_quirks z m.offset m.rest.now) n.list ∙ ap (λ z. list_quirks (rest_after (listing l.list) e) z m.rest.now) n.offset
 
   whole : levels_quirks (ls ++ l ∷ []) ≡ ((optional_quirk first ++ optional_quirk second) ++ (collected_inside list_quirks (l.offset + 4) (inside_of (listing l.list) e) e.payload ++ level_quirks m)) ++ levels_quirks ls
   whole =
       quirks-push ls l
       ∙ ap (λ z. z ++ levels_quirks ls) (s.next (listing l.list) l.offset l.rest.now e m.rest.now n.first)
-      ∙ ap (λ z. (z ++ (collected_inside list_quirks (l.offset + 4) (inside_of (listing l.list) e) e.payload ++ list_quirks (list_kind_after (listing l.list) e) (l.offset + nla_align (attribute_length e)) m.rest.now)) ++ levels_quirks ls) direct
+      ∙ ap (λ z. (z ++ (collected_inside list_quirks (l.offset + 4) (inside_of (listing l.list) e) e.payload ++ list_quirks (rest_after (listing l.list) e) (l.offset + nla_align (attribute_length e)) m.rest.now)) ++ levels_quirks ls) direct
       ∙ ap (λ z. ((optional_quirk first ++ optional_quirk second) ++ (collected_inside list_quirks (l.offset + 4) (inside_of (listing l.list) e) e.payload ++ z)) ++ levels_quirks ls) (sym following)
 
   pub quirks-next : inside_of (listing l.list) e ≡ None → walk_quirks first second (ls ++ m ∷ []) ≡ levels_quirks (ls ++ l ∷ [])

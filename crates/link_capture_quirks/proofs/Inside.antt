@@ -14,7 +14,7 @@ use Rattle.link_capture_quirks.specs.QuirkRows.{nested_bit_quirk, payload_quirk}
 use Rattle.link_capture_walks.specs.Listings.{whole}
 use Rattle.link_capture_quirks.specs.QuirkTables.{Listing, family_table, inside, inside_table, at_payload_start, has_peer}
 use Rattle.link_capture_walks.specs.Walks.{OfLists, collected, collected_inside, collected_next, collected_within}
-use Rattle.link_capture_quirks.specs.QuirkLists.{quirks_at, direct_quirks, inside_of, list_kind_after, list_quirks, quirk_walk}
+use Rattle.link_capture_quirks.specs.QuirkLists.{quirks_at, direct_quirks, inside_of, rest_after, list_quirks, quirk_walk}
 use Rattle.link_capture_quirks.proofs.Lists.{HasNone, NoneInside}
 
 -- ---- choices
@@ -71,13 +71,13 @@ no-quirks-direct t offset e d =
     ∙ ap (quirks_at offset) (d.payload (proper_kind e.kind) e.payload)
 
 -- if no attribute has a list inside, and the list kind stays the same
-module _ (l : Listing) (d : HasNoQuirks l.table) (inner : (e : Attribute) → inside_of l e ≡ None) (same : (e : Attribute) → list_kind_after l e ≡ l) where
+module _ (l : Listing) (d : HasNoQuirks l.table) (inner : (e : Attribute) → inside_of l e ≡ None) (same : (e : Attribute) → rest_after l e ≡ l) where
   next-none : (list : OfLists Listing (List QuirkAt)) → ((offset : ℕ) (b : List ℕ) → list l offset b ≡ []) → (offset : ℕ) (o : Option (Attribute × List ℕ)) → collected_next quirk_walk list l offset o ≡ []
   next-none list h offset None = refl
   next-none list h offset (Some x) =
       let following = offset + nla_align (attribute_length x.0) in
-      ap (λ z. z ++ (collected_inside list (offset + 4) (inside_of l x.0) x.0.payload ++ list (list_kind_after l x.0) following x.1)) (no-quirks-direct l.table offset x.0 d)
-      ∙ ap (λ o. collected_inside list (offset + 4) o x.0.payload ++ list (list_kind_after l x.0) following x.1) (inner x.0)
+      ap (λ z. z ++ (collected_inside list (offset + 4) (inside_of l x.0) x.0.payload ++ list (rest_after l x.0) following x.1)) (no-quirks-direct l.table offset x.0 d)
+      ∙ ap (λ o. collected_inside list (offset + 4) o x.0.payload ++ list (rest_after l x.0) following x.1) (inner x.0)
       ∙ ap (λ m. list m following x.1) (same x.0)
       ∙ h following x.1
 

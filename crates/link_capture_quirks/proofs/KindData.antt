@@ -2,11 +2,12 @@
 use Rattle.std.proofs.Common.{◌≡◌, ℕ, ◌+◌, Bool, true, false, cond, eqb, leb, List, [], ◌∷◌, ◌++◌, length, Option, Some, None, refl, sym, ap, subst, ◌∙◌}
 use Rattle.std.specs.Prelude.{◌&&◌, ◌||◌, slice_index, option_map}
 use Rattle.std.proofs.lemmas.Bool.{false≢true, and_parts}
+use Rattle.std.specs.Option.{option_map_or}
 use Rattle.netlink_packet_core_grammar.specs.Attributes.{Attribute, proper_kind, nla_align, attribute_length, attribute_text, list_text, first_attribute}
 use Rattle.netlink_packet_core_grammar.proofs.Attributes.{first_attribute_text}
 use Rattle.attribute_tables_grammar.specs.Shapes.{exact}
 use Rattle.attribute_tables_grammar.specs.Rules.{Rule}
-use Rattle.attribute_tables_grammar.specs.Lists.{no_kind_in_force, Row, Grammar, row_of, all_accepted, canonical_form, canonical_forms, without_context, ListForm, first_only, kept, if_read}
+use Rattle.attribute_tables_grammar.specs.Lists.{no_kind_in_force, Row, Grammar, row_of, all_accepted, canonical_form, canonical_forms, without_context, ListForm, first_only, kept}
 use Rattle.attribute_tables_grammar.specs.LookUps.{table_list_rule, table_row, rows_rule, payload_at, rule_or_raw}
 use Rattle.attribute_tables_grammar.specs.Peers.{RuleOfPeers}
 use Rattle.attribute_tables_grammar.specs.Tables.{Table as Rows, Names, rule_of_name, row_in_force}
@@ -29,7 +30,7 @@ use Rattle.link_capture_quirks.specs.declared.tables.Table.TheVariants.{OfKind}
 use Rattle.link_capture_walks.specs.Listings.{whole}
 use Rattle.link_capture_quirks.specs.QuirkTables.{Listing, data_of, data_in, data_list, held_list, at_payload_start, family_table, inside, next_data, has_peer}
 use Rattle.link_capture_walks.specs.Walks.{collected_inside}
-use Rattle.link_capture_quirks.specs.QuirkLists.{inside_of, list_kind_after, list_quirks}
+use Rattle.link_capture_quirks.specs.QuirkLists.{inside_of, rest_after, list_quirks}
 use Rattle.link_capture_quirks.specs.QuirkLaws.{ListsUnfoldByAttributes, IsDataTable, WrittenAttributesHaveNone}
 use Rattle.link_capture_quirks.proofs.Lists.{HasNone, NoneInside, rows-none}
 use Rattle.link_capture_quirks.proofs.Inside.{at_kind, either, split, nothing-inside, without-peer, whole-list, written-inside, HasNoQuirks, no-quirks-direct, none-at-all}
@@ -112,13 +113,13 @@ module _ (s : ListsUnfoldByAttributes) (w : WrittenAttributesHaveNone) (p : Rule
       let x = canonical_form r e in
       let following = offset + nla_align (attribute_length x) in
       s.next l offset (attribute_text x ++ []) x [] (first_attribute_text x [])
-      ∙ ap (λ z. z ++ (collected_inside list_quirks (offset + 4) (inside_of l x) x.payload ++ list_quirks (list_kind_after l x) following [])) (no-quirks-direct l.table offset x (record { bit = λ k. refl; payload = λ k q. refl }))
-      ∙ ap (λ z. z ++ list_quirks (list_kind_after l x) following []) (written-peer Pair pair pair-peers e a (offset + 4))
-      ∙ s.none (list_kind_after l x) following [] refl
+      ∙ ap (λ z. z ++ (collected_inside list_quirks (offset + 4) (inside_of l x) x.payload ++ list_quirks (rest_after l x) following [])) (no-quirks-direct l.table offset x (record { bit = λ k. refl; payload = λ k q. refl }))
+      ∙ ap (λ z. z ++ list_quirks (rest_after l x) following []) (written-peer Pair pair pair-peers e a (offset + 4))
+      ∙ s.none (rest_after l x) following [] refl
 
   pair-by : (offset : ℕ) (o : Option (Attribute × List ℕ)) →
-      if_read false (λ es. all_accepted pair-rows no_kind_in_force (kept first_only es)) (option_map (λ (x : Attribute × List ℕ). x.0 ∷ []) o) ≡ true →
-      list_quirks (of_kind j Pair) offset (if_read [] (λ es. list_text (canonical_forms pair-rows no_kind_in_force (kept first_only es))) (option_map (λ (x : Attribute × List ℕ). x.0 ∷ []) o)) ≡ []
+      option_map_or (λ es. all_accepted pair-rows no_kind_in_force (kept first_only es)) (option_map (λ (x : Attribute × List ℕ). x.0 ∷ []) o) false ≡ true →
+      list_quirks (of_kind j Pair) offset (option_map_or (λ es. list_text (canonical_forms pair-rows no_kind_in_force (kept first_only es))) (option_map (λ (x : Attribute × List ℕ). x.0 ∷ []) o) []) ≡ []
   unfolding canonical_forms all_accepted
   pair-by offset None h = absurd (false≢true h)
   pair-by offset (Some x) h = first-only-none offset x.0 (and_parts ((row_of pair-rows no_kind_in_force x.0).rule.accepted x.0.payload) true h).0

@@ -13,7 +13,7 @@ use Rattle.attribute_tables_grammar.proofs.LookUps.{list-rows}
 use Rattle.attribute_tables_grammar.proofs.Lists.{accepted_list}
 use Rattle.link_capture_quirks.specs.QuirkTables.{Listing}
 use Rattle.link_capture_walks.specs.Walks.{collected_inside}
-use Rattle.link_capture_quirks.specs.QuirkLists.{direct_quirks, inside_of, list_kind_after, list_quirks}
+use Rattle.link_capture_quirks.specs.QuirkLists.{direct_quirks, inside_of, rest_after, list_quirks}
 use Rattle.link_capture_quirks.specs.QuirkLaws.{ListsUnfoldByAttributes}
 
 -- what a list's rule writes has no quirk as a list of this kind
@@ -29,7 +29,7 @@ NoneInside o q = (offset : ℕ) → collected_inside list_quirks offset o q ≡ 
 pub record WritesNoQuirks (g : Grammar) (form : ListForm) (listed : Context → Listing) : Type 0 where
   pub direct : (c : Context) (e : Attribute) (offset : ℕ) → is_kept form e ≡ true → (row_of g c e).rule.accepted e.payload ≡ true → direct_quirks (listed c).table offset (canonical_form (row_of g c e) e) ≡ []
   pub inner : (c : Context) (e : Attribute) → (row_of g c e).rule.accepted e.payload ≡ true → NoneInside (inside_of (listed c) (canonical_form (row_of g c e) e)) ((row_of g c e).rule.canonical e.payload)
-  pub following : (c : Context) (e : Attribute) → list_kind_after (listed c) (canonical_form (row_of g c e) e) ≡ listed (g.next c e)
+  pub following : (c : Context) (e : Attribute) → rest_after (listed c) (canonical_form (row_of g c e) e) ≡ listed (g.next c e)
 
 abbrev AllKept : ListForm → List Attribute → Type 0
 AllKept form [] = Unit {0}
@@ -64,8 +64,8 @@ module _ (s : ListsUnfoldByAttributes) where
         let following = offset + nla_align (attribute_length x) in
         let h = and_parts (r.rule.accepted e.payload) _ a in
         s.next (listed c) offset (attribute_text x ++ rest) x rest (first_attribute_text x rest)
-        ∙ ap (λ z. z ++ (collected_inside list_quirks (offset + 4) (inside_of (listed c) x) x.payload ++ list_quirks (list_kind_after (listed c) x) following rest)) (q.direct c e offset k.0 h.0)
-        ∙ ap (λ z. z ++ list_quirks (list_kind_after (listed c) x) following rest) (q.inner c e h.0 (offset + 4))
+        ∙ ap (λ z. z ++ (collected_inside list_quirks (offset + 4) (inside_of (listed c) x) x.payload ++ list_quirks (rest_after (listed c) x) following rest)) (q.direct c e offset k.0 h.0)
+        ∙ ap (λ z. z ++ list_quirks (rest_after (listed c) x) following rest) (q.inner c e h.0 (offset + 4))
         ∙ ap (λ l. list_quirks l following rest) (q.following c e)
         ∙ text-none (g.next c e) following es k.1 h.1
 

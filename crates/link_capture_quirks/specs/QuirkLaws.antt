@@ -48,7 +48,7 @@ link_list bridge = Bridge
 link_list inet_6 = Link
 link_list other = Link
 
--- The table with the rows of each kind of data in which quirks occur.
+-- The table with the rows of a kind of data in which quirks occur, except for those of a pair.
 abbrev pub IsDataTable : Data → Rows → Type 0
 IsDataTable Vxlan t = t ≡ vxlan
 IsDataTable Geneve t = t ≡ geneve

@@ -9,7 +9,7 @@ use Rattle.link_capture_quirks.specs.declared.tables.Table.{Table}
 use Rattle.link_capture_quirks.specs.QuirkTables.{Listing, inside, next_list}
 use Rattle.link_capture_quirks.specs.QuirkRows.{bit_quirk, payload_quirk}
 
--- The quirk at an offset, if there is one.
+-- A quirk, if there is one, with this offset.
 abbrev pub quirks_at : ℕ → Option Quirk → List QuirkAt
 quirks_at offset None = []
 quirks_at offset (Some s) = record { quirk = s; offset = offset } ∷ []
@@ -23,9 +23,9 @@ direct_quirks t offset e =
 abbrev pub inside_of : Listing → Attribute → Option (Listing × ℕ)
 inside_of l e = inside l (proper_kind e.kind) e.payload
 
--- The list kind of the attributes that follow an attribute.
-abbrev pub list_kind_after : Listing → Attribute → Listing
-list_kind_after l e = next_list l (proper_kind e.kind) e.payload
+-- The rest of a list after an attribute, whose kind may have flag bits.
+abbrev pub rest_after : Listing → Attribute → Listing
+rest_after l e = next_list l (proper_kind e.kind) e.payload
 
 -- The walk through the attributes of a list and those inside them.
 abbrev pub quirk_walk : Walk Listing QuirkAt
@@ -33,7 +33,7 @@ quirk_walk =
     record {
       direct = λ l offset e. direct_quirks l.table offset e;
       inside = inside_of;
-      after = list_kind_after;
+      after = rest_after;
       rest = λ l bytes. bytes;
     }
 

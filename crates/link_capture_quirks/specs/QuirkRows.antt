@@ -25,12 +25,12 @@ quirk_if holds s = cond holds (Some s) None
 -- ---- payloads
 
 -- One byte over 1.
-abbrev pub over_one_byte : List ℕ → Bool
-over_one_byte p = (length p == 1) && nat_lt 1 (slice_index p 0)
+abbrev pub is_byte_over_one : List ℕ → Bool
+is_byte_over_one p = (length p == 1) && nat_lt 1 (slice_index p 0)
 
 -- A number of 4 bytes over 1.
-abbrev pub over_one_u32 : List ℕ → Bool
-over_one_u32 p = (length p == 4) && nat_lt 1 (u32_at 0 p)
+abbrev pub is_u32_over_one : List ℕ → Bool
+is_u32_over_one p = (length p == 4) && nat_lt 1 (u32_at 0 p)
 
 -- The payload has a NUL.
 abbrev pub has_nul : List ℕ → Bool
@@ -61,12 +61,12 @@ is_flag BareUdp k = k == 4
 is_flag _ k = false
 
 -- The quirk of a payload of another kind: IFLA_VXLAN_LOCALBYPASS and _MC_ROUTE, IFLA_GRE_PMTUDISC,
--- IFLA_BATADV_ALGO_NAME, IFLA_NETKIT_SCRUB and _PEER_SCRUB, the peer of a pair.
+-- IFLA_BATADV_ALGO_NAME, IFLA_NETKIT_SCRUB and _PEER_SCRUB, and a peer after the first attribute of a pair.
 abbrev pub value_quirk : Data → ℕ → List ℕ → Option Quirk
-value_quirk Vxlan k p = cond ((k == 31) || (k == 34)) (quirk_if (over_one_byte p) BooleanOverOne) None
-value_quirk Gre k p = cond (k == 10) (quirk_if (over_one_byte p) PathDiscoveryOverOne) None
+value_quirk Vxlan k p = cond ((k == 31) || (k == 34)) (quirk_if (is_byte_over_one p) BooleanOverOne) None
+value_quirk Gre k p = cond (k == 10) (quirk_if (is_byte_over_one p) PathDiscoveryOverOne) None
 value_quirk Batadv k p = cond (k == 1) (quirk_if (not (has_nul p)) NameWithoutNul) None
-value_quirk Netkit k p = cond ((k == 6) || (k == 7)) (quirk_if (over_one_u32 p) BooleanOverOne) None
+value_quirk Netkit k p = cond ((k == 6) || (k == 7)) (quirk_if (is_u32_over_one p) BooleanOverOne) None
 value_quirk AfterFirst k p = quirk_if (k == 1) TrailingPeer
 value_quirk _ k p = None
 
@@ -86,7 +86,8 @@ payload_quirk _ k p = None
 
 -- ---- the nested bit
 
--- The kinds that are checked strictly and aren't nested.
+-- The kinds on which kernels refuse the nested bit: IFLA_VXLAN_LOCALBYPASS, _LABEL_POLICY, _RESERVED_BITS and _MC_ROUTE,
+-- and IFLA_GENEVE_INNER_PROTO_INHERIT.
 abbrev pub is_strict : Data → ℕ → Bool
 is_strict Vxlan k = nat_le 31 k && nat_le k 34
 is_strict Geneve k = k == 14
@@ -100,7 +101,7 @@ nested_bit_quirk Programs k = quirk_if (k == 8) StrayNestedBit
 nested_bit_quirk (OfKind d) k = quirk_if (is_strict d k) StrayNestedBit
 nested_bit_quirk _ k = None
 
--- The quirk of the flag bits of a kind.
+-- The quirk of a kind whose nested bit is set.
 abbrev pub bit_quirk : Table → ℕ → Option Quirk
 bit_quirk t k = cond (nat_le 0x8000 k) (nested_bit_quirk t (proper_kind k)) None
 

@@ -29,7 +29,8 @@ data_of t =
     (cond (t == IP4_TUNNEL.0 || t == IP6_TUNNEL.0) IpTunnel
     (cond (t == BAREUDP.0) BareUdp (cond (t == BATADV.0) Batadv (cond (t == NETKIT.0) Netkit Other)))))))
 
--- The data with a payload of the shared tables. Those of which only the first attribute is kept are a pair: a peer.
+-- The data with a payload of the shared tables. Of lists of which only the first attribute is kept, those of `veth` and
+-- `vxcan` are a pair: a peer.
 abbrev pub data_in : Held → Data
 data_in (HeldList FirstOnly t) = cond (t.0 == VETH.0 || t.0 == VXCAN.0) Pair Other
 data_in (HeldList form t) = data_of t.0
@@ -132,6 +133,6 @@ table_depth Info = 1
 table_depth Families = 1
 table_depth _ = 0
 
--- How many levels of lists a list may have inside; a judged peer adds three.
+-- A bound on the levels of lists inside a list: three more if peers are judged.
 abbrev pub depth : Listing → ℕ
 depth l = cond l.judged 3 0 + table_depth l.table

@@ -29,16 +29,15 @@ optional_quirk (Some x) = x ∷ []
 abbrev pub walk_quirks : Option QuirkAt → Option QuirkAt → List Level → List QuirkAt
 walk_quirks first second levels = optional_quirk first ++ (optional_quirk second ++ levels_quirks levels)
 
--- The list l may be the n-th of nested lists: there is space for those inside it, and its offsets fit the machine's
--- integers.
-pub record IsWithin (n : ℕ) (l : Level) : Type 0 where
+-- With n lists around it, the list l leaves space for those inside it, and its offsets fit the machine's integers.
+pub record FitsInside (n : ℕ) (l : Level) : Type 0 where
   pub depth_fits : n + depth (listing l.list) ≤ 5
   pub near : 0 < length l.rest.now → l.offset + length l.rest.now < 2 ^ 63
 
--- Each of these nested lists, of which the first is the n-th, is within these bounds.
+-- Each of these nested lists, of which the first has n lists around it, fits (`FitsInside`).
 abbrev pub AreWithin : ℕ → List Level → Type 0
 AreWithin n [] = Unit {0}
-AreWithin n (l ∷ ls) = IsWithin n l × AreWithin (suc n) ls
+AreWithin n (l ∷ ls) = FitsInside n l × AreWithin (suc n) ls
 
 -- The measure of a walk: its remaining bytes and lists.
 abbrev pub weight : List Level → ℕ
@@ -55,9 +54,9 @@ rest_quirks limit c offset = quirks_from limit offset (drop offset c)
 abbrev pub rest_fault : ℕ → List ℕ → ℕ → Option CaptureFault
 rest_fault limit c offset = shifted offset (first_fault link_body limit (drop offset c))
 
--- A step of a walk: the quirks `from` of the frames begun so far, which end at the offset `start`, become `to` and
--- `offset`, and the step yields the next quirk, the first fault, or None. The fault is that of the frame at `start`; no
--- quirk follows it.
+-- A step of a walk: `from` are the quirks left of the frames begun so far, which end at the offset `start`; they become
+-- `to` and `offset`. The step yields the next quirk, or the first fault from `start` on if no quirk is left before it, or
+-- None. No quirk follows a fault.
 abbrev pub IsStep : ℕ → List ℕ → List QuirkAt → ℕ → List QuirkAt → ℕ → Option (Result QuirkAt CaptureFault) → Type 0
 IsStep limit c from start to offset None = (from ++ rest_quirks limit c start ≡ []) ×
     (rest_fault limit c start ≡ None) × (to ++ rest_quirks limit c offset ≡ []) × (rest_fault limit c offset ≡ None)

@@ -3,7 +3,7 @@
 
 ghost use Rattle.std.specs.Prelude.{◌≡◌, ◌≤◌, length};
 ghost use Rattle.netlink_packet_core_grammar.specs.Attributes.{proper_kind};
-ghost use Rattle.link_capture_quirks.specs.QuirkRows.{quirk_if, over_one_byte, over_one_u32, has_nul, is_long_alias};
+ghost use Rattle.link_capture_quirks.specs.QuirkRows.{quirk_if, is_byte_over_one, is_u32_over_one, has_nul, is_long_alias};
 ghost use Rattle.link_capture_quirks.specs.QuirkRows.{link_quirk, is_flag, value_quirk, data_quirk};
 ghost use Rattle.link_capture_quirks.specs.QuirkRows.{payload_quirk, is_strict, nested_bit_quirk};
 ghost use Rattle.link_capture_quirks.specs.QuirkRows.{bit_quirk, header_quirk};
@@ -22,15 +22,15 @@ fn quirk_if(holds: bool, quirk: Quirk) -> Option<Quirk>
 }
 
 /// Returns whether a payload is one byte over 1.
-fn over_one_byte(payload: &[u8]) -> bool
-    ensures { result ≡ over_one_byte payload.now }
+fn is_byte_over_one(payload: &[u8]) -> bool
+    ensures { result ≡ is_byte_over_one payload.now }
 {
     payload.len() == 1 && payload[0] > 1
 }
 
 /// Returns whether a payload is a little-endian number of 4 bytes over 1.
-fn over_one_u32(payload: &[u8]) -> bool
-    ensures { result ≡ over_one_u32 payload.now }
+fn is_u32_over_one(payload: &[u8]) -> bool
+    ensures { result ≡ is_u32_over_one payload.now }
 {
     payload.len() == 4 && read_u32(payload, 0) > 1
 }
@@ -84,13 +84,13 @@ fn value_quirk(kind_data: Data, kind: u16, payload: &[u8]) -> Option<Quirk>
 {
     match kind_data {
         Data::Vxlan if matches!(kind, 31 | 34) => quirk_if(
-            over_one_byte(payload),
+            is_byte_over_one(payload),
             Quirk::BooleanOverOne,
         ),
-        Data::Gre if kind == 10 => quirk_if(over_one_byte(payload), Quirk::PathDiscoveryOverOne),
+        Data::Gre if kind == 10 => quirk_if(is_byte_over_one(payload), Quirk::PathDiscoveryOverOne),
         Data::Batadv if kind == 1 => quirk_if(!has_nul(payload), Quirk::NameWithoutNul),
         Data::Netkit if matches!(kind, 6 | 7) => quirk_if(
-            over_one_u32(payload),
+            is_u32_over_one(payload),
             Quirk::BooleanOverOne,
         ),
         Data::AfterFirst => quirk_if(kind == 1, Quirk::TrailingPeer),

@@ -8,7 +8,7 @@ use Rattle.link_capture_grammar.specs.declared.fault.FaultKind.{FaultKind}
 use Rattle.link_capture_grammar.specs.declared.fault.FaultKind.TheVariants.{Cut, Memory, Read, Write, TooLong, Failed}
 use Rattle.link_capture_grammar.specs.Captures.{first_frame, first_fault, texts}
 use Rattle.link_capture_grammar.specs.Laws.{CapturesUnfoldByFrames, FaultsAreAtFrames, FramesAreIndependent, PrefixTexts}
-use Rattle.link_capture_reader.specs.Readers.{CanKeep, ReaderState, IsConsistentWith, IsPendingAfter, Gains, FeedFault}
+use Rattle.link_capture_reader.specs.Readers.{IsReservedIfCut, ReaderState, IsConsistentWith, IsPendingAfter, Gains, FeedFault}
 use Rattle.link_capture_reader.specs.Outcomes.{HasNoFaultButCut, IsNormalizeFault}
 use Rattle.link_capture_reader.specs.Devices.{IsPrefix, counted, is_end}
 use Rattle.link_capture_reader.proofs.Passing.{before_fault, cut_header, texts_nil}
@@ -97,7 +97,7 @@ abbrev pub FeedOk : ReaderState → ReaderState → List ℕ → List ℕ → Li
 FeedOk reader then p old out = (s : List ℕ) → IsConsistentWith reader s → (length s + length p < 2 ^ 64) × IsConsistentWith then (s ++ p) × Gains reader.limit s (s ++ p) old out
 
 abbrev pub FeedErr : ReaderState → List ℕ → List ℕ → List ℕ → CaptureFault → Type 0
-FeedErr reader p old out fault = (s : List ℕ) → IsConsistentWith reader s → FeedFault (CanKeep reader.kept reader.capacity (length p)) reader.limit s p old out fault.kind fault.offset
+FeedErr reader p old out fault = (s : List ℕ) → IsConsistentWith reader s → FeedFault (IsReservedIfCut reader.kept reader.capacity (length p)) reader.limit s p old out fault.kind fault.offset
 
 pub fed_prefix : PrefixTexts link_body → (limit : ℕ) (reader then : ReaderState) (s p old out : List ℕ) (r : Result (Unit {0}) CaptureFault) → reader.limit ≡ limit → old ≡ [] → IsConsistentWith reader s → OnOk r (FeedOk reader then p old out) → IfErr r (FeedErr reader p old out) → IsPrefix (texts link_body limit s ++ out) (texts link_body limit (s ++ p))
 fed_prefix stay limit reader then s p old out (Ok x) l e h a b =
@@ -105,8 +105,8 @@ fed_prefix stay limit reader then s p old out (Ok x) l e h a b =
     (prefix_is reader.limit s (s ++ p) out (texts link_body reader.limit (s ++ p)) (subst (λ o. Gains reader.limit s (s ++ p) o out) e (a s h).2) (whole_is reader.limit (s ++ p)))
 fed_prefix stay limit reader then s p old out (Err fault) l e h a b =
     subst (λ n. IsPrefix (texts link_body n s ++ out) (texts link_body n (s ++ p))) l
-    (fed_prefix_at stay (CanKeep reader.kept reader.capacity (length p)) reader.limit s p out fault.kind fault.offset
-    (subst (λ o. FeedFault (CanKeep reader.kept reader.capacity (length p)) reader.limit s p o out fault.kind fault.offset) e (b s h)))
+    (fed_prefix_at stay (IsReservedIfCut reader.kept reader.capacity (length p)) reader.limit s p out fault.kind fault.offset
+    (subst (λ o. FeedFault (IsReservedIfCut reader.kept reader.capacity (length p)) reader.limit s p o out fault.kind fault.offset) e (b s h)))
 
 -- a prefix of what `feed` appended
 pub part_prefix : (a out whole : List ℕ) (n : ℕ) → IsPrefix (a ++ out) whole → IsPrefix (a ++ take n out) whole
@@ -140,12 +140,12 @@ fed_fault E R W K limit s p out Failed at k z o h = absurd h
 fed_fault E R W K limit s p out kind at k z o h = (h.1, all_is limit s (s ++ p) out h.2)
 
 -- memory was reserved for each piece of at most that many bytes
-pub kept_less : (kept : List ℕ) (capacity m n : ℕ) → m ≤ n → CanKeep kept capacity n → CanKeep kept capacity m
+pub kept_less : (kept : List ℕ) (capacity m n : ℕ) → m ≤ n → IsReservedIfCut kept capacity n → IsReservedIfCut kept capacity m
 kept_less kept capacity m n l h = elim h [ inl a ↦ inl a | inr a ↦ inr (omega (arith, a, l)) ]
 
-pub fed_outcome : (E R W : Type 0) (limit : ℕ) (reader : ReaderState) (s p old out : List ℕ) (fault : CaptureFault) → reader.limit ≡ limit → old ≡ [] → length p ≤ 65536 → CanKeep reader.kept reader.capacity 65536 → IsConsistentWith reader s → FeedErr reader p old out fault → IsNormalizeFault E R W limit (s ++ p) (texts link_body limit s ++ out) fault.kind fault.offset
+pub fed_outcome : (E R W : Type 0) (limit : ℕ) (reader : ReaderState) (s p old out : List ℕ) (fault : CaptureFault) → reader.limit ≡ limit → old ≡ [] → length p ≤ 65536 → IsReservedIfCut reader.kept reader.capacity 65536 → IsConsistentWith reader s → FeedErr reader p old out fault → IsNormalizeFault E R W limit (s ++ p) (texts link_body limit s ++ out) fault.kind fault.offset
 fed_outcome E R W limit reader s p old out fault l e z k h b =
-    let K = CanKeep reader.kept reader.capacity (length p) in
+    let K = IsReservedIfCut reader.kept reader.capacity (length p) in
     subst (λ n. IsNormalizeFault E R W n (s ++ p) (texts link_body n s ++ out) fault.kind fault.offset) l
     (fed_fault E R W K reader.limit s p out fault.kind fault.offset (kept_less reader.kept reader.capacity (length p) 65536 z k) z (open_from _ s reader.kept reader.owed h.rest)
     (subst (λ o. FeedFault K reader.limit s p o out fault.kind fault.offset) e (b s h)))

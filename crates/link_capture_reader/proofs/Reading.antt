@@ -10,7 +10,7 @@ use Rattle.link_capture_grammar.specs.declared.fault.FaultKind.TheVariants.{Cut,
 use Rattle.link_capture_grammar.specs.Captures.{first_frame, first_fault, texts, shifted, reach, reach_by, ReachesFrameAt, IsOfFrames}
 use Rattle.link_capture_grammar.specs.Laws.{FramesAreIndependent, CapturesUnfoldByFrames, FaultsAreAtFrames}
 use Rattle.link_capture_reader.proofs.Passing.{fault_nil, texts_nil, left_fault, left_stop_texts, then_resumes, then_stop, resume_passed, resume_texts}
-use Rattle.link_capture_reader.specs.Readers.{CanKeep, IsAcceptedOrCut, IsReader, IsConsistentWith, IsPendingAfter, Gains, FeedFault}
+use Rattle.link_capture_reader.specs.Readers.{IsReservedIfCut, IsAcceptedOrCut, IsReader, IsConsistentWith, IsPendingAfter, Gains, FeedFault}
 use Rattle.link_capture_reader.specs.Walks.{ReadsTo, OtherFaultIsFirst, MemoryFaultIsAtFrame, IsLegalUpTo}
 
 -- an empty string has no frame
@@ -125,7 +125,7 @@ is_memory Memory = inl refl
 is_memory kind = inr (λ e. cc)
 
 -- memory that was reserved for a piece is reserved for the bytes after its padding
-pub runs_out_of_fewer : (kept : List ℕ) (capacity limit start : ℕ) (p : List ℕ) (owed : ℕ) (old new : List ℕ) (fault : CaptureFault) → MemoryFaultIsAtFrame (CanKeep kept capacity (length (drop owed p))) limit start (kept ++ drop owed p) old new fault → MemoryFaultIsAtFrame (CanKeep kept capacity (length p)) limit start (kept ++ drop owed p) old new fault
+pub runs_out_of_fewer : (kept : List ℕ) (capacity limit start : ℕ) (p : List ℕ) (owed : ℕ) (old new : List ℕ) (fault : CaptureFault) → MemoryFaultIsAtFrame (IsReservedIfCut kept capacity (length (drop owed p))) limit start (kept ++ drop owed p) old new fault → MemoryFaultIsAtFrame (IsReservedIfCut kept capacity (length p)) limit start (kept ++ drop owed p) old new fault
 runs_out_of_fewer kept capacity limit start p owed old new fault h = λ m.
     let q = h m in
     let fewer : length (drop owed p) ≤ length p = omega (arith, length-drop owed p) in

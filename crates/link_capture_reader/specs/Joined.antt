@@ -6,4 +6,5 @@ use Rattle.link_capture_grammar.specs.Body.{link_body}
 -- For every b, the capture a followed by b is legal if and only if b is, and its texts are those of both joined.
 abbrev pub LeavesRestIndependent : ℕ → List ℕ → Type 0
 LeavesRestIndependent limit a = (b : List ℕ) →
-    (IsLegal link_body limit (a ++ b) ↔ IsLegal link_body limit b) × (texts link_body limit (a ++ b) ≡ texts link_body limit a ++ texts link_body limit b)
+    (IsLegal link_body limit (a ++ b) ↔ IsLegal link_body limit b) ×
+    (texts link_body limit (a ++ b) ≡ texts link_body limit a ++ texts link_body limit b)

@@ -41,8 +41,8 @@ unfailed limit accepted kept capacity owed =
     record { limit = limit; accepted = accepted; kept = kept; capacity = capacity; owed = owed; failed = None }
 
 -- No bytes are kept; or the capacity holds the bytes of the cut frame and `size` more.
-abbrev pub CanKeep : List ℕ → ℕ → ℕ → Type 0
-CanKeep kept capacity size = (kept ≡ []) ⊎ (length kept + size ≤ capacity)
+abbrev pub IsReservedIfCut : List ℕ → ℕ → ℕ → Type 0
+IsReservedIfCut kept capacity size = (kept ≡ []) ⊎ (length kept + size ≤ capacity)
 
 -- The first frame of c is accepted, or it is cut.
 abbrev pub IsAcceptedOrCut : ℕ → List ℕ → Type 0

@@ -5,7 +5,7 @@ ghost use Rattle.std.specs.Prelude.{IfErr, OnOk, OnErr, Err, ⊤};
 ghost use Rattle.netlink_packet_core.specs.Attributes.{nla_align};
 ghost use Rattle.netlink_packet_core.specs.Frames.{frame_length};
 ghost use Rattle.link_capture_grammar.specs.Captures.{first_frame, first_fault, HeaderIsAllowed, IsOfFrames};
-ghost use Rattle.link_capture_reader.specs.Readers.{CanKeep, IsReader, IsPendingAfter, Gains, FeedFault, MemoryFaultIsJustified, unfailed};
+ghost use Rattle.link_capture_reader.specs.Readers.{IsReservedIfCut, IsReader, IsPendingAfter, Gains, FeedFault, MemoryFaultIsJustified, unfailed};
 ghost use Rattle.link_capture_reader.specs.Walks.{ReadsTo, OtherFaultIsFirst, MemoryFaultIsAtFrame};
 ghost use Rattle.link_capture_grammar.specs.Body.{link_body};
 
@@ -147,7 +147,7 @@ impl Pending {
             × Gains self.old.limit s (s ++ piece.now) out.old.items out.new.items) }
         ensures fault { IfErr result (λ fault. (s : List ℕ) → self.old.accepted ≡ length s
             → IsPendingAfter (first_fault link_body self.old.limit s) s self.old.kept.items self.old.owed
-            → FeedFault (CanKeep self.old.kept.items (vec_capacity self.old.kept) (length piece.now))
+            → FeedFault (IsReservedIfCut self.old.kept.items (vec_capacity self.old.kept) (length piece.now))
             self.old.limit s piece.now out.old.items out.new.items fault.kind fault.offset) }
         ensures capacity { IfErr result (λ fault. self.old.kept.items ≡ [] → self.old.owed ≡ 0
             → MemoryFaultIsJustified self.old.limit self.old.accepted piece.now fault out.old) }
@@ -200,7 +200,7 @@ impl Pending {
         ensures fault { IfErr result (λ fault. OtherFaultIsFirst self.old.limit start
             (self.old.kept.items ++ bytes.now) out.old.items out.new.items fault) }
         ensures memory { IfErr result (λ fault. MemoryFaultIsAtFrame
-            (CanKeep self.old.kept.items (vec_capacity self.old.kept) (length bytes.now)) self.old.limit start
+            (IsReservedIfCut self.old.kept.items (vec_capacity self.old.kept) (length bytes.now)) self.old.limit start
             (self.old.kept.items ++ bytes.now) out.old.items out.new.items fault) }
         ensures capacity { IfErr result (λ fault. self.old.kept.items ≡ []
             → MemoryFaultIsJustified self.old.limit start bytes.now fault out.old) }

@@ -3,7 +3,8 @@
 ghost use Rattle.std.specs.Prelude.{◌≡◌, ◌≢◌, ◌+◌, ◌^◌, ◌<◌, ◌≤◌, ◌++◌, ℕ, List, [], length, vec_capacity};
 ghost use Rattle.std.specs.Prelude.{OnOk, OnErr, IfErr, IfSome, None, Some, Err};
 ghost use Rattle.link_capture_grammar.specs.Captures.{first_fault};
-ghost use Rattle.link_capture_reader.specs.Readers.{ReaderState, CanKeep, IsReader, IsConsistentWith, Gains, FeedFault, MemoryFaultIsJustified};
+ghost use Rattle.link_capture_reader.specs.Readers.{ReaderState, IsReservedIfCut, IsReader, IsConsistentWith, Gains, FeedFault};
+ghost use Rattle.link_capture_reader.specs.Readers.{MemoryFaultIsJustified};
 ghost use Rattle.link_capture_grammar.specs.Body.{link_body};
 
 use super::pieces::Pending;
@@ -84,7 +85,7 @@ impl CaptureReader {
     /// `Memory`, at the offset of the cut frame, if an allocation fails. The reader may be used
     /// again.
     pub fn reserve(&mut self, size: usize) -> Result<(), CaptureFault>
-        ensures ok { OnOk result (CanKeep self.new.kept self.new.capacity size) }
+        ensures ok { OnOk result (IsReservedIfCut self.new.kept self.new.capacity size) }
         ensures kind { IfErr result (λ fault. fault.kind ≡ FaultKind.Memory) }
         // An allocation fails only if a frame is cut, and the fault is at it.
         ensures offset { IfErr result (λ fault. (s : List ℕ) → IsConsistentWith self.old s
@@ -117,7 +118,7 @@ impl CaptureReader {
         // The fault is that of the capture with the piece, and the texts before it are in `out`. If
         // memory was reserved, it runs out only at a frame that is accepted or cut.
         ensures fault { IfErr result (λ fault. (s : List ℕ) → IsConsistentWith self.old s
-            → FeedFault (CanKeep self.old.kept self.old.capacity (length piece.now)) self.old.limit
+            → FeedFault (IsReservedIfCut self.old.kept self.old.capacity (length piece.now)) self.old.limit
             s piece.now out.old.items out.new.items fault.kind fault.offset) }
         // If no bytes were kept and no padding is owed, an allocation fails only for a text for
         // which `out` lacked capacity, or for the bytes of a cut frame.

@@ -12,23 +12,23 @@ use Rattle.link_capture_refusals.specs.declared.reason.Reason.TheVariants.{Wrong
 use Rattle.link_capture_refusals.specs.declared.reason.Reason.TheVariants.{CutCode}
 
 -- A number in decimal between two texts.
-abbrev pub counted : List ℕ → ℕ → List ℕ → List ℕ
-counted before n following = before ++ (decimal n ++ following)
+abbrev pub number_between : List ℕ → ℕ → List ℕ → List ℕ
+number_between before n following = before ++ (decimal n ++ following)
 
 -- The text of each reason.
 abbrev pub words : Reason → List ℕ
-words (PayloadSize n) = counted (codes "a payload of ") n (codes " bytes")
+words (PayloadSize n) = number_between (codes "a payload of ") n (codes " bytes")
 words NotUtf8 = codes "a text that isn't UTF-8"
 words EmptyList = codes "an empty list"
 words NoKind = codes "no IFLA_INFO_KIND is in force"
 words NoPortKind = codes "no IFLA_INFO_SLAVE_KIND is in force"
 words NoPayload = codes "no payload is accepted under this kind of link"
-words (CutHeader n) = counted (codes "no attribute: ") n (codes " bytes are left")
-words (WrongLength n l) = counted (codes "no attribute: ") n (codes " bytes are left, and its length is ") ++ decimal l
-words (CutLink n) = counted (codes "a header of ") n (codes " bytes")
+words (CutHeader n) = number_between (codes "no attribute: ") n (codes " bytes are left")
+words (WrongLength n l) = number_between (codes "no attribute: ") n (codes " bytes are left, and its length is ") ++ decimal l
+words (CutLink n) = number_between (codes "a header of ") n (codes " bytes")
 words EmptyPorts = codes "ports of which nothing is kept"
 words Unfit = codes "an attribute of the text is over 65535 bytes"
-words (CutCode n) = counted (codes "a body of ") n (codes " bytes")
+words (CutCode n) = number_between (codes "a body of ") n (codes " bytes")
 
 -- The reason why data are refused while a kind isn't in force.
 abbrev pub missing_reason : MissingKind → Reason

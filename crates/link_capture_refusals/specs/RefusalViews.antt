@@ -8,5 +8,5 @@ abbrev pub found : Refusal → Found
 found r = record { path = map (λ n. n.now) r.path.items; offset = r.offset; reason = r.reason }
 
 -- The value of an optional refusal in code.
-abbrev pub all_found : Option Refusal → Option Found
-all_found o = option_map found o
+abbrev pub optional_found : Option Refusal → Option Found
+optional_found o = option_map found o

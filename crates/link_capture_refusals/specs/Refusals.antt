@@ -63,7 +63,8 @@ abbrev pub whole_refusal : ListRefusal → Listing → ℕ → List ℕ → Opti
 whole_refusal list l attribute_offset [] = empty_refusal l.table.form attribute_offset
 whole_refusal list l attribute_offset (b ∷ p) = list l (attribute_offset + 4) (b ∷ p)
 
--- The refusal of a link's body at `offset`: of its header, or of one of its attributes.
+-- The refusal of a link's body at `offset`: of its header, reported at `attribute_offset` (that of the peer's attribute,
+-- or `offset` itself for a message), or of one of its attributes.
 abbrev pub link_refusal : ListRefusal → Bool → ℕ → ℕ → List ℕ → Option Found
 link_refusal list judged attribute_offset offset b =
     cond (nat_lt (length b) 16) (Some (found_at attribute_offset (R.CutLink (length b))))
@@ -104,7 +105,7 @@ next_refusal list l offset bytes (Some x) =
 
 -- ---- lists, in at most n steps
 
--- The refusal of the first n attributes of a list.
+-- The refusal of a list, if it is found in fewer than n steps; a step goes past an attribute, or into it.
 unfoldable pub refusal_within : ℕ → ListRefusal
 refusal_within zero l offset bytes = None
 refusal_within (suc n) l offset [] = None

@@ -3,7 +3,7 @@
 ghost use Rattle.std.specs.Prelude.{◌≡◌, ◌<◌, ◌+◌, ◌^◌, length};
 ghost use Rattle.netlink_packet_core.specs.Frames.{BeginsWithFrame};
 ghost use Rattle.link_capture_refusals.specs.Refusals.{frame_refusal, refusal};
-ghost use Rattle.link_capture_refusals.specs.RefusalViews.{all_found};
+ghost use Rattle.link_capture_refusals.specs.RefusalViews.{optional_found};
 
 use crate::laws::refused_frames_are_whole;
 use crate::reason::Reason;
@@ -24,7 +24,7 @@ use netlink_packet_core::{NETLINK_HEADER_LEN, NetlinkBuffer};
 pub fn why_frame(frame: &[u8], offset: u64) -> Option<Refusal>
     requires frame { BeginsWithFrame frame.now }
     requires near { offset + length frame.now < 2 ^ 63 }
-    ensures { all_found result ≡ frame_refusal offset frame.now }
+    ensures { optional_found result ≡ frame_refusal offset frame.now }
 {
     let body = frame_body(frame);
     let start = offset + NETLINK_HEADER_LEN as u64;
@@ -43,7 +43,7 @@ pub fn why_frame(frame: &[u8], offset: u64) -> Option<Refusal>
 /// if the capture is legal or its first fault is another one. `limit` is the greatest length in
 /// bytes of a frame and of its text. Allocates nothing.
 pub fn why(bytes: &[u8], limit: u32) -> Option<Refusal>
-    ensures { all_found result ≡ refusal limit bytes.now }
+    ensures { optional_found result ≡ refusal limit bytes.now }
 {
     faults_are_at_frames();
     refused_frames_are_whole();

@@ -1,7 +1,7 @@
 //! Why something is refused.
 
 ghost use Rattle.std.specs.Prelude.{◌≡◌, ◌+◌, ◌≤◌, Some, length};
-ghost use Rattle.link_capture_refusals.specs.ReasonTexts.{counted, missing_reason, words, shape_reason};
+ghost use Rattle.link_capture_refusals.specs.ReasonTexts.{number_between, missing_reason, words, shape_reason};
 
 use arrayvec::ArrayString;
 use itoa::Buffer;
@@ -73,9 +73,9 @@ fn plain(text: &str) -> ArrayString<160>
 }
 
 /// Returns a number in decimal between two texts.
-fn counted(before: &str, count: usize, following: &str) -> ArrayString<160>
+fn number_between(before: &str, count: usize, following: &str) -> ArrayString<160>
     requires { length before.now + length following.now ≤ 64 }
-    ensures text { result.bytes ≡ counted before.now count following.now }
+    ensures text { result.bytes ≡ number_between before.now count following.now }
     ensures short { length result.bytes ≤ 104 }
 {
     let mut digits = Buffer::new();
@@ -91,7 +91,7 @@ fn wrong_length(left: usize, length: u16) -> ArrayString<160>
     ensures { result.bytes ≡ words (Reason.WrongLength left length) }
 {
     let mut digits = Buffer::new();
-    let mut words = counted(
+    let mut words = number_between(
         "no attribute: ",
         left,
         " bytes are left, and its length is ",
@@ -106,18 +106,18 @@ impl Reason {
         ensures { result.bytes ≡ words self }
     {
         match self {
-            Reason::PayloadSize(size) => counted("a payload of ", size, " bytes"),
+            Reason::PayloadSize(size) => number_between("a payload of ", size, " bytes"),
             Reason::NotUtf8 => plain("a text that isn't UTF-8"),
             Reason::EmptyList => plain("an empty list"),
             Reason::NoKind => plain("no IFLA_INFO_KIND is in force"),
             Reason::NoPortKind => plain("no IFLA_INFO_SLAVE_KIND is in force"),
             Reason::NoPayload => plain("no payload is accepted under this kind of link"),
-            Reason::CutHeader(left) => counted("no attribute: ", left, " bytes are left"),
+            Reason::CutHeader(left) => number_between("no attribute: ", left, " bytes are left"),
             Reason::WrongLength(left, length) => wrong_length(left, length),
-            Reason::CutLink(size) => counted("a header of ", size, " bytes"),
+            Reason::CutLink(size) => number_between("a header of ", size, " bytes"),
             Reason::EmptyPorts => plain("ports of which nothing is kept"),
             Reason::Unfit => plain("an attribute of the text is over 65535 bytes"),
-            Reason::CutCode(size) => counted("a body of ", size, " bytes"),
+            Reason::CutCode(size) => number_between("a body of ", size, " bytes"),
         }
     }
 }

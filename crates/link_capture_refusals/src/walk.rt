@@ -10,7 +10,7 @@ ghost use Rattle.link_capture_lists.specs.ListTables.{depth, inside_depth};
 ghost use Rattle.link_capture_lists.specs.RowRules.{inside_rule, peer_of};
 ghost use Rattle.link_capture_refusals.specs.Refusals.{attribute_refusal, found_at, inside_refusal, link_refusal};
 ghost use Rattle.link_capture_refusals.specs.Refusals.{list_refusal, no_attribute, peer_refusal, whole_refusal};
-ghost use Rattle.link_capture_refusals.specs.RefusalViews.{all_found};
+ghost use Rattle.link_capture_refusals.specs.RefusalViews.{optional_found};
 
 use crate::laws::{links_are_accepted, lists_are_accepted, lists_unfold_by_attributes};
 use crate::reason::{Reason, missing_reason, shape_reason};
@@ -38,7 +38,7 @@ fn no_attribute(bytes: &[u8]) -> Reason
 
 /// Returns the refusal of a value in the attribute at `attribute_offset`.
 fn value_refusal(shape: Shape, attribute_offset: u64, payload: &[u8]) -> Option<Refusal>
-    ensures found { all_found result ≡ cond (accepts (shape_of shape) payload.now) None
+    ensures found { optional_found result ≡ cond (accepts (shape_of shape) payload.now) None
         (Some (found_at attribute_offset (shape_reason shape (length payload.now)))) }
     ensures bare { IfSome result (λ r. length r.path.items ≡ 0) }
 {
@@ -58,7 +58,7 @@ pub(crate) fn link_refusal(
     body: &[u8],
 ) -> Option<Refusal>
     requires near { offset + length body.now < 2 ^ 63 }
-    ensures found { all_found result ≡ link_refusal list_refusal judged attribute_offset offset body.now }
+    ensures found { optional_found result ≡ link_refusal list_refusal judged attribute_offset offset body.now }
     ensures path_fits { IfSome result (λ r. length r.path.items ≤ cond judged 7 4) }
 {
     if body.len() < LINK_HEADER_LEN {
@@ -72,7 +72,7 @@ pub(crate) fn link_refusal(
 #[cycle(refusal)]
 fn peer_refusal(judged: bool, attribute_offset: u64, payload: &[u8]) -> Option<Refusal>
     requires near { attribute_offset + 4 + length payload.now < 2 ^ 63 }
-    ensures found { all_found result
+    ensures found { optional_found result
         ≡ cond ((peer_of judged).accepted payload.now) None (peer_refusal list_refusal attribute_offset payload.now) }
     ensures path_fits { IfSome result (λ r. length r.path.items ≤ cond judged 4 0) }
 {
@@ -99,7 +99,7 @@ fn whole_refusal(
     payload: &[u8],
 ) -> Option<Refusal>
     requires near { attribute_offset + 4 + length payload.now < 2 ^ 63 }
-    ensures found { all_found result
+    ensures found { optional_found result
         ≡ whole_refusal list_refusal (listing list.entry) attribute_offset payload.now }
     ensures path_fits { IfSome result
         (λ r. length r.path.items ≤ depth list.entry.judged list.entry.table.rows.0) }
@@ -123,7 +123,7 @@ fn inside_refusal(
     payload: &[u8],
 ) -> Option<Refusal>
     requires near { attribute_offset + 4 + length payload.now < 2 ^ 63 }
-    ensures found { all_found result ≡ cond ((inside_rule judged inside).accepted payload.now) None
+    ensures found { optional_found result ≡ cond ((inside_rule judged inside).accepted payload.now) None
         (inside_refusal list_refusal judged inside attribute_offset payload.now) }
     ensures path_fits { IfSome result (λ r. length r.path.items ≤ inside_depth judged inside) }
 {
@@ -148,7 +148,7 @@ fn attribute_refusal(
     attribute: Attribute<'_>,
 ) -> Option<Refusal>
     requires near { offset + 4 + length attribute.payload.now < 2 ^ 63 }
-    ensures found { all_found result ≡ attribute_refusal list_refusal (listing list.entry) offset
+    ensures found { optional_found result ≡ attribute_refusal list_refusal (listing list.entry) offset
         (attribute_of attribute.entry) }
     ensures path_fits { IfSome result
         (λ r. length r.path.items ≤ depth list.entry.judged list.entry.table.rows.0) }
@@ -170,7 +170,7 @@ fn attribute_refusal(
 #[cycle(refusal)]
 fn list_refusal(list: Listed<'_, ListTable>, offset: u64, bytes: &[u8]) -> Option<Refusal>
     requires near { offset + length bytes.now < 2 ^ 63 }
-    ensures found { all_found result ≡ list_refusal (listing list.entry) offset bytes.now }
+    ensures found { optional_found result ≡ list_refusal (listing list.entry) offset bytes.now }
     ensures path_fits { IfSome result
         (λ r. length r.path.items ≤ depth list.entry.judged list.entry.table.rows.0) }
 {

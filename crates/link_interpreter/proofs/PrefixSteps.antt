@@ -4,10 +4,11 @@ use Rattle.std.specs.Prelude.{◌&&◌, nat_le, option_map}
 use Rattle.std.proofs.lemmas.Bool.{and_parts, cond_both, false≢true}
 use Rattle.std.proofs.lemmas.List.{length-append, take-append-drop, take_at}
 use Rattle.std.proofs.lemmas.List.Prefix.{front_rest}
+use Rattle.std.specs.Option.{option_map_or}
 use Rattle.netlink_packet_core_grammar.specs.Attributes.{Attribute, attribute_text, list_text, first_attribute, attributes_of}
 use Rattle.netlink_packet_core_grammar.proofs.FirstAttribute.{attributes_step}
 use Rattle.attribute_tables_grammar.specs.Rules.{Rule}
-use Rattle.attribute_tables_grammar.specs.Lists.{Row, no_kind_in_force, without_context, row_at, canonical_form, canonical_kind, all_accepted, canonical_forms, all_fit, if_read, any, list_rule}
+use Rattle.attribute_tables_grammar.specs.Lists.{Row, no_kind_in_force, without_context, row_at, canonical_form, canonical_kind, all_accepted, canonical_forms, all_fit, any, list_rule}
 use Rattle.link_interpreter.specs.Prefixes.{IsCanonicalPrefix, RestIsIndependent}
 
 module _ (f : ℕ → Row) where
@@ -19,20 +20,20 @@ module _ (f : ℕ → Row) where
   following_by : (e : Attribute) (bytes after : List ℕ) (o : Option (List Attribute)) → attributes_of after ≡ o → attributes_of bytes ≡ option_map (λ es. e ∷ es) o
       → rule.accepted bytes ≡ true → rule.fits bytes ≡ true → RestIsIndependent rule bytes (attribute_text (canonical_form (row_at f e) e)) after
   unfolding all_accepted all_fit canonical_forms list_text
-  following_by e bytes after None a s x h = absurd (false≢true (sym (ap (if_read false (all_accepted (without_context f) no_kind_in_force)) s) ∙ x))
+  following_by e bytes after None a s x h = absurd (false≢true (sym (ap (λ o. option_map_or (all_accepted (without_context f) no_kind_in_force) o false) s) ∙ x))
   following_by e bytes after (Some es) a s x h =
       let g = without_context f in
       let r = row_at f e in
-      let y : all_accepted g no_kind_in_force (e ∷ es) ≡ true = sym (ap (if_read false (all_accepted g no_kind_in_force)) s) ∙ x in
-      let z : all_fit g no_kind_in_force (e ∷ es) ≡ true = sym (ap (if_read true (all_fit g no_kind_in_force)) s) ∙ h in
+      let y : all_accepted g no_kind_in_force (e ∷ es) ≡ true = sym (ap (λ o. option_map_or (all_accepted g no_kind_in_force) o false) s) ∙ x in
+      let z : all_fit g no_kind_in_force (e ∷ es) ≡ true = sym (ap (λ o. option_map_or (all_fit g no_kind_in_force) o true) s) ∙ h in
       let y' = and_parts (r.rule.accepted e.payload) (all_accepted g (g.next no_kind_in_force e) es) y in
       let z' = and_parts (nat_le (4 + length (r.rule.canonical e.payload)) 65535 && r.rule.fits e.payload) (all_fit g (g.next no_kind_in_force e) es) z in
       record {
-        accepted = ap (if_read false (all_accepted g no_kind_in_force)) a ∙ y'.1;
-        fits = ap (if_read true (all_fit g no_kind_in_force)) a ∙ z'.1;
+        accepted = ap (λ o. option_map_or (all_accepted g no_kind_in_force) o false) a ∙ y'.1;
+        fits = ap (λ o. option_map_or (all_fit g no_kind_in_force) o true) a ∙ z'.1;
         text =
-            ap (if_read [] (λ fs. list_text (canonical_forms g no_kind_in_force fs))) s
-            ∙ ap (λ z. attribute_text (canonical_form r e) ++ z) (sym (ap (if_read [] (λ fs. list_text (canonical_forms g no_kind_in_force fs))) a));
+            ap (λ o. option_map_or (λ fs. list_text (canonical_forms g no_kind_in_force fs)) o []) s
+            ∙ ap (λ z. attribute_text (canonical_form r e) ++ z) (sym (ap (λ o. option_map_or (λ fs. list_text (canonical_forms g no_kind_in_force fs)) o []) a));
       }
 
   following : (e : Attribute) (bytes after : List ℕ) → first_attribute bytes ≡ Some (e, after) → rule.accepted bytes ≡ true → rule.fits bytes ≡ true → RestIsIndependent rule bytes (attribute_text (canonical_form (row_at f e) e)) after

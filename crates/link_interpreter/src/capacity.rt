@@ -40,12 +40,11 @@ pub fn write_header(at: usize, kind: u16, size: usize, out: &mut Vec<u8>)
     out.as_mut_slice()[at..at + 4].copy_from_slice(&[a, b, c, d]);
 }
 
-/// Appends the padding after a payload of `size` bytes, as zeros.
+/// Appends the padding after `size` bytes, as zeros, up to a multiple of 4.
 #[inline(always)]
 pub fn append_padding(size: usize, out: &mut Vec<u8>)
-    requires size { 4 + size ≤ 65535 }
-    requires capacity { length out.old.items + (nla_align (4 + size) - (4 + size)) ≤ vec_capacity out.old }
-    ensures text { out.new.items ≡ out.old.items ++ zeros (nla_align (4 + size) - (4 + size)) }
+    requires { length out.old.items + (nla_align size - size) ≤ vec_capacity out.old }
+    ensures text { out.new.items ≡ out.old.items ++ zeros (nla_align size - size) }
     ensures capacity { vec_capacity out.old ≤ vec_capacity out.new }
 {
     match size % 4 {

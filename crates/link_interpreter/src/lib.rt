@@ -18,7 +18,7 @@ mod write;
 mod write_shapes;
 
 pub use attribute::{Attribute, KIND_BOUND, first_attribute};
-pub use capacity::{append, append_zeros};
+pub use capacity::{append, append_padding};
 pub use data::{accepts_data, accepts_port_data, data_error};
 pub use link_info::{
     ListMeasure, check_list, check_list_with, list_error_with, same_list, same_list_with,

@@ -84,7 +84,7 @@ pub fn write_attribute<P: WritePeer>(
     write_held(peers, held, payload, out);
     let size = out.len() - start - 4;
     write_header(start, kind, size, out);
-    append_padding(size, out);
+    append_padding(4 + size, out);
 }
 
 // Appends the canonical encoding of an accepted list of this kind under a table.

@@ -14,7 +14,7 @@ use Rattle.link_capture_grammar.specs.declared.fault.FaultKind.TheVariants.{Cut,
 use Rattle.link_capture_reader.specs.Outcomes.{HasNoFaultButCut}
 use Rattle.link_capture_reader.specs.Devices.{IsPrefix}
 use Rattle.link_capture_reader.proofs.Progress.{part_prefix}
-use Rattle.link_capture_refusals.specs.RefusalViews.{all_found}
+use Rattle.link_capture_refusals.specs.RefusalViews.{optional_found}
 use Rattle.link_lines.specs.MessageLaws.{FirstFaultsAreReported, MessagesUnfold}
 use Rattle.link_lines.specs.MessageLines.{Selection, lines_of_messages, shown}
 use Rattle.link_lines.specs.Messages.{Message, Report, first_report, frame_of, last_fault, messages, messages_at, report_of}
@@ -123,7 +123,7 @@ shown_frame o E R W limit s w kind at k f e l = (f, e, l)
 
 -- The report of a result in code.
 abbrev reported_by : ShowFault → Report
-reported_by e = (e.fault, all_found e.refusal)
+reported_by e = (e.fault, optional_found e.refusal)
 
 -- The first fault is reported.
 pub fault_shown : FirstFaultsAreReported → FaultsAreAtFrames link_body → (o : Selection) (E R W : Type 0) (limit : ℕ) (s w : List ℕ) (e : ShowFault) → first_report (messages o.keep_going limit s) ≡ Some (reported_by e) → IsReadThrough (last_fault (messages o.keep_going limit s)) E → w ≡ shown o limit s →

@@ -15,7 +15,7 @@ use Rattle.link_capture_grammar.specs.Bodies.{is_link_type}
 use Rattle.link_capture_grammar.specs.declared.fault.FaultKind.{FaultKind}
 use Rattle.link_capture_grammar.specs.declared.fault.FaultKind.TheVariants.{Refused}
 use Rattle.link_capture_lists.proofs.Lookups.{found}
-use Rattle.link_capture_refusals.specs.ReasonTexts.{counted, words}
+use Rattle.link_capture_refusals.specs.ReasonTexts.{number_between, words}
 use Rattle.link_capture_refusals.specs.Refusals.{Found, ListRefusal, attribute_refusal, code_refusal, empty_refusal, found_at, frame_refusal, inside_refusal, link_refusal, list_refusal, named, next_refusal, or_else, refusal_within, row_refusal, whole_refusal}
 use Rattle.link_capture_lists.specs.ListTables.{Listing, NamedRow, data_rows, find, info_inside, info_name, list_rest, message_rows, row_in, table_row, table_rows, whole}
 use Rattle.link_tables.specs.InForce.{held_in_force}
@@ -36,10 +36,10 @@ use Rattle.link_lines.specs.MessageLines.{body_reason, refusal_words}
 number_line : (n : ℕ) → IsLine (decimal n)
 number_line n = digits_line (decimal n) (high 10 n)
 
-counted_line : (before : List ℕ) (n : ℕ) (following : List ℕ) → is_line before ≡ true → IsLine following → IsLine (counted before n following)
+counted_line : (before : List ℕ) (n : ℕ) (following : List ℕ) → is_line before ≡ true → IsLine following → IsLine (number_between before n following)
 counted_line before n following h k = lines_joined before (decimal n ++ following) (is_line_checked before h) (lines_joined (decimal n) following (number_line n) k)
 
-bytes_counted : (before : List ℕ) (n : ℕ) (following : List ℕ) → is_line before ≡ true → is_line following ≡ true → IsLine (counted before n following)
+bytes_counted : (before : List ℕ) (n : ℕ) (following : List ℕ) → is_line before ≡ true → is_line following ≡ true → IsLine (number_between before n following)
 bytes_counted before n following h k = counted_line before n following h (is_line_checked following k)
 
 words_line : (r : Reason) → IsLine (words r)
@@ -47,7 +47,7 @@ words_line (R.PayloadSize n) = bytes_counted (codes "a payload of ") n (codes " 
 words_line (R.CutHeader n) = bytes_counted (codes "no attribute: ") n (codes " bytes are left") refl refl
 words_line (R.WrongLength n l) =
     let left = codes " bytes are left, and its length is " in
-    lines_joined (counted (codes "no attribute: ") n left) (decimal l) (bytes_counted (codes "no attribute: ") n left refl refl) (number_line l)
+    lines_joined (number_between (codes "no attribute: ") n left) (decimal l) (bytes_counted (codes "no attribute: ") n left refl refl) (number_line l)
 words_line (R.CutLink n) = bytes_counted (codes "a header of ") n (codes " bytes") refl refl
 words_line (R.CutCode n) = bytes_counted (codes "a body of ") n (codes " bytes") refl refl
 words_line r = is_line_checked (words r) refl

@@ -8,7 +8,7 @@ use Rattle.link_capture_grammar.specs.declared.fault.FaultKind.{FaultKind}
 use Rattle.link_capture_grammar.specs.declared.fault.FaultKind.TheVariants.{Memory}
 use Rattle.link_message_grammar.specs.Body.{link_body}
 use Rattle.link_capture_reader.specs.Readers.{IsFrameOffsetOf}
-use Rattle.link_capture_refusals.specs.RefusalViews.{all_found}
+use Rattle.link_capture_refusals.specs.RefusalViews.{optional_found}
 use Rattle.link_lines.specs.MessageLaws.{FirstFaultsAreReported, MessagesUnfold}
 use Rattle.link_lines.specs.MessageLines.{Selection, lines_of_messages, shown}
 use Rattle.link_lines.specs.Messages.{Message, Report, first_report, messages, messages_at}
@@ -89,14 +89,14 @@ module _ (law : FirstFaultsAreReported) (frames : FaultsAreAtFrames link_body) (
   legal_shown (Ok u) e = (nothing_reported law o.keep_going limit c e, lines)
   legal_shown (Err x) e = tt
 
-  first_of : (x : ShowFault) → first_report (messages o.keep_going limit c) ≡ reported_by (Err x) → (first_fault link_body limit c ≡ Some x.fault) × (all_found x.refusal ≡ reported_refusal c x.fault.kind x.fault.offset)
-  first_of x e = first_reported law o.keep_going limit c (x.fault, all_found x.refusal) e
+  first_of : (x : ShowFault) → first_report (messages o.keep_going limit c) ≡ reported_by (Err x) → (first_fault link_body limit c ≡ Some x.fault) × (optional_found x.refusal ≡ reported_refusal c x.fault.kind x.fault.offset)
+  first_of x e = first_reported law o.keep_going limit c (x.fault, optional_found x.refusal) e
 
   pub fault_shown : (r : Result (Unit {0}) ShowFault) → first_report (messages o.keep_going limit c) ≡ reported_by r → IfErr r (λ x. x.fault.kind ≢ Memory → (first_fault link_body limit c ≡ Some x.fault) × (new ≡ old ++ shown o limit c))
   fault_shown (Ok u) e = tt
   fault_shown (Err x) e = λ m. ((first_of x e).0, lines)
 
-  pub refusal_shown : (r : Result (Unit {0}) ShowFault) → first_report (messages o.keep_going limit c) ≡ reported_by r → IfErr r (λ x. all_found x.refusal ≡ reported_refusal c x.fault.kind x.fault.offset)
+  pub refusal_shown : (r : Result (Unit {0}) ShowFault) → first_report (messages o.keep_going limit c) ≡ reported_by r → IfErr r (λ x. optional_found x.refusal ≡ reported_refusal c x.fault.kind x.fault.offset)
   refusal_shown (Ok u) e = tt
   refusal_shown (Err x) e = (first_of x e).1
 

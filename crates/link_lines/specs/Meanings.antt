@@ -1,5 +1,5 @@
 -- The lines of a capture depend only on its meaning.
-use Rattle.std.specs.Prelude.{◌≡◌, ℕ, ◌<◌, ◌^◌, ◌%◌, List, ◌++◌, length, Vec}
+use Rattle.std.specs.Prelude.{◌≡◌, ℕ, ◌%◌, List, ◌++◌, length, Vec}
 use Rattle.link_capture_grammar.specs.Captures.{texts, IsLegal}
 use Rattle.link_capture_grammar.specs.Same.{SameCapture}
 use Rattle.link_lines_texts.specs.Captures.{Choice, lines}

@@ -9,7 +9,7 @@ use Rattle.link_capture_grammar.specs.Captures.{first_fault, first_frame, IsLega
 use Rattle.link_capture_reader.specs.Outcomes.{HasNoFaultButCut}
 use Rattle.link_capture_reader.specs.Devices.{IsPrefix, Rises, ReportsItsEnd}
 use Rattle.link_capture_reader.specs.States.{SinkState, SourceState}
-use Rattle.link_capture_refusals.specs.RefusalViews.{all_found}
+use Rattle.link_capture_refusals.specs.RefusalViews.{optional_found}
 use Rattle.link_lines.specs.MessageLines.{Selection, lines_of_messages, shown}
 use Rattle.link_lines.specs.Messages.{Message, is_of_body, last_fault, messages, messages_at}
 use Rattle.link_lines.specs.Refused.{reported_refusal}
@@ -89,7 +89,7 @@ IsShowResult o ended read_failed write_failed limit s w (Ok has_lines) =
     ended × IsLegal link_body limit s × (w ≡ shown o limit s) × (has_lines ≡ has_bytes w)
 IsShowResult o ended read_failed write_failed limit s w (Err e) =
     IsShowFault o ended read_failed write_failed limit s w e.fault.kind e.fault.offset ×
-    (all_found e.refusal ≡ reported_refusal s e.fault.kind e.fault.offset)
+    (optional_found e.refusal ≡ reported_refusal s e.fault.kind e.fault.offset)
 
 -- The source was in the state `source_before` and is in `source_after`; likewise the sink. The difference is what was read
 -- and what was written, for which the result holds.

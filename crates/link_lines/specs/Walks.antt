@@ -6,7 +6,7 @@ use Rattle.netlink_packet_core_grammar.specs.Frames.{BeginsWithFrame, frame_leng
 use Rattle.link_capture_grammar.specs.Captures.{first_frame}
 use Rattle.link_capture_grammar.specs.declared.fault.FaultKind.{FaultKind}
 use Rattle.link_capture_grammar.specs.declared.fault.FaultKind.TheVariants.{Cut}
-use Rattle.link_capture_refusals.specs.RefusalViews.{all_found}
+use Rattle.link_capture_refusals.specs.RefusalViews.{optional_found}
 use Rattle.link_lines.specs.declared.messages.Judgement.{Judgement}
 use Rattle.link_lines.specs.declared.messages.Judgement.TheVariants as J
 use Rattle.link_lines.specs.declared.messages.Step.{Step}
@@ -29,7 +29,7 @@ IsJudged limit c text (J.Invalid kind) = (first_frame link_body limit c ≡ Err 
 
 -- The report that a fault in code represents.
 abbrev pub report_in : Option ShowFault → Option Report
-report_in o = option_map (λ e. (e.fault, all_found e.refusal)) o
+report_in o = option_map (λ e. (e.fault, optional_found e.refusal)) o
 
 -- The first of two reports.
 abbrev pub or_else : Option Report → Option Report → Option Report
@@ -100,7 +100,7 @@ FinishedWith None [] offset written (Err e) = ⊥
 FinishedWith None (b ∷ rest) offset written (Ok has_lines) = ⊥
 FinishedWith None (b ∷ rest) offset written (Err e) = e ≡ without_refusal (record { kind = Cut; offset = offset })
 FinishedWith (Some report) rest offset written (Ok has_lines) = ⊥
-FinishedWith (Some report) rest offset written (Err e) = (e.fault, all_found e.refusal) ≡ report
+FinishedWith (Some report) rest offset written (Err e) = (e.fault, optional_found e.refusal) ≡ report
 
 -- The bytes of a cut message, continued by a piece; none if no message is cut.
 abbrev pub cut_with_piece : List ℕ → List ℕ → List ℕ

@@ -4,7 +4,7 @@ ghost use Rattle.std.specs.Prelude.{◌≡◌, ◌⊎◌, ◌<◌, ◌≤◌, �
 ghost use Rattle.netlink_packet_core_grammar.specs.Frames.{BeginsWithFrame};
 ghost use Rattle.link_capture_grammar.specs.declared.fault.FaultKind.{FaultKind};
 ghost use Rattle.link_capture_reader.specs.States.{source_state, sink_state};
-ghost use Rattle.link_capture_reader.specs.Readers.{CanKeep};
+ghost use Rattle.link_capture_reader.specs.Readers.{IsReservedIfCut};
 ghost use Rattle.link_lines.specs.Messages.{frame_of, report_of};
 ghost use Rattle.link_lines.specs.Options.{selection_of};
 ghost use Rattle.link_lines.specs.Outcomes.{Shows, ShowsKeeping};
@@ -31,7 +31,7 @@ pub(crate) fn fault_at(kind: FaultKind, offset: u64) -> ShowFault
 /// Reserves memory for a piece of this size after the bytes of a cut message, if there are any.
 fn reserve_piece(rest: &mut Vec<u8>, size: usize) -> Result<(), AllocError>
     ensures items { rest.new.items ≡ rest.old.items }
-    ensures ok { OnOk result (CanKeep rest.new.items (vec_capacity rest.new) size) }
+    ensures ok { OnOk result (IsReservedIfCut rest.new.items (vec_capacity rest.new) size) }
     ensures err { OnErr result (0 < length rest.old.items) }
 {
     if rest.is_empty() {
@@ -42,7 +42,7 @@ fn reserve_piece(rest: &mut Vec<u8>, size: usize) -> Result<(), AllocError>
 
 /// Continues a cut message by a piece for which memory was reserved.
 fn continue_message(rest: &mut Vec<u8>, piece: &[u8])
-    requires { CanKeep rest.old.items (vec_capacity rest.old) (length piece.now) }
+    requires { IsReservedIfCut rest.old.items (vec_capacity rest.old) (length piece.now) }
     ensures { rest.new.items ≡ cut_with_piece rest.old.items piece.now }
 {
     if !rest.is_empty() {

@@ -4,7 +4,7 @@ ghost use Rattle.std.specs.Prelude.{◌≡◌, map};
 ghost use Rattle.netlink_packet_core_grammar.specs.Frames.{BeginsWithFrame};
 ghost use Rattle.link_capture_grammar.specs.declared.fault.FaultKind.{FaultKind};
 ghost use Rattle.link_capture_refusals.specs.RefusalTexts.{path_text};
-ghost use Rattle.link_capture_refusals.specs.RefusalViews.{all_found};
+ghost use Rattle.link_capture_refusals.specs.RefusalViews.{optional_found};
 ghost use Rattle.link_lines_values.specs.Appends.{Appends};
 ghost use Rattle.link_lines_texts.specs.AppendsWith.{AppendsWith};
 ghost use Rattle.link_lines.specs.MessageLines.{body_reason, faulty_lines, refusal_line};
@@ -99,7 +99,7 @@ pub(crate) fn frame_of(bytes: &[u8]) -> &[u8]
 /// or more after the capture's start.
 fn refusal_of(offset: u64, bytes: &[u8]) -> Option<Refusal>
     requires { BeginsWithFrame bytes.now }
-    ensures { all_found result ≡ frame_reason FaultKind.Refused offset (frame_of bytes.now) }
+    ensures { optional_found result ≡ frame_reason FaultKind.Refused offset (frame_of bytes.now) }
 {
     let frame = frame_of(bytes);
     if offset >= (1 << 63) - frame.len() as u64 {
@@ -113,7 +113,7 @@ fn refusal_of(offset: u64, bytes: &[u8]) -> Option<Refusal>
 pub(crate) fn fault_of(kind: FaultKind, offset: u64, bytes: &[u8]) -> ShowFault
     requires { kind ≡ FaultKind.Refused → BeginsWithFrame bytes.now }
     ensures fault { result.fault ≡ record { kind = kind; offset = offset } }
-    ensures refusal { all_found result.refusal ≡ frame_reason kind offset (frame_of bytes.now) }
+    ensures refusal { optional_found result.refusal ≡ frame_reason kind offset (frame_of bytes.now) }
 {
     let refusal = match kind {
         FaultKind::Refused => refusal_of(offset, bytes),

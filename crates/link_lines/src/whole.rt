@@ -3,7 +3,7 @@
 ghost use Rattle.std.specs.Prelude.{◌≡◌, ◌≢◌, ◌≤◌, ◌+◌, ◌++◌, ℕ, List, length, drop, Some, IfErr, OnOk};
 ghost use Rattle.link_capture_grammar.specs.Captures.{first_fault, IsLegal};
 ghost use Rattle.link_capture_reader.specs.Readers.{IsFrameOffsetOf};
-ghost use Rattle.link_capture_refusals.specs.RefusalViews.{all_found};
+ghost use Rattle.link_capture_refusals.specs.RefusalViews.{optional_found};
 ghost use Rattle.link_lines.specs.Meanings.{GainsShown};
 ghost use Rattle.link_lines.specs.Options.{selection_of};
 ghost use Rattle.link_lines.specs.Outcomes.{RunsOutAt};
@@ -71,7 +71,7 @@ pub fn show_bytes(
         × GainsShown (selection_of options.now) limit bytes.now out.old out.new) }
     // The reason is that of the refused body, if the fault is one.
     ensures refusal { IfErr result
-        (λ e. all_found e.refusal ≡ reported_refusal bytes.now e.fault.kind e.fault.offset) }
+        (λ e. optional_found e.refusal ≡ reported_refusal bytes.now e.fault.kind e.fault.offset) }
     // A fault's offset is the start of a frame.
     ensures frame_start { IfErr result (λ e. IsFrameOffsetOf bytes.now e.fault.offset) }
     // An allocation fails only for a message that is shown, and the lines of those before it are

@@ -3,10 +3,11 @@ use Rattle.std.proofs.Common.{◌≡◌, ℕ, suc, ◌-◌, ◌%◌, ◌/◌, �
 use Rattle.std.specs.Prelude.{filter, option_map, ⊤}
 use Rattle.std.proofs.lemmas.Bool.{and_parts}
 use Rattle.std.proofs.lemmas.Option.{same_Some}
-use Rattle.netlink_packet_core_grammar.specs.Attributes.{Attribute, attribute_header, attribute_length, attribute_text, first_attribute, if_some, list_text, nla_align, zeros}
+use Rattle.std.specs.Option.{option_and_then, option_map_or}
+use Rattle.netlink_packet_core_grammar.specs.Attributes.{Attribute, attribute_header, attribute_length, attribute_text, first_attribute, list_text, nla_align, zeros}
 use Rattle.netlink_packet_core_grammar.specs.Bytes.{AreBytes}
 use Rattle.netlink_packet_core_grammar.proofs.Attributes.{attributes_of_text, first_attribute_text}
-use Rattle.attribute_tables_grammar.specs.Lists.{Context, Grammar, ListForm, Row, all_accepted, any, first_only, if_read, is_of_kind_one, kept, list_rule, non_empty, unless_empty, no_kind_in_force, of_kind_one, ports, read_as, canonical_form, canonical_forms, row_of, canonical_kind}
+use Rattle.attribute_tables_grammar.specs.Lists.{Context, Grammar, ListForm, Row, all_accepted, any, first_only, is_of_kind_one, kept, list_rule, non_empty, unless_empty, no_kind_in_force, of_kind_one, ports, read_as, canonical_form, canonical_forms, row_of, canonical_kind}
 use Rattle.link_lines_texts.specs.Determination.{IsCanonical}
 
 -- An attribute that its row accepts and leaves unchanged.
@@ -129,8 +130,8 @@ single g es gs w h =
 read_back : (form : ListForm) (g : Grammar) (es gs : List Attribute) → gs ≡ canonical_forms g no_kind_in_force (kept form es) → read_as form (list_text gs) ≡ Some es → gs ≡ es
 read_back any g es gs w h = same_Some gs es (sym (attributes_of_text gs) ∙ h)
 read_back of_kind_one g es gs w h = same_Some gs es (sym (attributes_of_text gs) ∙ h)
-read_back non_empty g es gs w h = filled gs es (ap (λ o. if_some o unless_empty) (sym (attributes_of_text gs)) ∙ h)
-read_back ports g es gs w h = filled gs es (ap (λ o. if_some o unless_empty) (sym (attributes_of_text gs)) ∙ h)
+read_back non_empty g es gs w h = filled gs es (ap (λ o. option_and_then unless_empty o) (sym (attributes_of_text gs)) ∙ h)
+read_back ports g es gs w h = filled gs es (ap (λ o. option_and_then unless_empty o) (sym (attributes_of_text gs)) ∙ h)
 read_back first_only g es gs w h = single g es gs w h
 
 -- Such a list kind keeps all of them.
@@ -142,7 +143,7 @@ nothing_dropped of_kind_one g es h = all_kept is_of_kind_one es (sym (rewritten_
 nothing_dropped ports g es h = all_kept is_of_kind_one es (sym (rewritten_length g no_kind_in_force (filter is_of_kind_one es)) ∙ ap length h)
 
 module _ (form : ListForm) (g : Grammar) (p : List ℕ) (bytes : AreBytes p) where
-  canonical_attribute_by : (o : Option (List Attribute)) → read_as form p ≡ o → if_read false (λ es. all_accepted g no_kind_in_force (kept form es)) o ≡ true → if_read [] (λ es. list_text (canonical_forms g no_kind_in_force (kept form es))) o ≡ p → CanonicalList g p
+  canonical_attribute_by : (o : Option (List Attribute)) → read_as form p ≡ o → option_map_or (λ es. all_accepted g no_kind_in_force (kept form es)) o false ≡ true → option_map_or (λ es. list_text (canonical_forms g no_kind_in_force (kept form es))) o [] ≡ p → CanonicalList g p
   canonical_attribute_by None r a c = absurd cc
   canonical_attribute_by (Some es) r a c =
       let gs = canonical_forms g no_kind_in_force (kept form es) in

@@ -1,7 +1,7 @@
 -- Lines determine frames, provided that they determine lists of attributes.
 use Rattle.std.proofs.Common.{◌≡◌, ℕ, suc, ◌≤◌, Bool, true, false, cond, List, [], ◌∷◌, ◌++◌, length, take, drop, get_or, Option, Some, None, Ok, Err, refl, sym, ap, subst, ◌∙◌, append_assoc, arith, inl, inr}
 use Rattle.std.specs.Prelude.{◌==◌, nat_le, codes}
-use Rattle.std.proofs.lemmas.Bool.{and_parts, cond_both, eqb-true, leb-true, ltb-false, le-leb, ne_eqb}
+use Rattle.std.proofs.lemmas.Bool.{and_parts, eqb-true, leb-true, ltb-false, le-leb, ne_eqb}
 use Rattle.std.proofs.lemmas.Bool.Decides.{eqb_tells}
 use Rattle.std.proofs.lemmas.List.{append_cancel_left, length-drop, length-take, take-take}
 use Rattle.netlink_packet_core_grammar.specs.Bytes.{AreBytes}
@@ -28,7 +28,7 @@ use Rattle.link_lines_texts.specs.declared.format.Scope.{Scope}
 use Rattle.link_lines_raw.specs.declared.bodies.TheConstants.{BODIES}
 use Rattle.link_lines_raw.specs.Acknowledgements.{acknowledgement_lines, is_acknowledgement}
 use Rattle.link_lines_raw.specs.Attributes.{record_words}
-use Rattle.link_lines_raw.specs.Bodies.{body_lines as raw_body_lines, first_fitting, header_line as body_header, record_and_list}
+use Rattle.link_lines_raw.specs.Bodies.{body_lines as raw_body_lines, first_fitting, header_line as body_header}
 use Rattle.link_lines_raw.specs.Lines.{IsShallow, Line, lines_text}
 use Rattle.link_lines_raw.proofs.AcknowledgementsDetermined.{acknowledgements_determined}
 use Rattle.link_lines_raw.proofs.BodiesDetermined.{bodies_determined as bodies_are_determined, row_holds}

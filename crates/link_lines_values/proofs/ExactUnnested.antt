@@ -14,7 +14,7 @@ use Rattle.attribute_tables_grammar.specs.Shapes.{number}
 use Rattle.link_lines_values.specs.declared.exact.ExactBy.TheVariants as E
 use Rattle.link_lines_values.specs.declared.values.ShownBy.TheVariants as V
 use Rattle.link_lines_values.specs.Bytes.{address_text, bytes_text, hardware_text, quoted}
-use Rattle.link_lines_values.specs.Digits.{big_endian, half_of, is_number, is_signed_size}
+use Rattle.link_lines_values.specs.Digits.{big_endian, is_number, is_signed_size}
 use Rattle.link_lines_values.specs.Exact.{Exact, bridge_id_text, determines_exact, exact_text, labels_text, numbers_text, raw_value, takes, via_text}
 use Rattle.link_lines_values.specs.Flags.{big_endian_flags, flags_text}
 use Rattle.link_lines_values.specs.Laws.{BeginsWithSpace}

@@ -22,7 +22,7 @@ use Rattle.link_lines_values.specs.Laws.{AllKnown, BeginsWithSpace, Ends, Fields
 use Rattle.link_lines_values.specs.Records.{Field, FieldShown, field_text, field_value, fields_determine, fields_text, has_no_booleans, has_size, is_hidden, is_no_boolean, is_padding, lacks, lacks_byte, names_apart, record_text, sizes_known, total_size, weight_text}
 use Rattle.link_lines_values.proofs.BytesDetermined.{colons_are_determined, escaped_determined}
 use Rattle.link_lines_values.proofs.GroupsDetermined.{group_determined, hex_and_rest, ipv6_and_rest}
-use Rattle.link_lines_values.proofs.NumbersDetermined.{Determines, Digits, Reads, bounded, bracket_ends, cut, decimal_determined, flags_of, flags_of_determined, four, high, high_glyph, highest_first, lowest_first, named_determined, nameless_determined, number_and_rest, number_determined, same_size, signed_and_rest, sized, space_ends, with_name}
+use Rattle.link_lines_values.proofs.NumbersDetermined.{Determines, Digits, Reads, bracket_ends, cut, decimal_determined, flags_of, flags_of_determined, four, high, high_glyph, highest_first, lowest_first, named_determined, nameless_determined, number_and_rest, number_determined, same_size, signed_and_rest, sized, space_ends, with_name}
 use Rattle.link_lines_values.proofs.OneLine.{fields_are_lines}
 use Rattle.link_lines_values.proofs.ValuesDetermined.{both_parts, boolean_determined}
 use Rattle.link_lines_values.proofs.Zeros.{all_zero, zero_number}

@@ -1,5 +1,5 @@
 -- Messages with equal texts are equal.
-use Rattle.std.specs.Prelude.{◌≡◌, Bool, true}
+use Rattle.std.specs.Prelude.{◌≡◌, true}
 use Rattle.link_message.specs.declared.message.LinkMessage.{LinkMessage}
 use Rattle.link_message.specs.LinkMessages.{link_message_text, link_message_names_row}
 use Rattle.link_message.specs.contracts.message.LinkMessagePartialEq.TheImpl as equality

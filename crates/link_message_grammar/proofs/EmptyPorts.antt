@@ -4,10 +4,11 @@ use Rattle.std.specs.Prelude.{◌==◌, ◌&&◌, ◌||◌, bytes_eq}
 use Rattle.std.specs.List.{list_any}
 use Rattle.std.proofs.lemmas.Bool.{cond_both, and_left, and_parts, or_from, eqb-true, eqb-false, ne_eqb}
 use Rattle.std.proofs.lemmas.Option.{none-some}
-use Rattle.netlink_packet_core_grammar.specs.Attributes.{Attribute, proper_kind, attribute_text, list_text, if_some, attributes_of}
+use Rattle.std.specs.Option.{option_and_then, option_map_or}
+use Rattle.netlink_packet_core_grammar.specs.Attributes.{Attribute, proper_kind, attribute_text, list_text, attributes_of}
 use Rattle.netlink_packet_core_grammar.proofs.Attributes.{option_map-got}
 use Rattle.attribute_tables_grammar.specs.Rules.{Rule}
-use Rattle.attribute_tables_grammar.specs.Lists.{Context, no_kind_in_force, Grammar, row_of, canonical_kind, canonical_form, canonical_forms, all_accepted, some_empty_ports, ListForm, any, ports, read_as, kept, is_empty_ports, if_read, list_rule, without_context}
+use Rattle.attribute_tables_grammar.specs.Lists.{Context, no_kind_in_force, Grammar, row_of, canonical_kind, canonical_form, canonical_forms, all_accepted, some_empty_ports, ListForm, any, ports, read_as, kept, is_empty_ports, list_rule, without_context}
 use Rattle.attribute_tables_grammar.specs.LookUps.{Line, table_list_rule, link_info_rule, payload_rule, line_at, row_of_line, rows_rule}
 use Rattle.attribute_tables_grammar.specs.Peers.{RuleOfPeers}
 use Rattle.attribute_tables_grammar.specs.Readings.{AttributeReading, attribute_readings, reading_as}
@@ -59,7 +60,7 @@ unfolding some_empty_ports
 some_full g rows c [] = refl
 some_full g rows c (e ∷ es) = or_from _ _ (rows c (proper_kind e.kind) e.payload) (some_full g rows (g.next c e) es)
 
-at_read : (f : List Attribute → Bool) → ((es : List Attribute) → f es ≡ false) → (o : Option (List Attribute)) → if_read false f o ≡ false
+at_read : (f : List Attribute → Bool) → ((es : List Attribute) → f es ≡ false) → (o : Option (List Attribute)) → option_map_or f o false ≡ false
 at_read f h None = refl
 at_read f h (Some es) = h es
 
@@ -172,9 +173,9 @@ module _ (p : RuleOfPeers) where
   kept_determined [] = refl
   kept_determined (k ∷ ks) = some_full inside ports_inside no_kind_in_force (k ∷ ks) ∙ sym (not_none (canonical_form (row_of inside no_kind_in_force k) k) (canonical_forms inside (inside.next no_kind_in_force k) ks))
 
-  at_ports : (o : Option (List Attribute)) → if_read false (λ es. all_accepted inside no_kind_in_force (kept ports es)) o ≡ true →
-      if_read false (λ es. is_empty_ports ports (kept ports es) || some_empty_ports inside no_kind_in_force (kept ports es)) o
-      ≡ (length (if_read [] (λ es. list_text (canonical_forms inside no_kind_in_force (kept ports es))) o) == 0)
+  at_ports : (o : Option (List Attribute)) → option_map_or (λ es. all_accepted inside no_kind_in_force (kept ports es)) o false ≡ true →
+      option_map_or (λ es. is_empty_ports ports (kept ports es) || some_empty_ports inside no_kind_in_force (kept ports es)) o false
+      ≡ (length (option_map_or (λ es. list_text (canonical_forms inside no_kind_in_force (kept ports es))) o []) == 0)
   at_ports None h = absurd cc
   at_ports (Some es) h = kept_determined (kept ports es)
 
@@ -217,8 +218,8 @@ module _ (p : RuleOfPeers) where
 
   -- ---- the attributes of a body
 
-  at_bytes : (f : Family) (o : Option (List Attribute)) (ws : List AttributeReading) → if_some o (λ es. attribute_readings (rows f) no_kind_in_force (kept any es)) ≡ Some ws →
-      if_read false (λ es. is_empty_ports any (kept any es) || some_empty_ports (rows f) no_kind_in_force (kept any es)) o ≡ list_any (λ w. is_emptied w.entry) ws
+  at_bytes : (f : Family) (o : Option (List Attribute)) (ws : List AttributeReading) → option_and_then (λ es. attribute_readings (rows f) no_kind_in_force (kept any es)) o ≡ Some ws →
+      option_map_or (λ es. is_empty_ports any (kept any es) || some_empty_ports (rows f) no_kind_in_force (kept any es)) o false ≡ list_any (λ w. is_emptied w.entry) ws
   at_bytes f None ws h = absurd (none-some ws h)
   at_bytes f (Some es) ws h = list_determined f no_kind_in_force es ws h
 

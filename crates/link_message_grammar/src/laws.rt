@@ -2,8 +2,8 @@
 #![tactic(auto, using(crate::proofs::Together::laws))]
 
 ghost use Rattle.link_message_grammar.specs.Laws.{AttributesAreLawful, KindsRise, BodiesAreLawful, BodiesAreSmall};
-ghost use Rattle.link_message_grammar.specs.Laws.{PeersThatAreBodiesAreLawful, CanonicalBodiesDetermineMeanings, BodiesKeepMeanings, OldBodiesAreMigrated};
-ghost use Rattle.link_message_grammar.specs.Laws.{BodiesAreHeadersAndAttributes, KindsAreLookedUp};
+ghost use Rattle.link_message_grammar.specs.Laws.{PeersThatAreBodiesAreLawful, CanonicalBodiesDetermineMeanings, BodiesKeepMeanings};
+ghost use Rattle.link_message_grammar.specs.Laws.{OldBodiesAreMigrated, BodiesAreHeadersAndAttributes, KindsAreLookedUp};
 ghost use Rattle.link_message_grammar.specs.Laws.{AttributesAreLookedUp, InfoPayloadsAreLists};
 ghost use Rattle.link_message_grammar.specs.Laws.{EmptyPortsAreDetermined, CanonicalBodiesAreReadBack, BodiesAreMeasured};
 ghost use Rattle.link_message_grammar.specs.Laws.{BodiesGrowByAttributes, ShortBodiesFit, BodyLawsHoldForAnyPeers};

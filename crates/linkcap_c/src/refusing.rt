@@ -4,7 +4,7 @@ ghost use Rattle.std.specs.Prelude.{◌≡◌, ◌≢◌, ◌+◌, ◌^◌, ◌<
 ghost use Rattle.link_capture_grammar.specs.Captures.{first_fault};
 ghost use Rattle.link_capture_refusals.specs.Refusals.{Found, refusal};
 ghost use Rattle.link_capture_refusals.specs.RefusalTexts.{refusal_text};
-ghost use Rattle.link_capture_refusals.specs.RefusalViews.{all_found, found};
+ghost use Rattle.link_capture_refusals.specs.RefusalViews.{optional_found, found};
 ghost use Rattle.linkcap_c.specs.Buffers.{Holds, Lacks};
 ghost use Rattle.linkcap_c.specs.Findings.{offset_number};
 ghost use Rattle.linkcap_c.specs.Options.{AreInvalid, AreValid, limit_of};
@@ -46,7 +46,7 @@ fn following(bytes: &[u8], skipped: u64) -> &[u8]
 /// Why the first fault of bytes at an offset of a capture is a refused body, if it is one.
 fn why_in(bytes: &[u8], offset: u64, limit: u32) -> Option<Refusal>
     requires { offset + length bytes.now < 2 ^ 63 }
-    ensures { all_found result ≡ refusal_in offset bytes.now (first_fault link_body limit bytes.now) }
+    ensures { optional_found result ≡ refusal_in offset bytes.now (first_fault link_body limit bytes.now) }
 {
     faults_are_at_frames();
     refused_frames_are_whole();

@@ -1,5 +1,5 @@
 -- The flags of a kind, as code tests them.
-use Rattle.std.proofs.Common.{◌≡◌, ℕ, zero, suc, ◌*◌, ◌/◌, ◌%◌, ◌<◌, nat_eq, bit_and, refl, arith, ap, ◌∙◌}
+use Rattle.std.proofs.Common.{◌≡◌, ℕ, suc, ◌*◌, ◌/◌, ◌%◌, ◌<◌, nat_eq, bit_and, refl, arith, ap, ◌∙◌}
 use Rattle.std.specs.Prelude.{not, ◌==◌}
 use Rattle.std.proofs.lemmas.Nat.Bits.{and_pow}
 use Rattle.netlink_packet_core_attributes.specs.Kinds.{has_byte_order_flag}

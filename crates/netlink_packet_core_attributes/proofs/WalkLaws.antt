@@ -1,7 +1,7 @@
 -- The laws of walks and of written attributes.
 use Rattle.std.proofs.Common.{◌≡◌, ℕ, zero, suc, ◌+◌, ◌*◌, ◌<◌, ◌≤◌, List, [], ◌∷◌, ◌++◌, length, map, Option, Some, None, refl, sym, ap, subst, ◌∙◌, arith, append_assoc}
 use Rattle.netlink_packet_core_grammar.specs.Attributes.{Attribute, attribute_text, list_text, first_attribute, attributes_of, IsAttributeList}
-use Rattle.netlink_packet_core_grammar.specs.AttributeViews.{viewed_length, viewed_attribute, BeginsWithAttribute, after_first}
+use Rattle.netlink_packet_core_grammar.specs.AttributeViews.{viewed_attribute, BeginsWithAttribute, after_first}
 use Rattle.netlink_packet_core_grammar.specs.Laws.{SplittingIsTheRelation, FirstIsViewed, FirstIsWithin, WrittenIsFirst}
 use Rattle.netlink_packet_core_grammar.proofs.Attributes.{got, got_is}
 use Rattle.netlink_packet_core_attributes.specs.Walks.{IsWalk, attribute_walk}

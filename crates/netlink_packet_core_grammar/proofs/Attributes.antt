@@ -4,7 +4,8 @@ use Rattle.std.specs.Prelude.{◌&&◌, nat_le, option_map}
 use Rattle.std.proofs.lemmas.Bool.{and_parts, and_from, le-leb, leb-true}
 use Rattle.std.proofs.lemmas.Option.{cond_some}
 use Rattle.std.proofs.lemmas.List.{take_at, drop_at, length-replicate, take-append-le, drop-append-le, length-take-le}
-use Rattle.netlink_packet_core_grammar.specs.Attributes.{nla_align, Attribute, attribute_length, zeros, attribute_text, list_text, attribute_of_size, first_attribute, if_some, IsAttributeList, attributes_within, attributes_of}
+use Rattle.std.specs.Option.{option_and_then}
+use Rattle.netlink_packet_core_grammar.specs.Attributes.{nla_align, Attribute, attribute_length, zeros, attribute_text, list_text, attribute_of_size, first_attribute, IsAttributeList, attributes_within, attributes_of}
 
 pub record IsCut (size kind : ℕ) (bytes : List ℕ) (e : Attribute) (rest : List ℕ) : Type 0 where
   pub small : 4 ≤ size
@@ -122,9 +123,9 @@ one_cut bytes (e ∷ es) (f ∷ fs) p q =
 -- ---- the function and the relation
 
 -- a step that didn't fail, and its value
-pub if_some-got : {A B : Type 0} (o : Option A) (f : A → Option B) (y : B) → if_some o f ≡ Some y → (x : A) × (o ≡ Some x) × (f x ≡ Some y)
-if_some-got None f y e = absurd cc
-if_some-got (Some x) f y e = (x, refl, e)
+pub option_and_then-got : {A B : Type 0} (o : Option A) (f : A → Option B) (y : B) → option_and_then f o ≡ Some y → (x : A) × (o ≡ Some x) × (f x ≡ Some y)
+option_and_then-got None f y e = absurd cc
+option_and_then-got (Some x) f y e = (x, refl, e)
 
 pub option_map-got : {A B : Type 0} (f : A → B) (o : Option A) (y : B) → option_map f o ≡ Some y → (x : A) × (o ≡ Some x) × (f x ≡ y)
 option_map-got f None y e = absurd cc
@@ -138,7 +139,7 @@ within_cut zero [] (e ∷ es) h = absurd cc
 within_cut (suc n) [] (e ∷ es) h = absurd cc
 within_cut zero (b ∷ bytes) es h = absurd cc
 within_cut (suc n) (b ∷ bytes) es h =
-    let s = if_some-got (first_attribute (b ∷ bytes)) (λ x. option_map (λ es. x.0 ∷ es) (attributes_within n x.1)) es h in
+    let s = option_and_then-got (first_attribute (b ∷ bytes)) (λ x. option_map (λ es. x.0 ∷ es) (attributes_within n x.1)) es h in
     let t = option_map-got (λ fs. s.0.0 ∷ fs) (attributes_within n s.0.1) es s.2 in
     subst (λ gs. IsAttributeList (b ∷ bytes) gs) t.2 (s.0.1, s.1, within_cut n s.0.1 t.0 t.1)
 

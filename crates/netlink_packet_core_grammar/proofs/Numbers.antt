@@ -1,5 +1,5 @@
 -- Numbers at offsets of longer byte strings.
-use Rattle.std.proofs.Common.{◌≡◌, ℕ, ℤ, suc, pos, negsuc, cond, nat_lt, ◌+◌, ◌-◌, ◌*◌, ◌/◌, ◌%◌, ◌^◌, ◌<◌, ◌≤◌, List, [], ◌∷◌, ◌++◌, length, drop, get_or, refl, sym, ap, ◌∙◌, arith}
+use Rattle.std.proofs.Common.{◌≡◌, ℕ, ℤ, zero, suc, pos, negsuc, cond, nat_lt, ◌+◌, ◌-◌, ◌*◌, ◌/◌, ◌%◌, ◌^◌, ◌<◌, ◌≤◌, List, [], ◌∷◌, ◌++◌, length, take, drop, get_or, refl, sym, ap, ◌∙◌, arith}
 use Rattle.std.proofs.Math.Nat as nat
 use Rattle.std.proofs.lemmas.Nat.{le_bytes_2, le_bytes_4, le_bytes_8, be_bytes_2, be_bytes_4, be_bytes_8}
 use Rattle.std.proofs.lemmas.Bool.{lt-ltb}
@@ -147,3 +147,33 @@ pub signed-bits : (n : ℕ) → n < 2 ^ 32 → signed_bits (cast_signed w32 n) �
 signed-bits n h = let f : Fits w32 n = record { fits = h } in sym (bits-signed (cast_signed w32 n) (sfits_to_z f)) ∙ of_z-to_z w32 n h
 
 pub ruleset signs = (bits-signed, signed-bits)
+
+-- each number is a byte
+abbrev pub AllBytes : List ℕ → Type 0
+AllBytes c = (i : ℕ) → get_or c i 0 < 256
+
+two_bytes : (a b : ℕ) → a < 256 → b < 256 → AllBytes (a ∷ b ∷ [])
+two_bytes a b p q zero = p
+two_bytes a b p q (suc zero) = q
+two_bytes a b p q (suc (suc i)) = omega arith
+
+four_bytes : (a b c d : ℕ) → a < 256 → b < 256 → c < 256 → d < 256 → AllBytes (a ∷ b ∷ c ∷ d ∷ [])
+four_bytes a b c d p q r s zero = p
+four_bytes a b c d p q r s (suc zero) = q
+four_bytes a b c d p q r s (suc (suc zero)) = r
+four_bytes a b c d p q r s (suc (suc (suc zero))) = s
+four_bytes a b c d p q r s (suc (suc (suc (suc i)))) = omega arith
+
+-- the bytes of the number at an offset
+pub written_2_at : (i : ℕ) (c : List ℕ) → AllBytes c → le2 (u16_at i c) ≡ get_or c i 0 ∷ get_or c (i + 1) 0 ∷ []
+unfolding u16_at
+written_2_at i c h = le2_read (get_or c i 0 ∷ get_or c (i + 1) 0 ∷ []) _ refl (two_bytes _ _ (h i) (h (i + 1))) refl
+
+pub written_4_at : (i : ℕ) (c : List ℕ) → AllBytes c → le4 (u32_at i c) ≡ get_or c i 0 ∷ get_or c (i + 1) 0 ∷ get_or c (i + 2) 0 ∷ get_or c (i + 3) 0 ∷ []
+unfolding u32_at
+written_4_at i c h = le4_read (get_or c i 0 ∷ get_or c (i + 1) 0 ∷ get_or c (i + 2) 0 ∷ get_or c (i + 3) 0 ∷ []) _ refl (four_bytes _ _ _ _ (h i) (h (i + 1)) (h (i + 2)) (h (i + 3))) refl
+
+-- the bytes of the number at the start
+pub le4_first : (c : List ℕ) → 4 ≤ length c → AllBytes c → le4 (u32_at 0 c) ≡ take 4 c
+le4_first (x ∷ y ∷ z ∷ w ∷ b) l h = written_4_at 0 (x ∷ y ∷ z ∷ w ∷ b) h
+le4_first c l h = absurd (omega arith)

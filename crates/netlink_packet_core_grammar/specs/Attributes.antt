@@ -2,6 +2,7 @@
 -- 4.
 use Rattle.std.specs.Prelude.{◌≡◌, ℕ, zero, suc, ◌+◌, ◌-◌, ◌*◌, ◌/◌, ◌%◌, ◌&&◌, nat_le, List, [], ◌∷◌, ◌++◌, length}
 use Rattle.std.specs.Prelude.{take, drop, replicate, Option, Some, None, option_map, cond}
+use Rattle.std.specs.Option.{option_and_then}
 
 -- The least multiple of 4 that is at least n.
 abbrev pub nla_align : ℕ → ℕ
@@ -64,17 +65,12 @@ abbrev pub IsAttributeList : List ℕ → List Attribute → Type 0
 IsAttributeList bytes [] = bytes ≡ []
 IsAttributeList bytes (e ∷ es) = (rest : List ℕ) × (first_attribute bytes ≡ Some (e, rest)) × IsAttributeList rest es
 
--- The function applied to the value, if there is one.
-abbrev pub if_some : {A B : Type 0} → Option A → (A → Option B) → Option B
-if_some None f = None
-if_some (Some x) f = f x
-
 -- The attributes of which the bytes are a list; None if they aren't a list of at most n attributes.
 unfoldable pub attributes_within : ℕ → List ℕ → Option (List Attribute)
 attributes_within n [] = Some []
 attributes_within zero (b ∷ bytes) = None
 attributes_within (suc n) (b ∷ bytes) =
-    if_some (first_attribute (b ∷ bytes)) (λ x. option_map (λ es. x.0 ∷ es) (attributes_within n x.1))
+    option_and_then (λ x. option_map (λ es. x.0 ∷ es) (attributes_within n x.1)) (first_attribute (b ∷ bytes))
 
 -- The attributes of which the bytes are a list; None if they are no list.
 abbrev pub attributes_of : List ℕ → Option (List Attribute)

@@ -1,8 +1,8 @@
 //! Laws of the definitions. No function here makes a call.
 #![tactic(auto, using(crate::proofs::Together::laws))]
 
-ghost use Rattle.netlink_packet_core_grammar.specs.Laws.{SplittingIsUnique, SplittingIsTheRelation, JoinedListsAreSplit, EncodingsAreSplit, FirstIsViewed};
-ghost use Rattle.netlink_packet_core_grammar.specs.Laws.{FirstIsWithin, WrittenIsFirst, NumbersAreIndependent};
+ghost use Rattle.netlink_packet_core_grammar.specs.Laws.{SplittingIsUnique, SplittingIsTheRelation, JoinedListsAreSplit, EncodingsAreSplit};
+ghost use Rattle.netlink_packet_core_grammar.specs.Laws.{FirstIsViewed, FirstIsWithin, WrittenIsFirst, NumbersAreIndependent};
 
 /// A byte string is a list of attributes in at most one way.
 pub fn attributes_are_split_in_one_way()

@@ -11,7 +11,7 @@ use Rattle.std.specs.Int.RustNames.{FitsSigned}
 use Rattle.netlink_packet_core_grammar.specs.Numbers.{u32_at, le4}
 use Rattle.netlink_packet_core_grammar.proofs.Sizes.{length-le4-append}
 use Rattle.netlink_packet_core_messages.specs.declared.payload.NetlinkPayload.{NetlinkPayload}
-use Rattle.netlink_packet_core_messages.specs.declared.payload.NetlinkPayload.TheVariants.{Done, Error, Noop, Overrun, InnerMessage}
+use Rattle.netlink_packet_core_messages.specs.declared.payload.NetlinkPayload.TheVariants.{Done, Error, InnerMessage}
 use Rattle.netlink_packet_core_messages.specs.Codes.{code_of, code_text, nonzero_code, raw_code, IsCode}
 use Rattle.netlink_packet_core_messages.specs.ControlMessages.{done_message_text, error_message_text}
 use Rattle.netlink_packet_core_messages.specs.TypedBodies.{TypedBody, IsInner}

@@ -5,6 +5,7 @@ use Rattle.std.specs.Int.{w32}
 use Rattle.std.specs.Ordering.{int_eq}
 use Rattle.std.specs.Cmp.{signed_Decides}
 use Rattle.std.proofs.lemmas.Bool.{and_parts, leb-true}
+use Rattle.std.proofs.lemmas.List.{take-append-drop}
 use Rattle.std.proofs.lemmas.Bool.Decides.{nat_tests}
 use Rattle.std.proofs.lemmas.Int.{of_z-to_z}
 use Rattle.netlink_packet_core_grammar.specs.Numbers.{u32_at, le4}
@@ -14,7 +15,7 @@ use Rattle.netlink_packet_core_messages.specs.Codes.{code_of, code_text, raw_cod
 use Rattle.netlink_packet_core_messages.specs.declared.message.NetlinkMessage.{NetlinkMessage}
 use Rattle.netlink_packet_core_messages.specs.declared.header.NetlinkHeader.{NetlinkHeader}
 use Rattle.netlink_packet_core_messages.specs.declared.payload.NetlinkPayload.{NetlinkPayload}
-use Rattle.netlink_packet_core_messages.specs.declared.payload.NetlinkPayload.TheVariants.{Done, Error, Noop, Overrun, InnerMessage}
+use Rattle.netlink_packet_core_messages.specs.declared.payload.NetlinkPayload.TheVariants.{Done, Error, InnerMessage}
 use Rattle.netlink_packet_core_messages.specs.declared.done.DoneMessage.{DoneMessage}
 use Rattle.netlink_packet_core_messages.specs.declared.error.ErrorMessage.{ErrorMessage}
 use Rattle.netlink_packet_core_messages.specs.ControlMessages.{done_message_text, error_message_text, done_of, error_of, empty_done, read_done, read_error}
@@ -22,7 +23,8 @@ use Rattle.netlink_packet_core_messages.specs.Headers.{header_of, header_text}
 use Rattle.netlink_packet_core_messages.specs.TypedBodies.{TypedBody}
 use Rattle.netlink_packet_core_messages.specs.Payloads.{payload_entry, payload_value, read_payload, written_body}
 use Rattle.netlink_packet_core_messages.specs.Messages.{read_message, message_text, message_value, finalized, unpadded_text}
-use Rattle.netlink_packet_core_messages.proofs.HeaderBytes.{AllBytes, written_4_at, header_kept}
+use Rattle.netlink_packet_core_grammar.proofs.Numbers.{AllBytes, le4_first}
+use Rattle.netlink_packet_core_messages.proofs.HeaderBytes.{header_kept}
 use Rattle.netlink_packet_core_messages.proofs.Payloads.{not_control}
 
 -- ---- codes
@@ -38,8 +40,7 @@ raw-nonzero : (z : ℤ) → raw_code (nonzero_code z) ≡ z
 raw-nonzero z = raw_by (int_eq z (pos 0)) z (zero_is z)
 
 four_bytes_kept : (b : List ℕ) → 4 ≤ length b → AllBytes b → le4 (u32_at 0 b) ++ drop 4 b ≡ b
-four_bytes_kept (x ∷ y ∷ z ∷ w ∷ b) l h = ap (λ s. s ++ b) (written_4_at 0 (x ∷ y ∷ z ∷ w ∷ b) h)
-four_bytes_kept b l h = absurd (omega arith)
+four_bytes_kept b l h = ap (λ s. s ++ drop 4 b) (le4_first b l h) ∙ take-append-drop 4 b
 
 code_fits : (b : List ℕ) → AllBytes b → u32_at 0 b < 2 ^ 32
 unfolding u32_at

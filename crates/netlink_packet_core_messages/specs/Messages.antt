@@ -1,7 +1,7 @@
 -- Whole messages: a header and a payload.
 use Rattle.std.specs.Prelude.{◌≡◌, ℕ, ◌+◌, List, ◌++◌, length, take, drop, Option, None, option_map, cond}
 use Rattle.netlink_packet_core_grammar.specs.Numbers.{le4}
-use Rattle.netlink_packet_core_grammar.specs.Frames.{frame_length, frame_type, frame_body, begins_with_frame}
+use Rattle.netlink_packet_core_grammar.specs.Frames.{frame_type, frame_body, begins_with_frame}
 use Rattle.netlink_packet_core_messages.specs.declared.message.NetlinkMessage.{NetlinkMessage}
 use Rattle.netlink_packet_core_messages.specs.Headers.{header_of, header_text}
 use Rattle.netlink_packet_core_messages.specs.Payloads.{payload_value, payload_entry, read_payload}

@@ -4,7 +4,8 @@
 
 ghost use Rattle.std.specs.Prelude.{◌≡◌, ◌↔◌, true, ◌≤◌, ◌<◌, ◌+◌, ◌-◌, ◌++◌, ℕ, List, Some, None, length, take, drop};
 ghost use Rattle.netlink_packet_core_grammar.specs.Attributes.{nla_align, zeros};
-ghost use Rattle.netlink_packet_core_grammar.specs.Frames.{BeginsWithFrame, frame_length, frame_type, frame_body, frame_text, begins_with_frame};
+ghost use Rattle.netlink_packet_core_grammar.specs.Frames.{BeginsWithFrame, begins_with_frame};
+ghost use Rattle.netlink_packet_core_grammar.specs.Frames.{frame_length, frame_type, frame_body, frame_text};
 ghost use Rattle.netlink_packet_core_messages.specs.Headers.{header_of, header_text};
 ghost use Rattle.netlink_packet_core_messages.specs.Payloads.{OfInner, written_body};
 ghost use Rattle.netlink_packet_core_messages.specs.Messages.{message_text, message_size, message_value, read_message};

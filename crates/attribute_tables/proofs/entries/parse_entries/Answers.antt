@@ -9,7 +9,7 @@ use Rattle.attribute_tables_grammar.specs.Lists.{of_kind_one, is_of_kind_one, ca
 use Rattle.attribute_tables_grammar.specs.LookUps.{rows_rule, only_kind_one}
 use Rattle.attribute_tables.specs.Beginnings.{entries_begin_readable}
 use Rattle.attribute_tables.proofs.Beginnings.{entries-accepted, entries-allocating, entries-past}
-use Rattle.attribute_tables.proofs.KeptEntries.{Entries, EntriesDone, entries_start, entries_more, entries_past, entries_refused, entries_stopped, entries_done}
+use Rattle.attribute_tables.proofs.KeptEntries.{Entries, EntriesDone, entries_start, entries_more, entries_past, entries_refused, entries_done}
 use Rattle.attribute_tables.proofs.entries.parse_entries.Goals.{then-kind-eq-ENTRY+in_ok-read+in_ok-push, else-kind-eq-ENTRY}
 use Rattle.attribute_tables.proofs.entries.parse_entries.Given.{Over}
 use Rattle.attribute_tables.proofs.entries.parse_entries.Goals as goal

@@ -5,7 +5,7 @@ use Rattle.attribute_tables_grammar.specs.Lists.{first_only}
 use Rattle.attribute_tables_grammar.specs.LookUps.{rows_rule}
 use Rattle.attribute_tables.specs.Views.{is_accepted_by, fits_by, rewritten_by}
 use Rattle.attribute_tables.specs.Written.{written_as}
-use Rattle.attribute_tables.proofs.First.{First, first_of, first_not, first_none}
+use Rattle.attribute_tables.proofs.First.{First, first_of, first_not}
 use Rattle.attribute_tables.proofs.reader.parse_first_by.Goals as goal
 
 pub returns-in_err-buf-clause-judged : goal.returns-in_err-buf-clause-judged

@@ -7,8 +7,8 @@ use Rattle.link_capture_checks.proofs.Written.{error_is, done_is, ruled_is}
 use Rattle.link_capture_checks.proofs.bodies.write_frame_body.Goals as goal
 use Rattle.link_capture_checks.proofs.bodies.write_frame_body.Goals.{in_default-via-then-message_type-lt16, in_default-via-else-message_type-lt16+else-message_type-lt20}
 
-pub append-requires-in-2 : goal.append-requires-in-2
-append-requires-in-2 c =
+pub append-requires : goal.append-requires
+append-requires c =
     let b = c.args.body.now in
     let j = (error c.args.message_type b c.in-2.is).text in
     let size = ap length (ap text_or_empty j ∙ error_is b (sym (ap is_ok j) ∙ c.requires.text)) in
@@ -56,7 +56,7 @@ pub returns-in-2-clause-text : goal.returns-in-2-clause-text
 returns-in-2-clause-text c =
     let b = c.args.body.now in
     let j = (error c.args.message_type b c.in-2.is).text in
-    c.append-in-2.ensures.text ∙ ap (λ x. c.args.out.now.items ++ x) (sym (ap text_or_empty j ∙ error_is b (sym (ap is_ok j) ∙ c.requires.text)))
+    c.append.ensures.text ∙ ap (λ x. c.args.out.now.items ++ x) (sym (ap text_or_empty j ∙ error_is b (sym (ap is_ok j) ∙ c.requires.text)))
 
 pub returns-in-3-clause-text : goal.returns-in-3-clause-text
 returns-in-3-clause-text c =

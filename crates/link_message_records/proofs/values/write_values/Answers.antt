@@ -1,4 +1,4 @@
-use Rattle.std.proofs.Common.{length, arith, ap, length-drop}
+use Rattle.std.proofs.Common.{length, arith, length-drop}
 use Rattle.link_message_records.proofs.Filled.{enough_at}
 use Rattle.link_message_records.proofs.values.write_values.Goals as goal
 

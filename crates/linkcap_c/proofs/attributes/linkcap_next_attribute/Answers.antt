@@ -2,7 +2,7 @@ use Rattle.std.proofs.Common.{◌≡◌, None, inr, drop, refl, sym, ap, subst, 
 use Rattle.std.proofs.lemmas.List.{take_rest}
 use Rattle.netlink_packet_core_grammar.specs.Frames.{BeginsWithFrame, frame_type}
 use Rattle.link_capture_attributes.specs.Attributes.{first_from, frame_attributes}
-use Rattle.link_capture_attributes.specs.AttributeViews.{all_found, found}
+use Rattle.link_capture_attributes.specs.AttributeViews.{optional_found, found}
 use Rattle.link_capture_grammar.specs.Captures.{first_frame}
 use Rattle.linkcap_c.specs.Messages.{IsMessage}
 use Rattle.link_capture_grammar.specs.Body.{link_body}
@@ -36,5 +36,5 @@ returns-in-None-clause-none c = λ _.
       size = c.in_default-measure_frame.field-0.len;
       kind = frame_type rest;
       legal = subst (λ limit. IsMessage limit rest c.in_default-measure_frame.field-0.len (frame_type rest)) c.in-Some.ensures.limit.0 (m.text, is, refl);
-      none = ap (λ x. first_from c.args.position (frame_attributes c.args.message x)) (sym e) ∙ sym c.attribute_from.ensures.found ∙ ap all_found nothing;
+      none = ap (λ x. first_from c.args.position (frame_attributes c.args.message x)) (sym e) ∙ sym c.attribute_from.ensures.found ∙ ap optional_found nothing;
     })

@@ -1,11 +1,10 @@
-use Rattle.std.proofs.Common.{◌≡◌, refl, ◌++◌, ◌+◌, ◌-◌, ◌<◌, ◌≤◌, length, take, drop, arith, ap, ◌∙◌, length-append, length-drop}
+use Rattle.std.proofs.Common.{◌≡◌, refl, ◌++◌, ◌+◌, ◌-◌, ◌<◌, length, take, drop, arith, ap, ◌∙◌, length-append, length-drop}
 use Rattle.std.proofs.lemmas.Slice.{between_to_end}
-use Rattle.std.proofs.lemmas.Bool.{and_parts, leb-true}
 use Rattle.netlink_packet_core_grammar.specs.Attributes.{nla_align, attribute_length, attribute_text, list_text}
 use Rattle.netlink_packet_core_grammar.proofs.Sizes.{length-attribute_text}
 use Rattle.netlink_packet_core_grammar.specs.Numbers.{u16_at}
 use Rattle.netlink_packet_core_attributes.specs.Lists.{text_by}
-use Rattle.netlink_packet_core_attributes.proofs.Emits.{fits-at, capacity-at, emitted, text_by-more, size_by-more, length_in_header}
+use Rattle.netlink_packet_core_attributes.proofs.Emits.{capacity-at, emitted, text_by-more, size_by-more, length_in_header}
 use Rattle.netlink_packet_core_attributes.proofs.nla_list.emit_all.Goals as goal
 
 pub loop-item-preserved : goal.loop-item-preserved

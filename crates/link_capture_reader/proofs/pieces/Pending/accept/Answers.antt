@@ -4,7 +4,7 @@ use Rattle.std.proofs.Common.{arith, length-append, vec_capacity}
 use Rattle.std.proofs.lemmas.List.{take_rest, length-drop, append-nil}
 use Rattle.std.proofs.lemmas.Result.{err_from_is_err_and}
 use Rattle.link_capture_grammar.specs.Captures.{texts}
-use Rattle.link_capture_reader.specs.Readers.{CanKeep, MemoryFaultIsJustified, NeedsMemory}
+use Rattle.link_capture_reader.specs.Readers.{IsReservedIfCut, MemoryFaultIsJustified, NeedsMemory}
 use Rattle.link_capture_reader.specs.Walks.{ReadsTo, OtherFaultIsFirst, MemoryFaultIsAtFrame}
 use Rattle.link_capture_grammar.specs.Body.{link_body}
 use Rattle.link_capture_reader.proofs.Reading.{padding_resumes, padding_texts, resumed, owed_after, faults_on}
@@ -91,14 +91,14 @@ returns-in_err-resume_frame-clause-fault c =
     let e = take_rest piece owed in
     let h = subst (λ x. OtherFaultIsFirst limit start (kept ++ x) old new fault) e c.in_err-resume_frame.ensures.fault in
     let capacity = vec_capacity c.args.self.now.kept in
-    let k = subst (λ x. MemoryFaultIsAtFrame (CanKeep kept capacity (length x)) limit start (kept ++ x) old new fault) e
+    let k = subst (λ x. MemoryFaultIsAtFrame (IsReservedIfCut kept capacity (length x)) limit start (kept ++ x) old new fault) e
     c.in_err-resume_frame.ensures.memory in
     let fewer = runs_out_of_fewer kept capacity limit start piece owed old new fault k in
     let p = err_from_is_err_and c.from_residual.result c.from_residual.ensures.1 in
     rw (p.1, p.2) (λ s a r.
     let before = resumed go frames limit s piece kept owed start (omega arith) r
     (omega (arith, c.requires.reader.inside)) in
-    faults_on (CanKeep kept capacity (length piece)) go frames limit s piece kept owed start _ _ fault
+    faults_on (IsReservedIfCut kept capacity (length piece)) go frames limit s piece kept owed start _ _ fault
     (subst (λ n. n + length piece < 2 ^ 64) a fits) before h fewer)
 
 pub returns-in_err-resume_frame-clause-capacity : goal.returns-in_err-resume_frame-clause-capacity

@@ -12,7 +12,7 @@ use Rattle.link_capture_reader.proofs.CutFrames.{completed, whole}
 use Rattle.link_capture_reader.proofs.Passing.{passed_one, only_one_fault, only_one_texts, then_reads_to, then_faults}
 use Rattle.link_capture_reader.proofs.Passing.{then_runs_out, stop_zero, no_texts, cut_resumes, start_fault}
 use Rattle.link_capture_reader.proofs.Passing.{start_texts}
-use Rattle.link_capture_reader.specs.Readers.{CanKeep, IsPendingAfter}
+use Rattle.link_capture_reader.specs.Readers.{IsReservedIfCut, IsPendingAfter}
 use Rattle.link_capture_reader.specs.Walks.{ReadsTo, OtherFaultIsFirst, MemoryFaultIsAtFrame}
 use Rattle.link_capture_grammar.specs.Body.{link_body}
 use Rattle.link_capture_reader.proofs.pieces.Pending.resume_frame.Goals as goal
@@ -110,8 +110,8 @@ returns-else-left-owed c =
           c.read_frames-in-Ok-push_frame.ensures.fault;
       memory = IfErr-weaker c.read_frames-in-Ok-push_frame.result
           (λ fault. MemoryFaultIsAtFrame ⊤ limit _ _ pushed out fault)
-          (λ fault. MemoryFaultIsAtFrame (CanKeep old (vec_capacity c.args.self.now.kept) (length bytes)) limit start joined before out fault)
-          (λ fault. then_runs_out go ⊤ (CanKeep old (vec_capacity c.args.self.now.kept) (length bytes)) limit joined passed start _ _ ok.0 before _ _ fault (λ r. tt) w left (omega arith) one ok.2)
+          (λ fault. MemoryFaultIsAtFrame (IsReservedIfCut old (vec_capacity c.args.self.now.kept) (length bytes)) limit start joined before out fault)
+          (λ fault. then_runs_out go ⊤ (IsReservedIfCut old (vec_capacity c.args.self.now.kept) (length bytes)) limit joined passed start _ _ ok.0 before _ _ fault (λ r. tt) w left (omega arith) one ok.2)
           c.read_frames-in-Ok-push_frame.ensures.memory;
       capacity = search rules;
       limit = search rules;
